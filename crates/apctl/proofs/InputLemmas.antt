@@ -2,8 +2,8 @@
 use Rattle.std.proofs.Common.{◌≡◌, ℕ, List, [], Option, Some, None, Result, Ok, Err, IfSome, refl, ap}
 use Rattle.std.proofs.KnownBytes.{Keeps-refl}
 use Rattle.std.specs.Result.{result_map_both}
-use Rattle.trace.specs.Endings.{Ends, ending_of}
-use Rattle.trace.specs.EndingLaws.{nothing_written}
+use Rattle.text_io.specs.Endings.{Ends, ending_of}
+use Rattle.text_io.specs.EndingLaws.{nothing_written}
 use Rattle.replay.specs.Answer.{answer_of, text_ending}
 use Rattle.replay.specs.Joined.{joined_parts}
 use Rattle.replay.specs.declared.fault.TextFault.{TextFault}

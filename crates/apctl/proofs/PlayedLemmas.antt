@@ -1,10 +1,10 @@
 -- How a play of files ends.
 use Rattle.std.proofs.Common.{◌≡◌, ◌∷◌, ℕ, List, Option, Result, Ok, Err, refl, inl, inr}
 use Rattle.std.proofs.KnownBytes.{Keeps-refl}
-use Rattle.trace.specs.Endings.{failures_at}
-use Rattle.replay_play.specs.Playing.{EndsPlay, play_ending}
-use Rattle.replay_play.specs.declared.fault.PlayTextFault.{PlayTextFault}
-use Rattle.replay_play.specs.declared.fault.PlayTextFault.TheVariants as plays
+use Rattle.text_io.specs.Endings.{failures_at}
+use Rattle.play_text.specs.Playing.{EndsPlay, play_ending}
+use Rattle.play_text.specs.declared.fault.PlayTextFault.{PlayTextFault}
+use Rattle.play_text.specs.declared.fault.PlayTextFault.TheVariants as plays
 use Rattle.apctl.specs.Faults.{of_play, run_ending}
 use Rattle.apctl.specs.Files.{AreRead, IsOfFirstUnread}
 use Rattle.apctl.specs.PlayedFiles.{ArePlayed, EndsFiles, as_run}

@@ -1,14 +1,14 @@
 -- The faults of the program, the exit status that goes with each, and how a run ends with it.
 use Rattle.std.specs.Prelude.{ℕ, ◌≡◌, List, codes, string_bytes}
-use Rattle.trace.specs.Endings.{Ending, Refused, WriteFailed, OutOfMemory}
+use Rattle.text_io.specs.Endings.{Ending, Refused, WriteFailed, OutOfMemory}
 use Rattle.replay.specs.declared.fault.TextFault.{TextFault}
 use Rattle.replay.specs.declared.fault.TextFault.TheVariants as replay
 use Rattle.replay.specs.declared.fault.StreamFault.{StreamFault}
 use Rattle.replay.specs.declared.fault.StreamFault.TheVariants as streams
 use Rattle.live.specs.declared.fault.LiveFault.{LiveFault}
 use Rattle.live.specs.declared.fault.LiveFault.TheVariants as lives
-use Rattle.replay_play.specs.declared.fault.PlayTextFault.{PlayTextFault}
-use Rattle.replay_play.specs.declared.fault.PlayTextFault.TheVariants as plays
+use Rattle.play_text.specs.declared.fault.PlayTextFault.{PlayTextFault}
+use Rattle.play_text.specs.declared.fault.PlayTextFault.TheVariants as plays
 use Rattle.apctl.specs.declared.fault.Fault.{Fault}
 use Rattle.apctl.specs.declared.fault.Fault.TheVariants.{Config, Trace, InTrace, Sources, Words, Memory, Thread, Finish}
 use Rattle.apctl.specs.declared.fault.Fault.TheVariants.{File, Output}
@@ -51,10 +51,6 @@ abbrev pub IsOfFile : List ℕ → Fault → Type 0
 IsOfFile wanted (File name) = string_bytes name ≡ wanted
 IsOfFile wanted Memory = Unit {0}
 IsOfFile wanted _ = ⊥
-
--- the fault of some file that can't be read, or of memory that ran out meanwhile
-abbrev pub IsOfSomeFile : Fault → Type 0
-IsOfSomeFile fault = (name : List ℕ) × IsOfFile name fault
 
 -- the fault of a run whose trace was read from a file of this name
 abbrev pub IsOfStream : StreamFault → List ℕ → Fault → Type 0

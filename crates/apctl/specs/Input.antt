@@ -4,8 +4,8 @@ use Rattle.std.specs.Io.KnownBytes.{Keeps}
 use Rattle.std.specs.Result.{result_map_both}
 use Rattle.ap_config.specs.declared.config.RadioConfig.{RadioConfig}
 use Rattle.events.specs.declared.section.Section.{Section}
-use Rattle.trace.specs.ConfigurationText.{configuration_of}
-use Rattle.trace.specs.Endings.{Ends, ending_of}
+use Rattle.config_text.specs.ConfigurationText.{configuration_of}
+use Rattle.text_io.specs.Endings.{Ends, ending_of}
 use Rattle.replay.specs.Answer.{answer_of}
 use Rattle.replay.specs.Joined.{joined_parts}
 use Rattle.replay.specs.Stream.{AreSectionsOf}

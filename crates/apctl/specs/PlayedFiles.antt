@@ -2,8 +2,8 @@
 use Rattle.std.specs.Prelude.{ℕ, ◌≡◌, ◌⊎◌, ◌∷◌, List, Option, Result, Ok, Err, string_bytes}
 use Rattle.std.specs.Io.KnownBytes.{Keeps}
 use Rattle.std.specs.Result.{result_map_both}
-use Rattle.replay_play.specs.Playing.{EndsPlay}
-use Rattle.replay_play.specs.declared.fault.PlayTextFault.{PlayTextFault}
+use Rattle.play_text.specs.Playing.{EndsPlay}
+use Rattle.play_text.specs.declared.fault.PlayTextFault.{PlayTextFault}
 use Rattle.apctl.specs.Faults.{of_play}
 use Rattle.apctl.specs.Files.{AreRead, IsFirstUnread}
 use Rattle.apctl.specs.declared.fault.Fault.{Fault}

@@ -1,20 +1,21 @@
 //! What can go wrong, as a user meets it: one line on standard error and an exit status.
 
 ghost use Rattle.std.specs.Prelude.{◌≡◌, ◌≢◌, ◌+◌, IfOk, Ok, Err};
-ghost use Rattle.trace.specs.Endings.{Ends, failures_of, ending_of};
-ghost use Rattle.trace.specs.Sinks.{MayFail, report_ending};
+ghost use Rattle.text_io.specs.Endings.{Ends, failures_of, ending_of};
+ghost use Rattle.text_io.specs.Sinks.{MayFail, report_ending};
 ghost use Rattle.apctl.specs.Faults.{of_texts, of_play, status_of, memory_line, IsOfFile, IsOfStream, IsOfLive};
 ghost use Rattle.apctl.specs.declared.fault.Fault.TheVariants as faults;
 
 use ap_config::ConfigFault;
 use live::LiveFault;
-use play_result::FinishFault;
+use play::FinishFault;
+use play_text::PlayTextFault;
 use replay::{StreamFault, TextFault};
-use replay_play::PlayTextFault;
 use std::alloc::{AllocError, AllocFailed, Global};
 use std::fmt;
+use text_io::{ReportFault, Sink, write_all};
 use thiserror::Error;
-use trace::{ReportFault, Sink, TraceFault, write_all};
+use trace::TraceFault;
 
 /// The first fault of one of several traces.
 #[derive(Clone, Copy, Debug)]

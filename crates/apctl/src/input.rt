@@ -3,8 +3,8 @@
 //! It is all that the program does without words, but for its streams and the line of a fault.
 
 ghost use Rattle.std.specs.Prelude.{◌≡◌, ◌+◌, IfOk, IfErr, IfSome};
-ghost use Rattle.trace.specs.Endings.{failures_of, outcome_of};
-ghost use Rattle.trace.specs.Sinks.{MayFail};
+ghost use Rattle.text_io.specs.Endings.{failures_of, outcome_of};
+ghost use Rattle.text_io.specs.Sinks.{MayFail};
 ghost use Rattle.apctl.specs.Faults.{IsOfFile, run_ending};
 ghost use Rattle.apctl.specs.Input.{EndsInput, AreOfInput};
 
@@ -15,7 +15,7 @@ use events::Section;
 use replay::{report_texts, split_joined};
 use std::alloc::Global;
 use std::io::Read;
-use trace::Sink;
+use text_io::Sink;
 
 /// The name of standard input in the line of a fault.
 pub const STANDARD_INPUT: &str = "-";

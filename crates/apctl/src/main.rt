@@ -2,7 +2,7 @@
 //! `live`.
 //!
 //! It promises, on [`input::run_input`], of one text that is read and cut in two what [`replay::run_text`] promises of
-//! the two; on [`play::play_files`], of files what [`replay_play::play_owned`] promises of what they hold, and that the
+//! the two; on [`playing::play_files`], of files what [`play_text::play_owned`] promises of what they hold, and that the
 //! first that can't be read is told; and on [`fault::show_fault`] the exit status of a fault, and that `fault memory` is
 //! written without taking any.
 //!
@@ -14,7 +14,7 @@ mod fault;
 mod file_system;
 mod files;
 mod input;
-mod play;
+mod playing;
 mod tasks;
 
 use fault::{Fault, show_fault};
@@ -25,7 +25,7 @@ use std::process::ExitCode;
 use std::sync::Wait;
 use std::thread::Threads;
 use tasks::{answer, check_config, play_traces, run_joined, run_trace};
-use trace::{Counted, ReportFault};
+use text_io::{Counted, ReportFault};
 use words::{Task, task_of};
 
 /// The exit status where the line of a fault can't be written.

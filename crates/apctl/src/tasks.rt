@@ -5,14 +5,14 @@ use crate::fault::Fault;
 use crate::file_system::HostFiles;
 use crate::files::{open_file, read_file};
 use crate::input::{STANDARD_INPUT, run_input};
-use crate::play::play_files;
+use crate::playing::play_files;
 use live::{InFace, LiveIn};
 use mac_frame::Octets;
 use replay::{check_text, run_stream};
 use std::mem;
 use std::sync::Wait;
 use std::thread::Threads;
-use trace::Counted;
+use text_io::Counted;
 
 /// Runs what standard input holds, a configuration and a trace.
 pub(crate) fn run_joined(rt: &HostRuntime) -> Result<(), Fault> {

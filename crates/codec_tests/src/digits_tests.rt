@@ -2,6 +2,7 @@
 
 use std::alloc::Global;
 use std::process::Abort;
+use text_io::digits;
 
 /// 40 octets, and their digits in both cases.
 const OCTETS: &[u8] =

@@ -1,7 +1,7 @@
 //! An access point: a thread for each of two sources, and one that lets frames leave.
 
 ghost use Rattle.std.specs.Prelude.{◌≡◌, IfOk, length};
-ghost use Rattle.play_result.specs.Sections.{AreSections, HaveLeft};
+ghost use Rattle.play.specs.Sections.{AreSections, HaveLeft};
 ghost use Rattle.workers.specs.Names.{AreNamed};
 
 use ap_config::{MAX_NETWORKS, RadioConfig};

@@ -1,6 +1,5 @@
 -- What is said is answered, one after the other.
-use Rattle.std.specs.Prelude.{◌⊎◌}
-use Rattle.std.proofs.Common.{inl, inr, ◌≡◌, ℕ, ◌+◌, ◌≤◌, ◌<◌, ◌^◌, List, [], ◌∷◌, ◌++◌, Option, Some, None, Ok, Err, map, refl, sym, ap, subst, ◌∙◌, arith, append-nil}
+use Rattle.std.proofs.Common.{◌≡◌, ℕ, ◌+◌, ◌≤◌, ◌<◌, ◌^◌, List, [], ◌∷◌, ◌++◌, Option, Some, None, Ok, map, refl, sym, ap, subst, ◌∙◌, arith, append-nil}
 use Rattle.std.specs.List.{AllByRecursion}
 use Rattle.network.specs.NetworkView.{NetworkState, new_network}
 use Rattle.ap_config.specs.declared.config.NetConfig.{NetConfig}
@@ -8,16 +7,16 @@ use Rattle.ap_config.specs.declared.config.RadioConfig.{RadioConfig}
 use Rattle.events.specs.LentEvents.{line_of}
 use Rattle.events.specs.declared.event.Event.{Event}
 use Rattle.events.specs.declared.line.Line.{Line}
-use Rattle.trace.specs.Buffers.{CanWrite, Puts, watch}
+use Rattle.text_io.specs.Buffers.{CanWrite, Puts, watch}
 use Rattle.trace.specs.declared.fault.LineFault.{LineFault}
 use Rattle.text_io.specs.declared.buffer.Buffered.{Buffered}
-use Rattle.trace.specs.BufferLaws.{Puts-then, Puts-nothing, Puts-same}
-use Rattle.live_rules.specs.Asked.{Asked, HasFault, ForTables, Brings, Says}
+use Rattle.text_io.specs.BufferLaws.{Puts-then, Puts-nothing, Puts-same}
+use Rattle.live_rules.specs.Asked.{Asked, ForTables, Says, brings, has_fault}
 use Rattle.live_rules.specs.Answers.{Answer, MayAnswer, after_line_from, after_answer, Answers, Faulty, MayReplyFrom, Replies}
 use Rattle.live_rules.specs.Dispatch.{event_at}
 use Rattle.live_rules.specs.MoreAnswers.{MoreAnswers}
 use Rattle.live_rules.specs.Moments.{Moment, bssid_of, bssids_at, Reply, taken_if, after_if}
-use Rattle.live.specs.Networks.{IsMoment}
+use Rattle.live.specs.LiveNetworks.{IsMoment}
 use Rattle.live.specs.Output.{AreAnswered, through}
 use Rattle.live.specs.Readings.{IsReading}
 use Rattle.live.specs.Written.{written_answer}
@@ -92,7 +91,6 @@ few-line place most (n ∷ ns) said (r ∷ rs) few =
 
 few-answer : (m : Moment) (asked : Asked) (answer : Answer) → AreFew m.lines m.networks
     → AreFew (after_answer m asked answer).lines (after_answer m asked answer).networks
-few-answer m (Brings said) (Replies rs) few = few-line 0 m.lines m.networks said rs few
 few-answer m (Says (Ok (Some said))) (Replies rs) few = few-line 0 m.lines m.networks said rs few
 few-answer m asked answer few = few-more m.networks m.lines (m.lines + 1) (omega arith) few
 
@@ -145,34 +143,29 @@ answered-reading taken failed face lines number ns next said asked answer old ne
 
 pub answered-fault : {W : Type 0} (taken : W → Option (List ℕ)) (failed : W → ℕ) (face : Face) (lines number : ℕ)
     (ns : List NetworkState) (said : Asked) (fault : LineFault) (old new : Buffered W) → number ≡ lines + 1
-    → (said ≡ HasFault fault) ⊎ (said ≡ Says (Err fault))
+    → said ≡ has_fault fault
     → Puts (watch taken failed) old new (written_answer face (map bssid_of ns) number (Faulty fault))
     → AreAnswered (through face (watch taken failed) old new) (at lines ns) (at number ns) (said ∷ [])
-answered-fault taken failed face lines number ns said fault old new count (inl is) puts =
-    answered-reading taken failed face lines number ns ns said (HasFault fault) (Faulty fault) old new count is refl refl puts
-answered-fault taken failed face lines number ns said fault old new count (inr is) puts =
-    answered-reading taken failed face lines number ns ns said (Says (Err fault)) (Faulty fault) old new count is refl refl puts
+answered-fault taken failed face lines number ns said fault old new count is puts =
+    answered-reading taken failed face lines number ns ns said (has_fault fault) (Faulty fault) old new count is refl refl puts
 
 -- a line or a record that the networks replied to
 pub answered-line : {W : Type 0} (taken : W → Option (List ℕ)) (failed : W → ℕ) (face : Face) (lines number : ℕ)
     (ns next : List NetworkState) (said : Asked) (line : Line) (replies : List (Option Reply)) (old new : Buffered W)
-    → number ≡ lines + 1 → (said ≡ Brings line) ⊎ (said ≡ Says (Ok (Some line)))
+    → number ≡ lines + 1 → said ≡ brings line
     → MayReplyFrom 0 ns line replies → next ≡ after_line_from 0 ns line replies
     → Puts (watch taken failed) old new (written_answer face (map bssid_of ns) number (Replies replies))
     → AreAnswered (through face (watch taken failed) old new) (at lines ns) (at number next) (said ∷ [])
-answered-line taken failed face lines number ns next said line replies old new count (inl is) may after puts =
-    answered-reading taken failed face lines number ns next said (Brings line) (Replies replies) old new count is may
+answered-line taken failed face lines number ns next said line replies old new count is may after puts =
+    answered-reading taken failed face lines number ns next said (brings line) (Replies replies) old new count is may
     (ap (λ (ms : List NetworkState). at (lines + 1) ms) after) puts
-answered-line taken failed face lines number ns next said line replies old new count (inr is) may after puts =
-    answered-reading taken failed face lines number ns next said (Says (Ok (Some line))) (Replies replies) old new count
-    is may (ap (λ (ms : List NetworkState). at (lines + 1) ms) after) puts
 
 -- something is said that was read so
 said-for : (reading : Reading) → (said : Asked) × IsReading reading said
 said-for reading.Nothing = (Says (Ok None), refl)
-said-for (reading.Line lent) = (Brings (line_of lent), inl refl)
+said-for (reading.Line lent) = (brings (line_of lent), refl)
 said-for reading.Tables = (ForTables, refl)
-said-for (reading.Fault fault) = (HasFault fault, inl refl)
+said-for (reading.Fault fault) = (has_fault fault, refl)
 
 pub moment-reading : {W : Type 0} (taken : W → Option (List ℕ)) (failed : W → ℕ) (face : Face) (reading : Reading)
     (m next : Moment) (old new : Buffered W) → IsMoment m

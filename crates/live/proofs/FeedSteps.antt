@@ -5,10 +5,12 @@ use Rattle.std.specs.Prelude.{nat_lt, ◌==◌, slice_index, if◌then◌else◌
 use Rattle.std.specs.Str.Lines.{strip_carriage_return}
 use Rattle.std.proofs.lemmas.Bool.{ltb-true, lt-ltb}
 use Rattle.std.proofs.lemmas.List.{map-append}
-use Rattle.trace.specs.Texts.{LacksLineFeed, ended}
-use Rattle.trace.specs.Buffers.{CanWrite, watch}
+use Rattle.text_io.specs.Texts.{LacksLineFeed, ended}
+use Rattle.text_io.specs.Buffers.{CanWrite, watch}
 use Rattle.text_io.specs.declared.buffer.Buffered.{Buffered}
-use Rattle.live.specs.Output.{AreAnswered, AnswersLines, LinesRemain, through}
+use Rattle.live.specs.Inputs.{face_of}
+use Rattle.live.specs.LiveView.{reached}
+use Rattle.live.specs.Output.{AreAnswered, AnswersLines, AnswersPiece, LinesRemain, through}
 use Rattle.live.specs.PartialLine.{ended_with, whole_with, IsUnended}
 use Rattle.live_rules.specs.Asked.{Asked, asked_by, asked_in, asked_by_all}
 use Rattle.live_rules.specs.Answers.{Answer, Answers}
@@ -16,6 +18,8 @@ use Rattle.live_rules.specs.Moments.{Moment, bssids_at}
 use Rattle.live_rules.specs.MoreAnswers.{MoreAnswers}
 use Rattle.live_rules.specs.TextLines.{TextLine, Octets, TooLong, max_line, line_with, partial_after, lines_in, last_line}
 use Rattle.live.specs.declared.face.Face.TheVariants.{Lines}
+use Rattle.live.specs.declared.partial_input.PartialInput.{PartialInput}
+use Rattle.live.specs.declared.partial_input.PartialInput.TheVariants.{Line}
 use Rattle.live.proofs.AnswerSteps.{answered-none, answered-then}
 use Rattle.live.proofs.PartialSteps.{long-on, partial-over, partial-on, first-line, first-partial, no-line}
 
@@ -118,6 +122,21 @@ feed-all taken failed m now old new partial partial' partial'' piece rest s begu
       next = after ∙ sym s.next;
       few = omega (arith, few);
     }
+
+-- so a piece is answered where a line is at its end
+pub piece-answered : {W : Type 0} (taken : W → Option (List ℕ)) (failed : W → ℕ) (before : PartialInput) (m now : Moment)
+    (old new : Buffered W) (partial partial' : TextLine) (piece : List ℕ) → before ≡ Line partial
+    → AnswersLines taken failed m now old new partial partial' piece
+    → AnswersPiece (through (face_of before) (watch taken failed) old new) (reached m before) (reached now (Line partial')) piece
+piece-answered taken failed before m now old new partial partial' piece is a =
+    subst
+    (λ (p : PartialInput). AnswersPiece (through (face_of p) (watch taken failed) old new) (reached m p) (reached now (Line partial')) piece)
+    (sym is)
+    (record {
+      said = asked_in m (lines_in partial piece);
+      is_said = (refl, ap (λ (p : TextLine). Line p) a.next);
+      answered = a.answered;
+    })
 
 -- ---- the last line
 

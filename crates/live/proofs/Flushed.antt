@@ -1,9 +1,9 @@
 -- What was put through a piece of memory, which is written in the end.
-use Rattle.std.proofs.Common.{◌≡◌, ℕ, ◌+◌, List, [], ◌++◌, Option, Result, false}
-use Rattle.trace.specs.Buffers.{Flushes, Puts, held, sink_of, watch}
-use Rattle.trace.specs.BufferLaws.{Puts-flushed, Puts-then}
-use Rattle.trace.specs.Endings.{failures_of}
-use Rattle.trace.specs.Sinks.{write_ending}
+use Rattle.std.proofs.Common.{◌≡◌, ℕ, ◌+◌, List, [], Option, Result, false}
+use Rattle.text_io.specs.Buffers.{Flushes, Puts, held, sink_of, watch}
+use Rattle.text_io.specs.BufferLaws.{Puts-flushed, Puts-then}
+use Rattle.text_io.specs.Endings.{failures_of}
+use Rattle.text_io.specs.Sinks.{write_ending}
 use Rattle.text_io.specs.declared.buffer.Buffered.{Buffered}
 use Rattle.text_io.specs.declared.sink.Failed.{Failed}
 use Rattle.live_rules.specs.Moments.{Moment, bssids_at}

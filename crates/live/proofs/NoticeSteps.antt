@@ -4,7 +4,7 @@ use Rattle.std.proofs.Common.{length-append, append_assoc}
 use Rattle.std.proofs.lemmas.Bool.{lt-ltb, le-ltb}
 use Rattle.hex.specs.Hex.{encode_lower}
 use Rattle.hex.proofs.HexLemmas.{length-encode_with}
-use Rattle.trace.specs.Texts.{ended}
+use Rattle.text_io.specs.Texts.{ended}
 use Rattle.live.specs.AnswerOctets.{record_header, record_of, told}
 use Rattle.live_rules.specs.Records.{nobody}
 

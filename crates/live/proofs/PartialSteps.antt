@@ -4,7 +4,7 @@ use Rattle.std.proofs.Common.{Bool, true, false, refl, sym, ap, subst, ◌∙◌
 use Rattle.std.specs.Prelude.{nat_lt, if◌then◌else◌}
 use Rattle.std.proofs.lemmas.Bool.{ltb-true, lt-ltb}
 use Rattle.std.proofs.lemmas.List.Elements.{All-append}
-use Rattle.trace.specs.Texts.{LacksLineFeed, ended}
+use Rattle.text_io.specs.Texts.{LacksLineFeed, ended}
 use Rattle.trace.specs.LineLaws.{whole_lines_line, unfinished_line_line, whole_lines_none, unfinished_line_none}
 use Rattle.trace.specs.Pieces.{whole_lines}
 use Rattle.live.specs.PartialLine.{ended_with, IsUnended}

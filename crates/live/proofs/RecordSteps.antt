@@ -4,7 +4,7 @@ use Rattle.std.proofs.Common.{refl, sym, ap, subst, ◌∙◌, arith, append_ass
 use Rattle.std.proofs.ByRecursion.{All-append}
 use Rattle.std.proofs.lemmas.List.{map-append, nil_from_length}
 use Rattle.std.proofs.lemmas.List.Concat.{flat_map-append}
-use Rattle.trace.specs.Buffers.{CanWrite, watch}
+use Rattle.text_io.specs.Buffers.{CanWrite, watch}
 use Rattle.text_io.specs.declared.buffer.Buffered.{Buffered}
 use Rattle.live_rules.specs.Asked.{Asked}
 use Rattle.live_rules.specs.Moments.{Moment, bssids_at}

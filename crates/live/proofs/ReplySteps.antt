@@ -9,10 +9,10 @@ use Rattle.network.specs.declared.network.NetworkRefusal.{NetworkRefusal}
 use Rattle.network.specs.declared.network.NetworkRefusal.TheVariants.{NoMemory, Clock}
 use Rattle.network.specs.declared.network.Sent.{Sent}
 use Rattle.events.specs.declared.line.Line.{Line}
-use Rattle.trace.specs.Buffers.{CanWrite, Puts, Watch}
+use Rattle.text_io.specs.Buffers.{CanWrite, Puts, Watch}
 use Rattle.text_io.specs.declared.buffer.Buffered.{Buffered}
-use Rattle.trace.specs.BufferLaws.{Puts-then, Puts-nothing}
-use Rattle.access_point.specs.Takes.{Takes, TakesIf, change, dispatch}
+use Rattle.text_io.specs.BufferLaws.{Puts-then, Puts-nothing}
+use Rattle.networks.specs.Takes.{Takes, TakesIf, change, dispatch}
 use Rattle.live_rules.specs.Answers.{MayReplyFrom, after_line_from}
 use Rattle.live_rules.specs.Dispatch.{event_at}
 use Rattle.live_rules.specs.Moments.{Reply, Sends, Refuses, is_past_clock, sending, MayReply, MayReplyIf, taken_if, after_if, bssid_of}

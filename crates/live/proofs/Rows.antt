@@ -12,11 +12,11 @@ use Rattle.events.specs.declared.event.Event.TheVariants.{Tick}
 use Rattle.events.specs.declared.line.Line.TheVariants as line
 use Rattle.network.specs.declared.network.NetworkRefusal.TheVariants.{NoMemory, Clock}
 use Rattle.ap_config.specs.Samples.{network, radio, setting}
-use Rattle.trace.specs.Report.{network_line, counts_line, station_line, frame_line}
+use Rattle.report.specs.Report.{network_line, counts_line, station_line, frame_line}
 use Rattle.trace.specs.declared.fault.LineFault.TheVariants.{UnknownKind, UnknownNetwork}
 use Rattle.live_rules.specs.TextLines.{Octets, TooLong, line_with, lines_of_text, partial_in, lines_in, partial_after, last_line}
 use Rattle.live_rules.specs.Moments.{Moment, first_moment, Sends, Refuses, is_past_clock, reply_of, taken_if, after_if}
-use Rattle.live_rules.specs.Asked.{HasFault, ForTables, Brings, Says, asked_by}
+use Rattle.live_rules.specs.Asked.{has_fault, ForTables, brings, Says, asked_by}
 use Rattle.live_rules.specs.Answers.{Answer, Faulty, Replies, Tables, after_answer}
 use Rattle.live_rules.specs.AnswerText.{table_text}
 use Rattle.live.specs.AnswerOctets.{record_of, told}
@@ -212,29 +212,29 @@ pub eight_octets_say_no_length : record_len (65 ∷ 0 ∷ 0 ∷ 0 ∷ 0 ∷ 0 �
 eight_octets_say_no_length = refl
 
 pub a_record_of_the_air : record_asks bssids (65 ∷ 0 ∷ 0 ∷ 0 ∷ 0 ∷ 0 ∷ 0 ∷ 2 ∷ 0 ∷ 7 ∷ 8 ∷ [])
-    ≡ Brings (line.Air (7 ∷ 8 ∷ []))
+    ≡ brings (line.Air (7 ∷ 8 ∷ []))
 a_record_of_the_air = refl
 
 pub one_of_the_wire_names_its_network : record_asks bssids (87 ∷ 2 ∷ 0 ∷ 0 ∷ 0 ∷ 0 ∷ 2 ∷ 1 ∷ 0 ∷ 7 ∷ [])
-    ≡ Brings (line.Wire 1 (7 ∷ []))
+    ≡ brings (line.Wire 1 (7 ∷ []))
 one_of_the_wire_names_its_network = refl
 
-pub a_record_of_no_network_is_l4 : record_asks bssids (87 ∷ 2 ∷ 0 ∷ 0 ∷ 0 ∷ 0 ∷ 9 ∷ 0 ∷ 0 ∷ []) ≡ HasFault UnknownNetwork
+pub a_record_of_no_network_is_l4 : record_asks bssids (87 ∷ 2 ∷ 0 ∷ 0 ∷ 0 ∷ 0 ∷ 9 ∷ 0 ∷ 0 ∷ []) ≡ has_fault UnknownNetwork
 a_record_of_no_network_is_l4 = refl
 
-pub the_air_has_no_bssid : record_asks bssids (65 ∷ 2 ∷ 0 ∷ 0 ∷ 0 ∷ 0 ∷ 1 ∷ 0 ∷ 0 ∷ []) ≡ HasFault UnknownKind
+pub the_air_has_no_bssid : record_asks bssids (65 ∷ 2 ∷ 0 ∷ 0 ∷ 0 ∷ 0 ∷ 1 ∷ 0 ∷ 0 ∷ []) ≡ has_fault UnknownKind
 the_air_has_no_bssid = refl
 
-pub a_tick_has_no_octets : record_asks bssids (84 ∷ 0 ∷ 0 ∷ 0 ∷ 0 ∷ 0 ∷ 0 ∷ 1 ∷ 0 ∷ 7 ∷ []) ≡ HasFault UnknownKind
+pub a_tick_has_no_octets : record_asks bssids (84 ∷ 0 ∷ 0 ∷ 0 ∷ 0 ∷ 0 ∷ 0 ∷ 1 ∷ 0 ∷ 7 ∷ []) ≡ has_fault UnknownKind
 a_tick_has_no_octets = refl
 
-pub a_record_that_is_a_tick : record_asks bssids (84 ∷ 0 ∷ 0 ∷ 0 ∷ 0 ∷ 0 ∷ 0 ∷ 0 ∷ 0 ∷ []) ≡ Brings line.Tick
+pub a_record_that_is_a_tick : record_asks bssids (84 ∷ 0 ∷ 0 ∷ 0 ∷ 0 ∷ 0 ∷ 0 ∷ 0 ∷ 0 ∷ []) ≡ brings line.Tick
 a_record_that_is_a_tick = refl
 
 pub one_that_asks_for_tables : record_asks bssids (73 ∷ 0 ∷ 0 ∷ 0 ∷ 0 ∷ 0 ∷ 0 ∷ 0 ∷ 0 ∷ []) ≡ ForTables
 one_that_asks_for_tables = refl
 
-pub small_letters_are_no_kinds : record_asks bssids (97 ∷ 0 ∷ 0 ∷ 0 ∷ 0 ∷ 0 ∷ 0 ∷ 0 ∷ 0 ∷ []) ≡ HasFault UnknownKind
+pub small_letters_are_no_kinds : record_asks bssids (97 ∷ 0 ∷ 0 ∷ 0 ∷ 0 ∷ 0 ∷ 0 ∷ 0 ∷ 0 ∷ []) ≡ has_fault UnknownKind
 small_letters_are_no_kinds = refl
 
 pub two_networks_are_open : written_count Records 2 ≡ 79 ∷ 0 ∷ 0 ∷ 0 ∷ 0 ∷ 0 ∷ 2 ∷ 0 ∷ 0 ∷ []

@@ -4,11 +4,11 @@ use Rattle.std.proofs.KnownBytes.{Appends-trans, Consumes-nil, Keeps-refl}
 use Rattle.std.specs.Io.KnownBytes.{Appends, Keeps}
 use Rattle.ap_config.specs.declared.config.ConfigFault.{ConfigFault}
 use Rattle.ap_config.specs.declared.config.RadioConfig.{RadioConfig}
-use Rattle.trace.specs.ConfigurationText.{configuration_of}
-use Rattle.trace.specs.Endings.{AppendsPrefix, Ending, Ends, IsFaultOf, Refused, WriteFailed, OutOfMemory, failures_of, ending_of}
-use Rattle.trace.specs.Faults.{read_as, read_ending, report_as}
-use Rattle.trace.specs.Sinks.{report_ending, write_ending}
-use Rattle.trace.specs.Streams.{FailsAt, Reads, SinkView, SourceView, Streams, changed}
+use Rattle.config_text.specs.ConfigurationText.{configuration_of}
+use Rattle.text_io.specs.Endings.{AppendsPrefix, Ending, Ends, IsFaultOf, Refused, WriteFailed, OutOfMemory, failures_of, ending_of}
+use Rattle.text_io.specs.Faults.{read_as, read_ending, report_as}
+use Rattle.text_io.specs.Sinks.{report_ending, write_ending}
+use Rattle.text_io.specs.Streams.{FailsAt, Reads, SinkView, SourceView, Streams, changed}
 use Rattle.text_io.specs.declared.read_fault.ReadFault.{ReadFault}
 use Rattle.text_io.specs.declared.read_fault.ReadFault.TheVariants as reads
 use Rattle.text_io.specs.declared.report_fault.ReportFault.{ReportFault}
@@ -25,7 +25,6 @@ use Rattle.live.specs.Run.{max_reads, setup}
 use Rattle.live.specs.Written.{written_after, written_count, written_tables}
 use Rattle.live.specs.declared.partial_input.PartialInput.{PartialInput}
 use Rattle.live.specs.declared.face.Face.{Face}
-use Rattle.live.specs.declared.face.Face.TheVariants.{Lines, Records}
 use Rattle.live.specs.declared.fault.LiveFault.{LiveFault}
 use Rattle.live.specs.declared.fault.LiveFault.TheVariants.{Config, NoMemory, Read, Write}
 use Rattle.live.proofs.InputSteps.{empty-in, said-all, said-ended, said-face, said-none}

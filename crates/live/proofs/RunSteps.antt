@@ -4,8 +4,8 @@ use Rattle.std.proofs.Common.{◌≡◌, ℕ, ◌+◌, ◌-◌, ◌*◌, ◌^◌
 use Rattle.std.proofs.Common.{refl, sym, ap, subst, ◌∙◌, arith, append_assoc}
 use Rattle.std.proofs.KnownBytes.{Appends-nil, Appends-trans, Consumes-nil, Consumes-trans}
 use Rattle.std.specs.Io.KnownBytes.{Appends, Consumes}
-use Rattle.trace.specs.Endings.{AppendsPrefix}
-use Rattle.trace.specs.Streams.{reads_after}
+use Rattle.text_io.specs.Endings.{AppendsPrefix}
+use Rattle.text_io.specs.Streams.{reads_after}
 use Rattle.text_io.specs.declared.sink.Failed.{Failed}
 use Rattle.live_rules.specs.Answers.{Answer, Answers}
 use Rattle.live_rules.specs.Asked.{Asked}

@@ -2,9 +2,9 @@
 use Rattle.std.proofs.Common.{◌≡◌, ℕ, List, [], ◌++◌, ap, ◌∙◌, append-nil}
 use Rattle.std.specs.Prelude.{codes, flat_map}
 use Rattle.network.specs.NetworkView.{NetworkState}
-use Rattle.trace.specs.Forms.{as_text, heading_in}
-use Rattle.trace.specs.Texts.{ended}
-use Rattle.log_report.specs.Log.{table_in, told_network}
+use Rattle.report.specs.Forms.{as_text, heading_in}
+use Rattle.text_io.specs.Texts.{ended}
+use Rattle.network_report.specs.NetworkText.{table_in, told_network}
 use Rattle.live_rules.specs.AnswerText.{table_text, tables_text}
 
 one-table : (n : NetworkState) → table_in as_text n ≡ table_text n

@@ -3,8 +3,8 @@ use Rattle.std.specs.Prelude.{◌≡◌, refl, ℕ, ◌/◌, ◌%◌, nat_lt, Li
 use Rattle.std.specs.Prelude.{if◌then◌else◌}
 use Rattle.mac_frame.specs.Address.{address_text}
 use Rattle.network.specs.NetworkView.{NetworkState}
-use Rattle.trace.specs.Texts.{ended}
-use Rattle.log_report.specs.Log.{table_in}
+use Rattle.text_io.specs.Texts.{ended}
+use Rattle.network_report.specs.NetworkText.{table_in}
 use Rattle.live_rules.specs.AnswerText.{refusal_word}
 use Rattle.live_rules.specs.Moments.{Reply, Sends, Refuses}
 use Rattle.live_rules.specs.Records.{nobody}

@@ -1,8 +1,8 @@
 -- What a sink has taken of a run when the source is asked for more.
 use Rattle.std.specs.Prelude.{◌≡◌, ℕ, ◌+◌, ◌≤◌, ◌⊎◌, List, Result}
 use Rattle.std.specs.Io.KnownBytes.{Appends, Consumes}
-use Rattle.trace.specs.Endings.{failures_of}
-use Rattle.trace.specs.Streams.{Streams}
+use Rattle.text_io.specs.Endings.{failures_of}
+use Rattle.text_io.specs.Streams.{Streams}
 use Rattle.live.specs.Run.{AnswersEnded, Runs, Setup, live_ending}
 use Rattle.live.specs.declared.fault.LiveFault.{LiveFault}
 

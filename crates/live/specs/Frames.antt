@@ -1,6 +1,6 @@
 -- How frames are told, one after another (profile).
 use Rattle.std.specs.Prelude.{ℕ, List, flat_map}
-use Rattle.trace.specs.Report.{frame_line}
+use Rattle.report.specs.Report.{frame_line}
 use Rattle.live_rules.specs.AnswerText.{frame_words}
 use Rattle.live.specs.AnswerOctets.{record_of}
 

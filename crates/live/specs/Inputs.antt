@@ -2,7 +2,7 @@
 use Rattle.std.specs.Prelude.{◌≡◌, ℕ, List, [], ◌++◌}
 use Rattle.live_rules.specs.Asked.{Asked, asked_by_all}
 use Rattle.live_rules.specs.Records.{AreRecords, IsPartialRecord, records_ask, cut_record}
-use Rattle.live_rules.specs.TextLines.{TextLine, Octets, ended_lines, lines_of_text, partial_after, last_line, lines_in}
+use Rattle.live_rules.specs.TextLines.{Octets, ended_lines, lines_of_text, partial_after, last_line, lines_in}
 use Rattle.live.specs.declared.partial_input.PartialInput.{PartialInput}
 use Rattle.live.specs.declared.partial_input.PartialInput.TheVariants.{Line, Record}
 use Rattle.live.specs.declared.face.Face.{Face}

@@ -3,7 +3,7 @@ pub mod Frames
 pub mod Written
 pub mod PartialLine
 pub mod Readings
-pub mod Networks
+pub mod LiveNetworks
 pub mod Inputs
 pub mod LiveView
 pub mod Output

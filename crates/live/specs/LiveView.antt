@@ -1,7 +1,7 @@
 -- What contracts see of the access point as it runs, and what its calls do.
-use Rattle.std.specs.Prelude.{◌≡◌, ℕ, List, ◌++◌, Option, Result, Ok}
-use Rattle.trace.specs.Endings.{Ends, ending_of}
-use Rattle.trace.specs.Sinks.{write_ending}
+use Rattle.std.specs.Prelude.{ℕ, List, ◌++◌, Option, Result, Ok}
+use Rattle.text_io.specs.Endings.{Ends, ending_of}
+use Rattle.text_io.specs.Sinks.{write_ending}
 use Rattle.text_io.specs.declared.sink.Failed.{Failed}
 use Rattle.live_rules.specs.Answers.{Answer, Answers}
 use Rattle.live_rules.specs.Asked.{Asked}

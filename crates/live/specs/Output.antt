@@ -4,9 +4,9 @@ use Rattle.std.specs.List.{AllByRecursion}
 use Rattle.network.specs.NetworkView.{NetworkState}
 use Rattle.events.specs.declared.event.Event.{Event}
 use Rattle.events.specs.declared.line.Line.{Line}
-use Rattle.trace.specs.Buffers.{CanWrite, Puts, Watch, watch}
+use Rattle.text_io.specs.Buffers.{CanWrite, Puts, Watch, watch}
 use Rattle.text_io.specs.declared.buffer.Buffered.{Buffered}
-use Rattle.access_point.specs.Takes.{Change}
+use Rattle.networks.specs.Takes.{Change}
 use Rattle.live_rules.specs.Answers.{Answer, Answers, MayReplyFrom, after_line_from}
 use Rattle.live_rules.specs.Moments.{Moment, Reply, MayReply, taken_if, after_if, bssid_of, bssids_at}
 use Rattle.live_rules.specs.Asked.{Asked, asked_in}

@@ -1,7 +1,7 @@
 -- A partial line, and the octets that end it.
 use Rattle.std.specs.Prelude.{ℕ, List, ◌++◌, Option, Some, None}
 use Rattle.std.specs.Str.Lines.{strip_carriage_return}
-use Rattle.trace.specs.Texts.{LacksLineFeed}
+use Rattle.text_io.specs.Texts.{LacksLineFeed}
 use Rattle.live_rules.specs.TextLines.{TextLine, Octets, TooLong, line_with}
 
 -- a line that ends with these octets and an LF

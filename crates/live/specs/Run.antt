@@ -2,9 +2,9 @@
 use Rattle.std.specs.Prelude.{◌≡◌, ℕ, ◌^◌, ◌≤◌, ◌⊎◌, List, [], ◌++◌, length, Option, None, Result, Ok, Err}
 use Rattle.std.specs.Io.KnownBytes.{Appends, Consumes, IsAtEnd, Keeps}
 use Rattle.ap_config.specs.declared.config.RadioConfig.{RadioConfig}
-use Rattle.trace.specs.ConfigurationText.{configuration_of}
-use Rattle.trace.specs.Endings.{Ending, Refused, ReadFailed, WriteFailed, OutOfMemory, AppendsPrefix, ending_of}
-use Rattle.trace.specs.Streams.{Reads, SinkView, SourceView, Streams, changed}
+use Rattle.config_text.specs.ConfigurationText.{configuration_of}
+use Rattle.text_io.specs.Endings.{Ending, Refused, ReadFailed, WriteFailed, OutOfMemory, AppendsPrefix, ending_of}
+use Rattle.text_io.specs.Streams.{Reads, SinkView, SourceView, Streams, changed}
 use Rattle.live_rules.specs.Answers.{Answer, Answers}
 use Rattle.live_rules.specs.Asked.{Asked}
 use Rattle.live.specs.Inputs.{IsSaid, IsAllSaid, IsSaidIn, face_of, empty_partial, saying}

@@ -1,8 +1,8 @@
 -- What is written of answers, in either face.
 use Rattle.std.specs.Prelude.{ℕ, ◌+◌, List, [], ◌∷◌, ◌++◌, codes, decimal, Option, Some, None}
 use Rattle.network.specs.NetworkView.{NetworkState}
-use Rattle.trace.specs.Report.{count_line}
-use Rattle.trace.specs.Texts.{ended}
+use Rattle.report.specs.Report.{count_line}
+use Rattle.text_io.specs.Texts.{ended}
 use Rattle.trace.specs.TraceText.{code_of}
 use Rattle.live.specs.AnswerOctets.{count_record, record_fault, reply_octets, tables_octets, told}
 use Rattle.live_rules.specs.AnswerText.{fault_words, reply_text, tables_text}

@@ -1,12 +1,13 @@
 //! Why the access point stopped.
 
 ghost use Rattle.std.specs.Prelude.{◌≡◌};
-ghost use Rattle.trace.specs.Faults.{read_as, report_as};
+ghost use Rattle.text_io.specs.Faults.{read_as, report_as};
 ghost use Rattle.live.specs.declared.fault.LiveFault.TheVariants as faults;
 
 use ap_config::ConfigFault;
+use config_text::ConfigTextFault;
 use mac_frame::NoMemory;
-use trace::{ConfigTextFault, Failed, ReportFault};
+use text_io::{Failed, ReportFault};
 
 /// Why an access point stopped before the end of its input.
 #[derive(Clone, Copy, Debug, PartialEq, Eq)]

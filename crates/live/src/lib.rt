@@ -25,7 +25,7 @@ mod fault;
 mod laws;
 mod lines;
 mod live_in;
-mod networks;
+mod live_networks;
 mod output;
 mod partial;
 mod partial_input;

@@ -1,41 +1,22 @@
 //! Lines that come in pieces, and their answers.
 
-ghost use Rattle.std.specs.Prelude.{◌≡◌, ◌<◌, ◌≤◌, ◌+◌, ◌^◌, ◌∷◌, [], length};
-ghost use Rattle.trace.specs.Buffers.{CanWrite, watch};
-ghost use Rattle.trace.specs.Texts.{LacksLineFeed};
+ghost use Rattle.std.specs.Prelude.{◌≡◌, ◌<◌, ◌^◌, ◌∷◌, []};
+ghost use Rattle.text_io.specs.Buffers.{CanWrite, watch};
+ghost use Rattle.text_io.specs.Texts.{LacksLineFeed};
 ghost use Rattle.live_rules.specs.Asked.{asked_in};
 ghost use Rattle.live.specs.Output.{AnswersLines, AreAnswered, LinesRemain, through};
 ghost use Rattle.live.specs.PartialLine.{IsUnended, ended_with};
-ghost use Rattle.live_rules.specs.TextLines.{Octets, partial_after, last_line, lines_in};
+ghost use Rattle.live_rules.specs.TextLines.{Octets, last_line};
 ghost use Rattle.live.specs.declared.face.Face.TheVariants as faces;
 
-use crate::networks::Networks;
+use crate::live_networks::LiveNetworks;
 use crate::partial::{PartialLine, ended_line};
 use live_rules::answers_to_more;
 use std::convert::Infallible;
-use trace::{Buffered, Sink, TakeText, cut_text};
+use text_io::{Buffered, Sink};
+use trace::TakeText;
 
-/// Answers the lines that end in a piece.
-pub fn answer_lines<W: Sink>(
-    networks: &mut Networks,
-    partial: &mut PartialLine,
-    piece: &[u8],
-    out: &mut Buffered<'_, W>,
-)
-    requires countable { networks.old.lines + length piece.now < 2 ^ 62 }
-    requires can_write { CanWrite W.failed out.old }
-    ensures answered { AreAnswered (through faces.Lines (watch W.taken W.failed) out.old out.new)
-        networks.old networks.new (asked_in networks.old (lines_in partial.old piece.now)) }
-    ensures partial { partial.new ≡ partial_after partial.old piece.now }
-    ensures lines { networks.new.lines ≤ networks.old.lines + length piece.now }
-{
-    match cut_text(partial, piece, networks, out) {
-        Ok(()) => {}
-        Err(never) => match never {},
-    }
-}
-
-impl<W: Sink> TakeText<Networks, Buffered<'_, W>> for PartialLine {
+impl<W: Sink> TakeText<LiveNetworks, Buffered<'_, W>> for PartialLine {
     type Fault = Infallible;
 
     ghost remains = { λ first was held piece partial networks out rest.
@@ -48,7 +29,7 @@ impl<W: Sink> TakeText<Networks, Buffered<'_, W>> for PartialLine {
     fn end_line(
         &mut self,
         octets: &[u8],
-        networks: &mut Networks,
+        networks: &mut LiveNetworks,
         out: &mut Buffered<'_, W>,
     ) -> Result<(), Infallible> {
         answers_to_more();
@@ -65,7 +46,7 @@ impl<W: Sink> TakeText<Networks, Buffered<'_, W>> for PartialLine {
 
 /// Answers the line that these octets and an LF end; where nothing came of it before them, without a copy.
 fn answer_ended<W: Sink>(
-    networks: &mut Networks,
+    networks: &mut LiveNetworks,
     partial: &mut PartialLine,
     octets: &[u8],
     out: &mut Buffered<'_, W>,
@@ -89,7 +70,7 @@ fn answer_ended<W: Sink>(
 
 /// Answers a partial line as the last one, unless it is empty.
 pub fn answer_last_line<W: Sink>(
-    networks: &mut Networks,
+    networks: &mut LiveNetworks,
     partial: &PartialLine,
     out: &mut Buffered<'_, W>,
 )

@@ -2,20 +2,20 @@
 
 ghost use Rattle.std.specs.Prelude.{◌≡◌, ◌<◌, ◌≤◌, ◌+◌, ◌^◌, None, IfOk, length};
 ghost use Rattle.ap_config.specs.Configuration.{fault_of};
-ghost use Rattle.trace.specs.Endings.{failures_of};
-ghost use Rattle.trace.specs.Sinks.{MayFail, write_ending};
+ghost use Rattle.text_io.specs.Endings.{failures_of};
+ghost use Rattle.text_io.specs.Sinks.{MayFail, write_ending};
 ghost use Rattle.live.specs.Inputs.{empty_partial, face_of};
 ghost use Rattle.live.specs.LiveView.{Finishes, Takes, reached, running};
 ghost use Rattle.live_rules.specs.Moments.{first_moment};
 
 use crate::face::{InFace, InLines, InRecords};
-use crate::networks::Networks;
+use crate::live_networks::LiveNetworks;
 use crate::partial_input::PartialInput;
 use ap_config::RadioConfig;
 use mac_frame::NoMemory;
 use std::alloc::Global;
 use std::marker::{Model, PhantomData};
-use trace::{Buffered, Failed, Sink};
+use text_io::{Buffered, Failed, Sink};
 
 /// How many octets of answers are collected before they go to the sink, so that a device is not asked for each answer.
 const HELD: usize = 65_536;
@@ -26,7 +26,7 @@ const HELD: usize = 65_536;
 /// Contracts see the moment after the lines or records that have ended, and the partial one after them.
 #[derive(Drop)]
 pub struct LiveIn<F: InFace> {
-    networks: Networks,
+    networks: LiveNetworks,
     partial: PartialInput,
     held: Vec<u8>,
     of: PhantomData<F>,
@@ -56,7 +56,7 @@ impl<F: InFace> LiveIn<F> {
         requires { fault_of config ≡ None }
         ensures { IfOk result (λ live. live ≡ reached (first_moment config) (empty_partial F.face)) }
     {
-        let networks = Networks::new(alloc, config)?;
+        let networks = LiveNetworks::new(alloc, config)?;
         let partial = PartialInput::new(alloc, F::face())?;
         Ok(LiveIn {
             networks,

@@ -1,7 +1,7 @@
 //! What goes out about a line or a record, in the face that it came in.
 
 ghost use Rattle.std.specs.Prelude.{ℕ, ◌++◌, codes, decimal, option_to_list};
-ghost use Rattle.trace.specs.Buffers.{CanWrite, Puts, watch};
+ghost use Rattle.text_io.specs.Buffers.{CanWrite, Puts, watch};
 ghost use Rattle.trace.specs.TraceText.{code_of};
 ghost use Rattle.live_rules.specs.Moments.{Refuses, Sends};
 ghost use Rattle.live.specs.Written.{written_fault, written_reply, written_tables};
@@ -14,8 +14,10 @@ use crate::face::Face;
 use mac_frame::MacAddr;
 use network::{Network, NetworkRefusal, Sent};
 use records::AsRecords;
+use report::AsText;
 use tables::put_tables_in;
-use trace::{AsText, Buffered, LineFault, Sink};
+use text_io::{Buffered, Sink};
+use trace::LineFault;
 
 /// Puts that the line or record of a number has a fault.
 pub fn put_fault<W: Sink>(face: Face, out: &mut Buffered<'_, W>, fault: LineFault, number: u64)

@@ -1,14 +1,14 @@
 //! A partial line, of which more is to come.
 
 ghost use Rattle.std.specs.Prelude.{◌≡◌, ◌↔◌, [], IfOk, IsTrue, option_map};
-ghost use Rattle.trace.specs.Texts.{LacksLineFeed};
+ghost use Rattle.text_io.specs.Texts.{LacksLineFeed};
 ghost use Rattle.live.specs.PartialLine.{IsUnended, ended_with, line_in, whole_with};
 ghost use Rattle.live_rules.specs.TextLines.{Octets, line_with, partial_after};
 
 use mac_frame::NoMemory;
 use std::alloc::Global;
 use std::marker::Model;
-use trace::without_carriage_return;
+use text_io::without_carriage_return;
 
 /// The most octets of a line, without the LF that ends it and one CR before that.
 const MAX_LINE: usize = 65_536;
@@ -26,7 +26,7 @@ pub struct PartialLine {
 
 impl Model for PartialLine {
     ghost use Rattle.std.specs.Prelude.{◌≤◌, length, vec_len, vec_capacity, if◌then◌else◌};
-    ghost use Rattle.trace.specs.Texts.{LacksLineFeed};
+    ghost use Rattle.text_io.specs.Texts.{LacksLineFeed};
     ghost use Rattle.live_rules.specs.TextLines.{TextLine, Octets, TooLong};
 
     ghost Value = { TextLine };

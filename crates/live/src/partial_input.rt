@@ -1,21 +1,22 @@
 //! The partial line or record at the end of what came in, and what is answered to the pieces that end it.
 
 ghost use Rattle.std.specs.Prelude.{◌≡◌, ◌<◌, ◌≤◌, ◌+◌, ◌^◌, IfOk, length};
-ghost use Rattle.trace.specs.Buffers.{CanWrite, watch};
+ghost use Rattle.text_io.specs.Buffers.{CanWrite, watch};
 ghost use Rattle.live.specs.Inputs.{IsUnfinished, empty_partial, face_of, last_said};
 ghost use Rattle.live.specs.LiveView.{reached};
 ghost use Rattle.live.specs.Output.{AnswersPiece, AreAnswered, through};
 ghost use Rattle.live_rules.specs.Moments.{bssids_at};
 
 use crate::face::Face;
-use crate::lines::{answer_last_line, answer_lines};
-use crate::networks::Networks;
+use crate::lines::answer_last_line;
+use crate::live_networks::LiveNetworks;
 use crate::partial::PartialLine;
 use crate::record::PartialRecord;
 use crate::records::{answer_cut_record, answer_records};
 use mac_frame::NoMemory;
 use std::alloc::Global;
-use trace::{Buffered, Sink};
+use text_io::{Buffered, Sink};
+use trace::cut_text;
 
 /// The partial line or record at the end of what came in, and so in which face the access point runs.
 #[derive(Drop)]
@@ -40,7 +41,7 @@ impl PartialInput {
     /// Answers the lines or records that end in a piece.
     pub fn answer_piece<W: Sink>(
         &mut self,
-        networks: &mut Networks,
+        networks: &mut LiveNetworks,
         piece: &[u8],
         out: &mut Buffered<'_, W>,
     )
@@ -52,13 +53,16 @@ impl PartialInput {
         ensures lines { networks.new.lines ≤ networks.old.lines + length piece.now }
     {
         match self {
-            PartialInput::Line(line) => answer_lines(networks, line, piece, out),
+            PartialInput::Line(line) => match cut_text(line, piece, networks, out) {
+                Ok(()) => {}
+                Err(never) => match never {},
+            },
             PartialInput::Record(record) => answer_records(networks, record, piece, out),
         }
     }
 
     /// Answers a partial line or record, unless it is empty.
-    pub fn answer_last<W: Sink>(&self, networks: &mut Networks, out: &mut Buffered<'_, W>)
+    pub fn answer_last<W: Sink>(&self, networks: &mut LiveNetworks, out: &mut Buffered<'_, W>)
         requires countable { networks.old.lines < 2 ^ 62 }
         requires can_write { CanWrite W.failed out.old }
         ensures { AreAnswered (through (face_of self.now) (watch W.taken W.failed) out.old out.new)

@@ -1,21 +1,22 @@
 //! Records that come in pieces, and their answers.
 
 ghost use Rattle.std.specs.Prelude.{◌≡◌, ◌<◌, ◌≤◌, ◌+◌, ◌^◌, [], length};
-ghost use Rattle.trace.specs.Buffers.{CanWrite, watch};
+ghost use Rattle.text_io.specs.Buffers.{CanWrite, watch};
 ghost use Rattle.live.specs.Output.{AnswersRecords, AreAnswered, through, waiting};
 ghost use Rattle.live_rules.specs.Records.{IsPartialRecord, IsRecord, cut_record};
 ghost use Rattle.live.specs.declared.face.Face.TheVariants as faces;
 
 use crate::face::Face;
-use crate::networks::Networks;
+use crate::live_networks::LiveNetworks;
 use crate::reading::Reading;
 use crate::record::{PartialRecord, first_record};
 use live_rules::{answers_to_more, records_come_in_pieces};
-use trace::{Buffered, LineFault, Sink};
+use text_io::{Buffered, Sink};
+use trace::LineFault;
 
 /// Answers the records that end in a piece.
 pub fn answer_records<W: Sink>(
-    networks: &mut Networks,
+    networks: &mut LiveNetworks,
     partial: &mut PartialRecord,
     piece: &[u8],
     out: &mut Buffered<'_, W>,
@@ -37,7 +38,7 @@ pub fn answer_records<W: Sink>(
 /// else takes of the piece what the partial record lacks, and answers it where it is whole then. It gives what follows
 /// in the piece.
 fn answer_next<'a, W: Sink>(
-    networks: &mut Networks,
+    networks: &mut LiveNetworks,
     partial: &mut PartialRecord,
     piece: &'a [u8],
     out: &mut Buffered<'_, W>,
@@ -69,7 +70,7 @@ fn answer_next<'a, W: Sink>(
 
 /// Answers that the last record is cut, unless it is empty.
 pub fn answer_cut_record<W: Sink>(
-    networks: &mut Networks,
+    networks: &mut LiveNetworks,
     partial: &PartialRecord,
     out: &mut Buffered<'_, W>,
 )

@@ -2,19 +2,18 @@
 
 ghost use Rattle.std.specs.Prelude.{◌<◌, ◌^◌, false};
 ghost use Rattle.std.specs.List.{AllByRecursion};
-ghost use Rattle.trace.specs.Buffers.{CanWrite, watch};
+ghost use Rattle.text_io.specs.Buffers.{CanWrite, watch};
 ghost use Rattle.events.specs.LentEvents.{line_of};
-ghost use Rattle.network.specs.ReceivedEvents.{event_received};
-ghost use Rattle.access_point.specs.Takes.{change};
+ghost use Rattle.networks.specs.Takes.{change};
 ghost use Rattle.live.specs.Output.{HasReplied, HaveReplied, through};
 
 use crate::face::Face;
 use crate::output::{put_refusal, put_sent};
-use access_point::{AccessPoint, Deliver};
 use events::LentLine;
 use mac_frame::NoMemory;
 use network::{Network, ReceivedEvent, Spare};
-use trace::{Buffered, Sink};
+use networks::{Deliver, Networks};
+use text_io::{Buffered, Sink};
 
 /// Puts what each network replies to the line or record of a number. A network that refuses it doesn't keep the next
 /// from it.
@@ -42,7 +41,14 @@ impl<W: Sink> Deliver<Network, Buffered<'_, W>> for Replying {
         spare: &mut Spare,
         out: &mut Buffered<'_, W>,
     ) -> Result<(), NoMemory> {
-        reply(self.face, network, event, self.number, spare, out);
+        let bssid = network.setting().network.bssid;
+        match network.take_received(event, spare) {
+            Ok(sent) => {
+                put_sent(self.face, out, bssid, &sent);
+                spare.keep(sent);
+            }
+            Err(why) => put_refusal(self.face, out, why, bssid, self.number),
+        }
         Ok(())
     }
 }
@@ -51,43 +57,18 @@ impl<W: Sink> Deliver<Network, Buffered<'_, W>> for Replying {
 /// the next is asked. Each took fewer than 2^62 events before.
 pub fn reply_all<W: Sink>(
     face: Face,
-    access_point: &mut AccessPoint<Network>,
+    networks: &mut Networks<Network>,
     line: LentLine<'_>,
     number: u64,
     out: &mut Buffered<'_, W>,
 )
-    requires countable { AllByRecursion (λ n. n.events < 2 ^ 62) access_point.old }
+    requires countable { AllByRecursion (λ n. n.events < 2 ^ 62) networks.old }
     requires can_write { CanWrite W.failed out.old }
     ensures { HaveReplied (through face (watch W.taken W.failed) out.old out.new) number (line_of line.entry)
-        (change access_point.old access_point.new) }
+        (change networks.old networks.new) }
 {
-    match access_point.take(&Replying { face, number }, line, out) {
+    match networks.take(&Replying { face, number }, line, out) {
         Ok(()) => {}
         Err(NoMemory) => {}
-    }
-}
-
-/// Has a network take an event, where it took fewer than 2^62 before, and puts its reply: the frames that it sends, or
-/// that it refuses the line of a number.
-fn reply<W: Sink>(
-    face: Face,
-    network: &mut Network,
-    event: &ReceivedEvent<'_>,
-    number: u64,
-    spare: &mut Spare,
-    out: &mut Buffered<'_, W>,
-)
-    requires countable { network.old.events < 2 ^ 62 }
-    requires can_write { CanWrite W.failed out.old }
-    ensures { HasReplied (through face (watch W.taken W.failed) out.old out.new) number (event_received event.now)
-        (change network.old network.new) }
-{
-    let bssid = network.setting().network.bssid;
-    match network.take_received(event, spare) {
-        Ok(sent) => {
-            put_sent(face, out, bssid, &sent);
-            spare.keep(sent);
-        }
-        Err(why) => put_refusal(face, out, why, bssid, number),
     }
 }

@@ -2,9 +2,9 @@
 
 ghost use Rattle.std.specs.Prelude.{◌≡◌, ◌<◌, ◌≤◌, ◌+◌, ◌^◌, length, take, Ok, Err, IfOk, OnErr, OnOk};
 ghost use Rattle.std.specs.Io.KnownBytes.{Consumes, IsAtEnd, Keeps};
-ghost use Rattle.trace.specs.Endings.{Ends, failures_of, ending_of};
-ghost use Rattle.trace.specs.Sinks.{MayFail, failed_reads, report_ending};
-ghost use Rattle.trace.specs.Streams.{reads_after};
+ghost use Rattle.text_io.specs.Endings.{Ends, failures_of, ending_of};
+ghost use Rattle.text_io.specs.Sinks.{MayFail, failed_reads, report_ending};
+ghost use Rattle.text_io.specs.Streams.{reads_after};
 ghost use Rattle.live.specs.AnswerOctets.{count_record};
 ghost use Rattle.live.specs.Inputs.{empty_partial, face_of};
 ghost use Rattle.live.specs.Run.{AllAnswered, AnswersInput, Runs, live_ending, progress, seen, setup, streams};
@@ -13,10 +13,12 @@ ghost use Rattle.live.specs.Written.{written_count};
 use crate::face::{Face, InFace};
 use crate::fault::LiveFault;
 use crate::live_in::LiveIn;
+use config_text::read_config;
 use live_rules::{answers_to_more, enough_memory, lines_come_in_pieces, records_come_in_pieces};
+use report::write_count;
 use std::alloc::Global;
 use std::marker::Brand;
-use trace::{Failed, ReportFault, Sink, Source, read_config, write_all, write_count};
+use text_io::{Failed, ReportFault, Sink, Source, write_all};
 
 /// How many octets are read at a time.
 const PIECE_LEN: usize = 4096;

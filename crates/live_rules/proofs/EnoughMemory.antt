@@ -8,7 +8,7 @@ use Rattle.events.specs.declared.line.Line.{Line}
 use Rattle.network.specs.declared.network.NetworkRefusal.TheVariants.{NoMemory, Clock}
 use Rattle.live_rules.specs.Dispatch.{event_at}
 use Rattle.live_rules.specs.Moments.{Moment, Reply, Sends, Refuses, is_past_clock, reply_of, MayReply, reply_if, MayReplyIf}
-use Rattle.live_rules.specs.Asked.{Asked, HasFault, ForTables, Brings, Says}
+use Rattle.live_rules.specs.Asked.{Asked, ForTables, Says}
 use Rattle.live_rules.specs.Answers.{Answer, Replies, replies_from, MayReplyFrom, answer_of, MayAnswer, after_answer, Answers, answers_of, HasMemory, IsUnrefused, AreUnrefused}
 
 -- ---- what must be
@@ -36,8 +36,6 @@ line-only place (n ∷ ns) line (r ∷ rs) h k =
 
 answer-only : (m : Moment) (asked : Asked) (answer : Answer) → MayAnswer m asked answer → IsUnrefused answer
     → answer ≡ answer_of m asked
-answer-only m (Brings line) (Replies rs) h k =
-    ap (λ (r : List (Option Reply)). Replies r) (line-only 0 m.networks line rs h k)
 answer-only m (Says (Ok (Some line))) (Replies rs) h k =
     ap (λ (r : List (Option Reply)). Replies r) (line-only 0 m.networks line rs h k)
 answer-only m asked answer h k = h
@@ -71,9 +69,7 @@ line-may place [] line = refl
 line-may place (n ∷ ns) line = (reply-if-may n (event_at place n line), line-may (place + 1) ns line)
 
 answer-may : (m : Moment) (asked : Asked) → MayAnswer m asked (answer_of m asked)
-answer-may m (HasFault fault) = refl
 answer-may m ForTables = refl
-answer-may m (Brings line) = line-may 0 m.networks line
 answer-may m (Says (Ok None)) = refl
 answer-may m (Says (Ok (Some line))) = line-may 0 m.networks line
 answer-may m (Says (Err fault)) = refl
@@ -104,9 +100,7 @@ line-has-memory place (n ∷ ns) line =
     (reply-if-has-memory n (event_at place n line), line-has-memory (place + 1) ns line)
 
 answer-unrefused : (m : Moment) (asked : Asked) → IsUnrefused (answer_of m asked)
-answer-unrefused m (HasFault fault) = tt
 answer-unrefused m ForTables = tt
-answer-unrefused m (Brings line) = line-has-memory 0 m.networks line
 answer-unrefused m (Says (Ok None)) = tt
 answer-unrefused m (Says (Ok (Some line))) = line-has-memory 0 m.networks line
 answer-unrefused m (Says (Err fault)) = tt

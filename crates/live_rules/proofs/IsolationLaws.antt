@@ -10,7 +10,7 @@ use Rattle.ap_config.specs.declared.config.NetConfig.{NetConfig}
 use Rattle.ap_config.specs.declared.config.RadioConfig.{RadioConfig}
 use Rattle.events.specs.declared.event.Event.{Event}
 use Rattle.live_rules.specs.Moments.{Moment, first_moment, bssid_of}
-use Rattle.live_rules.specs.Asked.{Asked, HasFault, ForTables, Brings, Says}
+use Rattle.live_rules.specs.Asked.{Asked, ForTables, Says}
 use Rattle.live_rules.specs.Answers.{Answer, Tables, MayAnswer, after_answer, Answers}
 use Rattle.live_rules.specs.Own.{events_at, air_at, wire_at, alone_after, course, IsAlone, AreAlike}
 use Rattle.live_rules.proofs.OwnSteps.{AloneLaws, alone_after-none}
@@ -45,9 +45,7 @@ own-alone laws c said answers next place within h =
 
 tables-are : (m : Moment) (asked : Asked) (networks : List NetworkState) → MayAnswer m asked (Tables networks)
     → networks ≡ m.networks
-tables-are m (HasFault fault) networks h = cc
 tables-are m ForTables networks h = cc
-tables-are m (Brings line) networks h = cc
 tables-are m (Says (Ok None)) networks h = cc
 tables-are m (Says (Ok (Some line))) networks h = cc
 tables-are m (Says (Err fault)) networks h = cc

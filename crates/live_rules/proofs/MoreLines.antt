@@ -2,7 +2,7 @@
 use Rattle.std.proofs.Common.{◌≡◌, ℕ, suc, ◌+◌, List, [], ◌∷◌, ◌++◌, length, Some, Ok}
 use Rattle.std.proofs.Common.{refl, sym, ap, subst, ◌∙◌, arith}
 use Rattle.live_rules.specs.Moments.{Moment, bssids_at}
-use Rattle.live_rules.specs.Asked.{Asked, Brings, Says}
+use Rattle.live_rules.specs.Asked.{Asked, Says}
 use Rattle.live_rules.specs.Answers.{Answer, Replies}
 use Rattle.live_rules.specs.Answers.{after_answer, Answers, Begins, in_two}
 use Rattle.live_rules.proofs.OwnLines.{bssids-answer}
@@ -48,7 +48,6 @@ joins m said more answers next b =
 -- ---- how many
 
 lines-answer : (m : Moment) (asked : Asked) (answer : Answer) → (after_answer m asked answer).lines ≡ m.lines + 1
-lines-answer m (Brings line) (Replies rs) = refl
 lines-answer m (Says (Ok (Some line))) (Replies rs) = refl
 lines-answer m asked answer = refl
 

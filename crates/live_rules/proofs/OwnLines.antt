@@ -7,7 +7,7 @@ use Rattle.network.specs.NetworkView.{NetworkState}
 use Rattle.events.specs.declared.event.Event.{Event}
 use Rattle.events.specs.declared.line.Line.{Line}
 use Rattle.ap_config.specs.declared.setting.Setting.{Setting}
-use Rattle.live_rules.specs.Asked.{Asked, HasFault, ForTables, Brings, Says}
+use Rattle.live_rules.specs.Asked.{Asked, ForTables, Says}
 use Rattle.live_rules.specs.Answers.{Answer, Replies, MayReplyFrom, after_line_from, MayAnswer, after_answer, Answers}
 use Rattle.live_rules.specs.Dispatch.{event_at}
 use Rattle.live_rules.specs.Moments.{Moment, bssid_of, bssids_at, Reply, MayReplyIf, taken_if, after_if}
@@ -49,7 +49,6 @@ bssids-line first (n ∷ ns) line (r ∷ rs) =
     ∙ ap (λ (bs : List (List ℕ)). bssid_of n ∷ bs) (bssids-line (first + 1) ns line rs)
 
 pub bssids-answer : (m : Moment) (asked : Asked) (answer : Answer) → bssids_at (after_answer m asked answer) ≡ bssids_at m
-bssids-answer m (Brings line) (Replies rs) = bssids-line 0 m.networks line rs
 bssids-answer m (Says (Ok (Some line))) (Replies rs) = bssids-line 0 m.networks line rs
 bssids-answer m asked answer = refl
 
@@ -66,13 +65,9 @@ one-line : (place : ℕ) (m : Moment) (n : NetworkState) (asked : Asked) (answer
     → MayHaveReplied n (event_in place (bssid_of n) asked) (reply_in place answer)
     × (slice_get (after_answer m asked answer).networks place
     ≡ Some (after_if n (taken_if (event_in place (bssid_of n) asked) (reply_in place answer))))
-one-line place m n (Brings line) (Replies rs) h e =
-    let one = at-place 0 place place m.networks line rs n (omega arith) h e in
-    (may-have n (event_at place n line) (slice_index_or rs place None) one.0, one.1)
 one-line place m n (Says (Ok (Some line))) (Replies rs) h e =
     let one = at-place 0 place place m.networks line rs n (omega arith) h e in
     (may-have n (event_at place n line) (slice_index_or rs place None) one.0, one.1)
-one-line place m n (HasFault fault) (Replies rs) h e = absurd (cc)
 one-line place m n ForTables (Replies rs) h e = absurd (cc)
 one-line place m n (Says (Ok None)) (Replies rs) h e = absurd (cc)
 one-line place m n (Says (Err fault)) (Replies rs) h e = absurd (cc)

@@ -6,12 +6,12 @@ use Rattle.std.specs.List.{position}
 use Rattle.std.specs.Str.Lines.{lines, lines_of_parts, strip_carriage_return}
 use Rattle.std.proofs.lemmas.Bool.{ltb-true, lt-ltb}
 use Rattle.std.proofs.lemmas.List.{map-append, append-nil}
-use Rattle.trace.specs.Texts.{is_line_feed, LacksLineFeed}
+use Rattle.text_io.specs.Texts.{is_line_feed, LacksLineFeed}
 use Rattle.trace.specs.Pieces.{all_but_last, whole_lines, unfinished_line}
 use Rattle.trace.specs.LineLaws.{whole_lines-append, unfinished_line-append, lines-append, cut-unfinished}
 use Rattle.trace.specs.LineLaws.{whole_lines_more, unfinished_line_more, whole_lines_none, unfinished_line_none, lacks_both}
 use Rattle.trace.specs.LineLaws.{whole_lines_first, unfinished_line_first}
-use Rattle.trace.specs.TextLaws.{lacks_from_none}
+use Rattle.text_io.specs.TextLaws.{lacks_from_none}
 use Rattle.trace.specs.LineLaws.{last_part}
 use Rattle.live_rules.specs.TextLines.{TooLong, max_line, at_most, line_with, lines_of_text, ended_lines}
 use Rattle.live_rules.specs.TextLines.{partial_with, partial_in, with_first_too_long, lines_in, unless_ended, partial_after, last_line}

@@ -25,12 +25,12 @@ use Rattle.events.specs.declared.line.Line.{Line}
 use Rattle.network.specs.declared.network.NetworkRefusal.TheVariants.{NoMemory, Clock}
 use Rattle.events.specs.declared.section.Section.{Section}
 use Rattle.ap_config.specs.declared.setting.Setting.{Setting}
-use Rattle.trace.specs.Faults.{◌>>=◌}
+use Rattle.text_io.specs.Faults.{◌>>=◌}
 use Rattle.trace.specs.TraceText.{max_lines, without_spaces_at_end, content_of, said_by, line_of, lines_from, at_line, bssids_of}
 use Rattle.trace.specs.declared.fault.LineFault.{LineFault}
 use Rattle.trace.specs.declared.fault.LineFault.TheVariants.{UnknownKind, TooMany}
 use Rattle.trace.specs.declared.fault.TraceFault.{TraceFault}
-use Rattle.live_rules.specs.Asked.{Asked, HasFault, ForTables, Brings, Says, asks_for_tables, asked_by, asked_by_all, asked_in}
+use Rattle.live_rules.specs.Asked.{Asked, ForTables, Says, asks_for_tables, asked_by, asked_by_all, asked_in}
 use Rattle.live_rules.specs.Answers.{Answer, Nothing, Replies, Tables, Faulty, MayAnswer, after_answer, Answers, HasMemory, IsUnrefused, AreUnrefused}
 use Rattle.live_rules.specs.Moments.{Moment, first_moment, bssid_of, Reply, Sends, Refuses, is_past_clock, sending, MayReplyIf, taken_if}
 use Rattle.live_rules.specs.Own.{event_in, reply_in, events_taken, events_at, alone_after, course, line_said, AreLines, IsTrace, IsLikeTrace, IsShown, IsAlone}
@@ -161,20 +161,10 @@ taken-one reach s es (Some e) (Some (Refuses Clock)) sound few h k =
 taken-one reach s es (Some e) (Some (Sends air wire)) sound few h k = refl
 
 -- a line that was said has a reply
-reply-said : (place : ℕ) (m : Moment) (n : NetworkState) (line : Line) (answer : Answer)
-    → MayAnswer m (Brings line) answer → IsUnrefused answer → slice_get m.networks place ≡ Some n
-    → MayReplyIf n (event_in place (bssid_of n) (Brings line)) (reply_in place answer)
-reply-said place m n line (Replies rs) h k e = (at-place 0 place place m.networks line rs n (omega arith) h e).0
-reply-said place m n line Nothing h k e = absurd (cc)
-reply-said place m n line (Tables ns) h k e = absurd (cc)
-reply-said place m n line (Faulty f) h k e = absurd (cc)
-
 reply-read : (place : ℕ) (m : Moment) (n : NetworkState) (asked : Asked) (said : Option Line) (answer : Answer)
     → line_said asked ≡ Some said → MayAnswer m asked answer → IsUnrefused answer → slice_get m.networks place ≡ Some n
     → MayReplyIf n (event_in place (bssid_of n) asked) (reply_in place answer)
-reply-read place m n (HasFault f) said answer is h k e = absurd (cc)
 reply-read place m n ForTables said answer is h k e = absurd (cc)
-reply-read place m n (Brings line) said answer is h k e = reply-said place m n line answer h k e
 reply-read place m n (Says (Err f)) said answer is h k e = absurd (cc)
 reply-read place m n (Says (Ok None)) said (Replies rs) is h k e = absurd (cc)
 reply-read place m n (Says (Ok None)) said answer is h k e = refl
@@ -190,11 +180,7 @@ event-line place bssid line = sym (append-nil (heard_of place bssid line))
 
 event-said : (place : ℕ) (bssid : List ℕ) (asked : Asked) (said : Option Line) → line_said asked ≡ Some said
     → option_to_list (event_in place bssid asked) ≡ heard place bssid (option_to_list said)
-event-said place bssid (HasFault f) said is = absurd (cc)
 event-said place bssid ForTables said is = absurd (cc)
-event-said place bssid (Brings line) said is =
-    let same : Some line ≡ said = cc in
-    event-line place bssid line ∙ ap (λ (o : Option Line). heard place bssid (option_to_list o)) same
 event-said place bssid (Says (Err f)) said is = absurd (cc)
 event-said place bssid (Says (Ok None)) said is =
     let same : None ≡ said = cc in ap (λ (o : Option Line). heard place bssid (option_to_list o)) same

@@ -1,5 +1,5 @@
--- What is said as a record and as a line is the same, and so are the answers.
-use Rattle.std.proofs.Common.{◌≡◌, ℕ, ◌+◌, ◌-◌, ◌*◌, ◌/◌, ◌%◌, ◌<◌, ◌≤◌, Bool, true, false, zero, suc, List, [], ◌∷◌, ◌++◌, length, map, take, drop, get_or, Option, Some, None, Result, Ok, Err, refl, sym, ap, subst, ◌∙◌, arith, add-one, append_assoc, append-nil, length-append, take_at}
+-- What is said as a record and as a line is the same.
+use Rattle.std.proofs.Common.{◌≡◌, ℕ, ◌+◌, ◌-◌, ◌*◌, ◌/◌, ◌%◌, ◌<◌, ◌≤◌, Bool, true, false, zero, suc, List, [], ◌∷◌, ◌++◌, length, map, take, drop, get_or, Option, Some, None, Result, Ok, refl, sym, ap, subst, ◌∙◌, arith, add-one, append_assoc, append-nil, length-append, take_at}
 use Rattle.std.specs.Prelude.{nat_lt, slice_index, if◌then◌else◌}
 use Rattle.std.specs.List.{All, AllByRecursion, position_or_len, range_with_len, suffix_len, slice_split}
 use Rattle.std.specs.Option.{ok_or}
@@ -14,17 +14,14 @@ use Rattle.std.proofs.lemmas.List.Sums.{suffix_len_is}
 use Rattle.hex.specs.Hex.{IsBytes, encode_lower, encode_with, decode_of, lower_digits, hex_digit_value}
 use Rattle.hex.proofs.HexLemmas.{IsDigits-lower_digits, decode_of-encode_lower, length-encode_with}
 use Rattle.mac_frame.specs.Address.{IsAddress, address_text, address_of}
-use Rattle.events.specs.declared.line.Line.{Line}
 use Rattle.events.specs.declared.line.Line.TheVariants.{Air, Wire}
-use Rattle.trace.specs.Faults.{◌>>=◌}
-use Rattle.trace.specs.Texts.{ended, is_line_feed}
+use Rattle.text_io.specs.Faults.{◌>>=◌}
+use Rattle.text_io.specs.Texts.{ended, is_line_feed}
 use Rattle.trace.specs.TraceText.{max_octets, is_space, without_spaces_at_end, without_spaces_at_start, first_word, after_first_word, digits_of, octets_of, within_limit, place_with, place_named}
 use Rattle.trace.specs.declared.fault.LineFault.{LineFault}
 use Rattle.trace.specs.declared.fault.LineFault.TheVariants.{UnknownNetwork, NoAddress}
-use Rattle.live_rules.specs.Answers.{Answer, Nothing, Replies, Tables, Faulty, MayAnswer, after_answer, Answers}
-use Rattle.live_rules.specs.Asked.{Asked, HasFault, ForTables, Brings, Says, asked_by, asked_by_all}
-use Rattle.live_rules.specs.BothFaces.{Input, Heard, Wired, Interval, Question, IsInput, then_word, line_for, text_for, record_with, record_for, octets_for, SaySame, AllSaySame}
-use Rattle.live_rules.specs.Moments.{Moment}
+use Rattle.live_rules.specs.Asked.{Asked, Says, asked_by, asked_by_all}
+use Rattle.live_rules.specs.BothFaces.{Input, Heard, Wired, Interval, Question, IsInput, then_word, line_for, text_for, record_with, record_for, octets_for}
 use Rattle.live_rules.specs.Records.{IsRecord, AreRecords, record_asks, records_ask, wire_record}
 use Rattle.live_rules.specs.TextLines.{TextLine, Octets, line_with, lines_of_text, max_line}
 
@@ -256,14 +253,14 @@ record-is Question h = refl
 -- ---- that both say the same
 
 heard-same : (bssids : List (List ℕ)) (octets : List ℕ) → IsInput (Heard octets)
-    → SaySame (record_asks bssids (record_for (Heard octets))) (asked_by bssids (Octets (line_for (Heard octets))))
+    → record_asks bssids (record_for (Heard octets)) ≡ asked_by bssids (Octets (line_for (Heard octets)))
 heard-same bssids octets h =
     rw (not-over octets h.1)
-    (heard-line bssids (encode_lower octets) octets (digits-above octets h.0) (octets-back octets h.0 h.1))
+    (sym (heard-line bssids (encode_lower octets) octets (digits-above octets h.0) (octets-back octets h.0 h.1)))
 
 -- what a record and a line say of a frame to the network at a place, if there is one
 both-wire : (place : Option ℕ) (octets : List ℕ) → length octets ≤ max_octets
-    → SaySame (wire_record place octets) (wire_said place octets)
+    → wire_record place octets ≡ wire_said place octets
 both-wire None octets few = refl
 both-wire (Some p) octets few = rw (not-over octets few) refl
 
@@ -290,30 +287,28 @@ abbrev pub ComesBack : Type 0
 ComesBack = (address : List ℕ) → IsAddress address → address_of (address_text address) ≡ Some address
 
 wired-same : ComesBack → (bssids : List (List ℕ)) (address octets : List ℕ) → IsInput (Wired address octets)
-    → SaySame (record_asks bssids (record_for (Wired address octets))) (asked_by bssids (Octets (line_for (Wired address octets))))
+    → record_asks bssids (record_for (Wired address octets)) ≡ asked_by bssids (Octets (line_for (Wired address octets)))
 wired-same back bssids address octets h =
     let word : List ℕ = address_text address in
     let said : asked_by bssids (Octets (wire_line word (encode_lower octets))) ≡ wire_said (place_with address bssids) octets =
     wired-line bssids address word (encode_lower octets) octets (address-some address h.0) (address-above address h.0)
     (digits-above octets h.1) (back address h.0) (octets-back octets h.1 h.2) in
-    subst
-    (λ (brought : Asked). SaySame brought (asked_by bssids (Octets (line_for (Wired address octets)))))
-    (sym (wire-asks bssids address octets h.0))
-    (subst
-    (λ (s : Asked). SaySame (wire_record (place_with address bssids) octets) s)
-    (sym said) (both-wire (place_with address bssids) octets h.2))
+    wire-asks bssids address octets h.0 ∙ both-wire (place_with address bssids) octets h.2 ∙ sym said
 
 one-same : ComesBack → (bssids : List (List ℕ)) (input : Input) → IsInput input
-    → SaySame (record_asks bssids (record_for input)) (asked_by bssids (Octets (line_for input)))
+    → record_asks bssids (record_for input) ≡ asked_by bssids (Octets (line_for input))
 one-same back bssids (Heard octets) h = heard-same bssids octets h
 one-same back bssids (Wired address octets) h = wired-same back bssids address octets h
 one-same back bssids Interval h = refl
 one-same back bssids Question h = refl
 
 pub all-same : ComesBack → (bssids : List (List ℕ)) (inputs : List Input) → AllByRecursion IsInput inputs
-    → AllSaySame (records_ask bssids (map record_for inputs)) (asked_by_all bssids (map (λ input. Octets (line_for input)) inputs))
+    → records_ask bssids (map record_for inputs)
+    ≡ asked_by_all bssids (map (λ input. Octets (line_for input)) inputs)
 all-same back bssids [] h = refl
-all-same back bssids (input ∷ inputs) h = (one-same back bssids input h.0, all-same back bssids inputs h.1)
+all-same back bssids (input ∷ inputs) h =
+    ap (λ (a : Asked). a ∷ records_ask bssids (map record_for inputs)) (one-same back bssids input h.0)
+    ∙ ap (λ (others : List Asked). asked_by bssids (Octets (line_for input)) ∷ others) (all-same back bssids inputs h.1)
 
 -- ---- their octets
 
@@ -404,98 +399,3 @@ text-is (input ∷ inputs) h =
     ap (map line_with) (line-first (line_for input) (text_for inputs) l.some l.above)
     ∙ ap (λ (t : TextLine). t ∷ lines_of_text (text_for inputs)) (within-line (line_for input) l.short)
     ∙ ap (λ (ts : List TextLine). Octets (line_for input) ∷ ts) (text-is inputs h.1)
-
--- ---- the answers
-
--- it may be answered so, which leads to the same moment
-record MayBoth (m : Moment) (asked : Asked) (answer : Answer) (next : Moment) : Type 0 where
-  may : MayAnswer m asked answer
-  after : after_answer m asked answer ≡ next
-
-fault-both : (m : Moment) (fault : LineFault) (answer : Answer) → answer ≡ Faulty fault
-    → MayBoth m (Says (Err fault)) answer (after_answer m (HasFault fault) answer)
-fault-both m fault answer is =
-    subst
-    (λ (a : Answer). MayBoth m (Says (Err fault)) a (after_answer m (HasFault fault) a))
-    (sym is) (record { may = refl; after = refl })
-
-line-both : (m : Moment) (line : Line) (answer : Answer) → MayAnswer m (Brings line) answer
-    → MayBoth m (Says (Ok (Some line))) answer (after_answer m (Brings line) answer)
-line-both m line Nothing h = absurd (cc)
-line-both m line (Replies rs) h = record { may = h; after = refl }
-line-both m line (Tables ns) h = absurd (cc)
-line-both m line (Faulty f) h = absurd (cc)
-
-to-line : (m : Moment) (brought said : Asked) (answer : Answer) → SaySame brought said → MayAnswer m brought answer
-    → MayBoth m said answer (after_answer m brought answer)
-to-line m (HasFault fault) said answer is h =
-    subst (λ (s : Asked). MayBoth m s answer (after_answer m (HasFault fault) answer)) (sym is) (fault-both m fault answer h)
-to-line m ForTables said answer is h =
-    subst (λ (s : Asked). MayBoth m s answer (after_answer m ForTables answer)) (sym is) (record { may = h; after = refl })
-to-line m (Brings line) said answer is h =
-    subst (λ (s : Asked). MayBoth m s answer (after_answer m (Brings line) answer)) (sym is) (line-both m line answer h)
-to-line m (Says result) said answer is h = absurd is
-
-pub to-lines : (m : Moment) (records lines : List Asked) (answers : List Answer) (next : Moment)
-    → AllSaySame records lines → Answers m records answers next → Answers m lines answers next
-to-lines m [] [] answers next same h = h
-to-lines m [] (said ∷ lines) answers next same h = absurd (cc)
-to-lines m (brought ∷ records) [] answers next same h = absurd same
-to-lines m (brought ∷ records) (said ∷ lines) [] next same h = absurd h
-to-lines m (brought ∷ records) (said ∷ lines) (answer ∷ answers) next same h =
-    let one = to-line m brought said answer same.0 h.0 in (
-      one.may,
-      subst
-          (λ (o : Moment). Answers o lines answers next)
-          (sym one.after)
-          (to-lines (after_answer m brought answer) records lines answers next same.1 h.1),
-    )
-
-fault-back : (m : Moment) (fault : LineFault) (answer : Answer) → MayAnswer m (Says (Err fault)) answer
-    → answer ≡ Faulty fault
-fault-back m fault Nothing h = h
-fault-back m fault (Replies rs) h = h
-fault-back m fault (Tables ns) h = h
-fault-back m fault (Faulty f) h = h
-
-fault-read : (m : Moment) (fault : LineFault) (answer : Answer) → answer ≡ Faulty fault
-    → MayBoth m (HasFault fault) answer (after_answer m (Says (Err fault)) answer)
-fault-read m fault answer is =
-    subst
-    (λ (a : Answer). MayBoth m (HasFault fault) a (after_answer m (Says (Err fault)) a))
-    (sym is) (record { may = refl; after = refl })
-
-line-read : (m : Moment) (line : Line) (answer : Answer) → MayAnswer m (Says (Ok (Some line))) answer
-    → MayBoth m (Brings line) answer (after_answer m (Says (Ok (Some line))) answer)
-line-read m line Nothing h = absurd (cc)
-line-read m line (Replies rs) h = record { may = h; after = refl }
-line-read m line (Tables ns) h = absurd (cc)
-line-read m line (Faulty f) h = absurd (cc)
-
-to-record : (m : Moment) (brought said : Asked) (answer : Answer) → SaySame brought said
-    → MayAnswer m said answer → MayBoth m brought answer (after_answer m said answer)
-to-record m (HasFault fault) said answer is h =
-    subst (λ (s : Asked). MayBoth m (HasFault fault) answer (after_answer m s answer)) (sym is)
-    (fault-read m fault answer (fault-back m fault answer (subst (λ (s : Asked). MayAnswer m s answer) is h)))
-to-record m ForTables said answer is h =
-    subst (λ (s : Asked). MayBoth m ForTables answer (after_answer m s answer)) (sym is)
-    (record { may = subst (λ (s : Asked). MayAnswer m s answer) is h; after = refl })
-to-record m (Brings line) said answer is h =
-    subst (λ (s : Asked). MayBoth m (Brings line) answer (after_answer m s answer)) (sym is)
-    (line-read m line answer (subst (λ (s : Asked). MayAnswer m s answer) is h))
-to-record m (Says result) said answer is h = absurd is
-
-pub to-records : (m : Moment) (records lines : List Asked) (answers : List Answer) (next : Moment)
-    → AllSaySame records lines → Answers m lines answers next → Answers m records answers next
-to-records m [] [] answers next same h = h
-to-records m [] (said ∷ lines) answers next same h = absurd (cc)
-to-records m (brought ∷ records) [] answers next same h = absurd same
-to-records m (brought ∷ records) (said ∷ lines) [] next same h = absurd h
-to-records m (brought ∷ records) (said ∷ lines) (answer ∷ answers) next same h =
-    let one = to-record m brought said answer same.0 h.0 in (
-      one.may,
-      subst
-          (λ (o : Moment). Answers o records answers next)
-          (sym one.after)
-          (to-records (after_answer m said answer) records lines answers next same.1 h.1),
-    )

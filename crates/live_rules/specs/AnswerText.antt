@@ -5,8 +5,8 @@ use Rattle.network.specs.Network.{table_of, counts_of}
 use Rattle.network.specs.NetworkView.{NetworkState}
 use Rattle.network.specs.declared.network.NetworkRefusal.{NetworkRefusal}
 use Rattle.network.specs.declared.network.NetworkRefusal.TheVariants.{NoMemory, Clock}
-use Rattle.trace.specs.Report.{network_line, counts_line, station_line, frame_line}
-use Rattle.trace.specs.Texts.{ended}
+use Rattle.report.specs.Report.{network_line, counts_line, station_line, frame_line}
+use Rattle.text_io.specs.Texts.{ended}
 use Rattle.live_rules.specs.Moments.{Reply, Sends, Refuses}
 
 -- ---- faults

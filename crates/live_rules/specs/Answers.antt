@@ -1,12 +1,12 @@
 -- What is answered to what is said.
-use Rattle.std.specs.Prelude.{ℕ, ◌+◌, ◌≡◌, List, [], ◌∷◌, Option, Some, None, Result, Ok, Err, ◌++◌}
+use Rattle.std.specs.Prelude.{ℕ, ◌+◌, ◌≡◌, List, [], ◌∷◌, Option, Some, None, Ok, Err, ◌++◌}
 use Rattle.std.specs.Prelude.{IfSome}
 use Rattle.std.specs.List.{AllByRecursion}
 use Rattle.network.specs.NetworkView.{NetworkState}
 use Rattle.events.specs.declared.line.Line.{Line}
 use Rattle.network.specs.declared.network.NetworkRefusal.TheVariants.{NoMemory, Clock}
 use Rattle.trace.specs.declared.fault.LineFault.{LineFault}
-use Rattle.live_rules.specs.Asked.{Asked, HasFault, ForTables, Brings, Says}
+use Rattle.live_rules.specs.Asked.{Asked, ForTables, Says}
 use Rattle.live_rules.specs.Dispatch.{event_at}
 use Rattle.live_rules.specs.Moments.{Moment, one_line_more, Reply, Sends, Refuses, reply_if, MayReplyIf, taken_if}
 use Rattle.live_rules.specs.Moments.{after_if}
@@ -45,23 +45,18 @@ after_line_from place ns line replies = ns
 
 -- where memory suffices
 abbrev pub answer_of : Moment → Asked → Answer
-answer_of m (HasFault fault) = Faulty fault
 answer_of m ForTables = Tables m.networks
-answer_of m (Brings line) = Replies (replies_from 0 m.networks line)
 answer_of m (Says (Ok None)) = Nothing
 answer_of m (Says (Ok (Some line))) = Replies (replies_from 0 m.networks line)
 answer_of m (Says (Err fault)) = Faulty fault
 
 -- Reading takes no memory, so that nothing stays unread. Each network may refuse a line where memory runs out.
 abbrev pub MayAnswer : Moment → Asked → Answer → Type 0
-MayAnswer m (Brings line) (Replies replies) = MayReplyFrom 0 m.networks line replies
 MayAnswer m (Says (Ok (Some line))) (Replies replies) = MayReplyFrom 0 m.networks line replies
 MayAnswer m asked answer = answer ≡ answer_of m asked
 
 -- the moment after it: only the networks that took the line have changed
 abbrev pub after_answer : Moment → Asked → Answer → Moment
-after_answer m (Brings line) (Replies replies) =
-    record (one_line_more m) { networks = after_line_from 0 m.networks line replies }
 after_answer m (Says (Ok (Some line))) (Replies replies) =
     record (one_line_more m) { networks = after_line_from 0 m.networks line replies }
 after_answer m asked answer = one_line_more m

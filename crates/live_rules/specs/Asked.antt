@@ -1,5 +1,5 @@
 -- What is said to the networks, however it came, and what a line of a text says.
-use Rattle.std.specs.Prelude.{ℕ, Bool, List, map, codes, Option, Result, if◌then◌else◌}
+use Rattle.std.specs.Prelude.{ℕ, Bool, List, map, codes, Option, Some, Result, Ok, Err, if◌then◌else◌}
 use Rattle.std.specs.Str.{bytes_eq}
 use Rattle.events.specs.declared.line.Line.{Line}
 use Rattle.trace.specs.TraceText.{without_spaces_at_end, said_by}
@@ -8,13 +8,19 @@ use Rattle.trace.specs.declared.fault.LineFault.TheVariants.{TooMany}
 use Rattle.live_rules.specs.Moments.{Moment, bssids_at}
 use Rattle.live_rules.specs.TextLines.{TextLine, Octets, TooLong}
 
--- A fault of a record or of a line that is too long; a question for what the report says of each network but for its
--- frames; what a record brings; or what a line of a trace says, with its first fault.
+-- A question for what the report says of each network but for its frames; or what a line of a trace says: what happened,
+-- nothing where it is skipped, or its first fault. A record, too, and a line that is too long say one of these.
 pub data Asked : Type 0 where
-  HasFault : LineFault → Asked
   ForTables : Asked
-  Brings : Line → Asked
   Says : Result (Option Line) LineFault → Asked
+
+-- this happened
+abbrev pub brings : Line → Asked
+brings line = Says (Ok (Some line))
+
+-- it has this fault
+abbrev pub has_fault : LineFault → Asked
+has_fault fault = Says (Err fault)
 
 -- ---- lines
 
@@ -24,7 +30,7 @@ asks_for_tables octets = bytes_eq (without_spaces_at_end octets) (codes "I")
 
 -- what a line says to networks with these addresses; one that is too long has a fault, whatever it is
 abbrev pub asked_by : List (List ℕ) → TextLine → Asked
-asked_by bssids TooLong = HasFault TooMany
+asked_by bssids TooLong = has_fault TooMany
 asked_by bssids (Octets octets) = if asks_for_tables octets then ForTables else Says (said_by bssids octets)
 
 -- what lines say, one after the other

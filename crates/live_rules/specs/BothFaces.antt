@@ -1,10 +1,9 @@
--- What may be said in either face: its line, its record, and that both say the same (profile).
-use Rattle.std.specs.Prelude.{◌≡◌, ℕ, ◌/◌, ◌%◌, ◌≤◌, List, [], ◌∷◌, ◌++◌, length, map, flat_map, codes, Some, Ok, Err}
+-- What may be said in either face: its line and its record (profile).
+use Rattle.std.specs.Prelude.{ℕ, ◌/◌, ◌%◌, ◌≤◌, List, [], ◌∷◌, ◌++◌, length, map, flat_map, codes}
 use Rattle.hex.specs.Hex.{IsBytes, encode_lower}
 use Rattle.mac_frame.specs.Address.{IsAddress, address_text}
-use Rattle.trace.specs.Texts.{ended}
+use Rattle.text_io.specs.Texts.{ended}
 use Rattle.trace.specs.TraceText.{max_octets}
-use Rattle.live_rules.specs.Asked.{Asked, HasFault, ForTables, Brings, Says}
 use Rattle.live_rules.specs.Records.{nobody, all_octets}
 
 -- a string that was heard; a frame that came over the wire to the network with an address; the beginning of a beacon
@@ -56,18 +55,3 @@ record_for Question = record_with 73 nobody []
 -- their octets
 abbrev pub octets_for : List Input → List ℕ
 octets_for inputs = all_octets (map record_for inputs)
-
--- ---- that both say the same
-
--- what a record says, and what a line says
-abbrev pub SaySame : Asked → Asked → Type 0
-SaySame (HasFault fault) said = said ≡ Says (Err fault)
-SaySame ForTables said = said ≡ ForTables
-SaySame (Brings line) said = said ≡ Says (Ok (Some line))
-SaySame (Says result) said = ⊥
-
--- one after the other
-abbrev pub AllSaySame : List Asked → List Asked → Type 0
-AllSaySame [] said = said ≡ []
-AllSaySame (brought ∷ records) [] = ⊥
-AllSaySame (brought ∷ records) (said ∷ lines) = SaySame brought said × AllSaySame records lines

@@ -16,14 +16,13 @@ use Rattle.events.specs.declared.section.Section.{Section}
 use Rattle.trace.specs.TraceText.{lines_of}
 use Rattle.live_rules.specs.TextLines.{max_line}
 use Rattle.live_rules.specs.Moments.{Moment, first_moment, Reply, Sends, taken_if}
-use Rattle.live_rules.specs.Asked.{Asked, Brings, Says}
+use Rattle.live_rules.specs.Asked.{Asked, Says}
 use Rattle.live_rules.specs.Answers.{Answer, Replies, Tables, Answers, AreUnrefused}
 
 -- ---- its events
 
 -- the event that this is to it
 abbrev pub event_in : ℕ → List ℕ → Asked → Option Event
-event_in place bssid (Brings line) = event_for place bssid line
 event_in place bssid (Says (Ok (Some line))) = event_for place bssid line
 event_in place bssid asked = None
 
@@ -122,7 +121,6 @@ pub record IsShown (section : Section) (place : ℕ) (answers : List Answer) (ne
 
 -- what is said as a line of a trace says it, nothing where it is skipped; a fault and the question for tables say none
 abbrev pub line_said : Asked → Option (Option Line)
-line_said (Brings line) = Some (Some line)
 line_said (Says (Ok said)) = Some said
 line_said asked = None
 

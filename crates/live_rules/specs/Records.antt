@@ -9,7 +9,7 @@ use Rattle.events.specs.declared.line.Line.{Line}
 use Rattle.events.specs.declared.line.Line.TheVariants.{Air, Wire, Tick}
 use Rattle.trace.specs.TraceText.{max_octets, place_with}
 use Rattle.trace.specs.declared.fault.LineFault.TheVariants.{UnknownKind, NotHexadecimal, UnknownNetwork, TooMany}
-use Rattle.live_rules.specs.Asked.{Asked, HasFault, ForTables, Brings}
+use Rattle.live_rules.specs.Asked.{Asked, has_fault, ForTables, brings}
 
 -- ---- which octets are records
 
@@ -53,20 +53,20 @@ nobody = 0 ∷ 0 ∷ 0 ∷ 0 ∷ 0 ∷ 0 ∷ []
 
 -- this, unless the octets are too many
 abbrev pub within_limit : List ℕ → Line → Asked
-within_limit octets said = if nat_lt max_octets (length octets) then HasFault TooMany else Brings said
+within_limit octets said = if nat_lt max_octets (length octets) then has_fault TooMany else brings said
 
 -- `A`: a string that was heard
 abbrev pub air_record : (bssid octets : List ℕ) → Asked
-air_record bssid octets = if bytes_eq bssid nobody then within_limit octets (Air octets) else HasFault UnknownKind
+air_record bssid octets = if bytes_eq bssid nobody then within_limit octets (Air octets) else has_fault UnknownKind
 
 -- `W`: a frame that came over the wire to the network at a place, if there is one
 abbrev pub wire_record : Option ℕ → List ℕ → Asked
-wire_record None octets = HasFault UnknownNetwork
+wire_record None octets = has_fault UnknownNetwork
 wire_record (Some place) octets = within_limit octets (Wire place octets)
 
 -- what says no more than its kind
 abbrev pub bare_record : (bssid octets : List ℕ) → Asked → Asked
-bare_record bssid octets said = if bytes_eq bssid nobody && length octets == 0 then said else HasFault UnknownKind
+bare_record bssid octets said = if bytes_eq bssid nobody && length octets == 0 then said else has_fault UnknownKind
 
 -- What a record of this kind says to networks with these addresses. The kinds are `A`, `W`, `T`, the beginning of a
 -- beacon interval, and `I`, the question for tables, in ASCII.
@@ -74,9 +74,9 @@ abbrev pub kind_asks : List (List ℕ) → ℕ → (bssid octets : List ℕ) →
 kind_asks bssids kind bssid octets =
     if kind == 65 then air_record bssid octets
     else if kind == 87 then wire_record (place_with bssid bssids) octets
-    else if kind == 84 then bare_record bssid octets (Brings Tick)
+    else if kind == 84 then bare_record bssid octets (brings Tick)
     else if kind == 73 then bare_record bssid octets ForTables
-    else HasFault UnknownKind
+    else has_fault UnknownKind
 
 -- what a record says to networks with these addresses
 abbrev pub record_asks : List (List ℕ) → List ℕ → Asked
@@ -89,4 +89,4 @@ records_ask bssids records = map (record_asks bssids) records
 -- what the end of the input says after a partial record: one that is cut has the fault of digits that make no octets
 abbrev pub cut_record : List ℕ → List Asked
 cut_record [] = []
-cut_record (octet ∷ octets) = HasFault NotHexadecimal ∷ []
+cut_record (octet ∷ octets) = has_fault NotHexadecimal ∷ []

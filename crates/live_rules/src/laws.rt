@@ -9,12 +9,12 @@ ghost use Rattle.ap_config.specs.declared.setting.Setting.{Setting};
 ghost use Rattle.events.specs.declared.event.Event.{Event};
 ghost use Rattle.events.specs.declared.line.Line.{Line};
 ghost use Rattle.events.specs.declared.section.Section.{Section};
-ghost use Rattle.trace.specs.Report.{network_line, counts_line, station_line};
-ghost use Rattle.trace.specs.Texts.{ended};
+ghost use Rattle.report.specs.Report.{network_line, counts_line, station_line};
+ghost use Rattle.text_io.specs.Texts.{ended};
 ghost use Rattle.live_rules.specs.AnswerText.{table_text};
 ghost use Rattle.live_rules.specs.Answers.{Answer, Answers, answers_of, AreUnrefused};
 ghost use Rattle.live_rules.specs.Asked.{Asked, asked_by_all, asked_in};
-ghost use Rattle.live_rules.specs.BothFaces.{AllSaySame, Input, IsInput, line_for, octets_for, record_for};
+ghost use Rattle.live_rules.specs.BothFaces.{Input, IsInput, line_for, octets_for, record_for};
 ghost use Rattle.live_rules.specs.BothFaces.{text_for};
 ghost use Rattle.live_rules.specs.Moments.{Moment, first_moment};
 ghost use Rattle.live_rules.specs.Own.{IsAlone, AreAlike, AreLines, IsLikeTrace, IsShown, IsTrace, air_at, wire_at};
@@ -115,22 +115,16 @@ pub fn as_replayed()
 }
 
 /// What comes, a string that is heard, a frame over the wire, the beginning of a beacon interval or the question for
-/// tables, has a line and a record, and both say the same. The lines of a text of such lines are these, and the records
-/// of octets of such records.
-///
-/// Each list of answers to the records is one to the lines, and each to the lines is one to the records.
+/// tables, has a line and a record, and both say the same, so that both are answered alike. The lines of a text of such
+/// lines are these, and the records of octets of such records.
 pub fn either_face()
     ensures text { (inputs : List Input) → AllByRecursion IsInput inputs
         → lines_of_text (text_for inputs) ≡ map (λ input. Octets (line_for input)) inputs }
     ensures octets { (inputs : List Input) → AllByRecursion IsInput inputs
         → AreRecords (octets_for inputs) (map record_for inputs) [] }
     ensures same { (bssids : List (List ℕ)) (inputs : List Input) → AllByRecursion IsInput inputs
-        → AllSaySame (records_ask bssids (map record_for inputs))
-        (asked_by_all bssids (map (λ input. Octets (line_for input)) inputs)) }
-    ensures to_lines { (m : Moment) (records lines : List Asked) (answers : List Answer) (next : Moment)
-        → AllSaySame records lines → Answers m records answers next → Answers m lines answers next }
-    ensures to_records { (m : Moment) (records lines : List Asked) (answers : List Answer) (next : Moment)
-        → AllSaySame records lines → Answers m lines answers next → Answers m records answers next }
+        → records_ask bssids (map record_for inputs)
+        ≡ asked_by_all bssids (map (λ input. Octets (line_for input)) inputs) }
 {
     address_comes_back();
 }

@@ -9,8 +9,8 @@
 //! ([`two_inputs`]); that a text has the same lines and octets the same records however they are cut
 //! ([`lines_come_in_pieces`], [`records_come_in_pieces`]); that the answers to more go on from those to less
 //! ([`answers_to_more`]); that they are the ones of `answers_of` where memory suffices ([`enough_memory`]); that a trace is
-//! then answered as its report tells it, as far as a history would reach ([`as_replayed`]); and that lines and the
-//! records that say the same have the same answers ([`either_face`]), which are defined in `BothFaces`.
+//! then answered as its report tells it, as far as a history would reach ([`as_replayed`]); and that what comes says the
+//! same as a line and as a record, as `BothFaces` defines them, so both have the same answers ([`either_face`]).
 //!
 //! It has no code that runs: the crate `live` answers.
 #![tactic(auto)]

@@ -6,7 +6,7 @@ use live::{Face, Live, LiveFault, LiveRecords};
 use std::alloc::Global;
 use std::cell::Cell;
 use std::io::{self, ErrorKind, Read, Write};
-use trace::{Counted, Sink, Source};
+use text_io::{Counted, Sink, Source};
 
 /// More octets, and more lines, than any input here has.
 pub(crate) const MANY: usize = 1 << 32;

@@ -2,10 +2,11 @@
 
 use crate::asked::Asked;
 use crate::outcome::{ANSWER, Flaw, grow};
+use config_text::read_config;
 use live::Live;
 use std::alloc::Global;
 use std::str;
-use trace::{Counted, read_config};
+use text_io::Counted;
 
 /// More lines, and more octets, than any trace here has.
 const MANY: usize = 1 << 32;

@@ -2,11 +2,14 @@
 
 use crate::asked::Asked;
 use crate::outcome::{AGAIN, ANSWER, Flaw, ROOM, grow};
+use config_text::read_config;
 use events::Line;
 use live::{LiveFault, LiveRecords};
 use mac_frame::{MacAddr, address_at};
+use report::address_text;
 use std::alloc::Global;
-use trace::{Counted, address_text, read_config, read_trace};
+use text_io::Counted;
+use trace::read_trace;
 
 /// How many octets stand before those of a record: its kind, a BSSID, and how many follow.
 const HEADER_LEN: usize = 9;

@@ -5,12 +5,13 @@ ghost use Rattle.workers.specs.Names.{AreNamed};
 use crate::asked::Asked;
 use crate::outcome::{ANSWER, CHANGED, Flaw, grow, report_sections};
 use ap_config::{MAX_NETWORKS, RadioConfig};
+use config_text::read_config;
 use events::{Line, hears};
 use mac_frame::{MacAddr, NoMemory};
 use std::alloc::Global;
 use std::marker::Brand;
 use std::sync::Wait;
-use trace::{read_config, read_trace};
+use trace::read_trace;
 use workers::{Ap, ApName, Caller, FinishFault, Outcome, Parts};
 
 /// The address of the network at each place; none where there is no network.

@@ -2,12 +2,14 @@
 
 use crate::asked::Asked;
 use crate::outcome::{AGAIN, Flaw, ROOM, grow};
+use config_text::read_config;
 use events::Line;
 use mac_frame::NoMemory;
 use replay::run_text;
 use std::alloc::Global;
 use std::fmt::Write;
-use trace::{Counted, LineReader, ReadFault, read_config, read_trace};
+use text_io::{Counted, ReadFault};
+use trace::{LineReader, read_trace};
 
 /// The octets of a piece.
 const PIECE_LEN: usize = 7;

@@ -87,9 +87,7 @@ fn trial<R: Threads + Wait + Sync>(
         // `LiveRecords::run` over the lines as records, none of which is offered again; made again where it read none.
         "records" => answer_records(alloc, asked, report),
         // The calls of these names that write a report, `play` with the trace as the only one.
-        "report" | "text" | "stream" | "sections" | "streamed_sections" | "play" => {
-            write_twice(rt, alloc, asked, report)
-        }
+        "report" | "text" | "stream" | "sections" | "play" => write_twice(rt, alloc, asked, report),
         _ => Err(Flaw::Wrong("wrong: there is no such trial\n")),
     }
 }

@@ -4,12 +4,13 @@ use crate::asked::Asked;
 use crate::outcome::{AGAIN, CHANGED, Flaw, ROOM, grow, report_sections};
 use ap_config::RadioConfig;
 use bss_core::Radio;
+use config_text::read_config;
 use events::{Event, Line};
 use mac_frame::{List, NoMemory, Octets};
 use network::{Bss, Refusal};
 use std::alloc::Global;
 use std::fmt::Write;
-use trace::{read_config, read_trace};
+use trace::read_trace;
 
 /// Offers each line to the first network of a configuration, which hears them all. An event that is refused for memory
 /// must leave it as it was, and is offered again.

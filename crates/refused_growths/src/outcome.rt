@@ -2,8 +2,9 @@
 
 use events::Section;
 use mac_frame::NoMemory;
+use report::write_report;
 use std::alloc::{AllocError, Global};
-use trace::{Counted, write_report};
+use text_io::Counted;
 
 /// The octets of a piece of memory into which a report or another text is written, so that it takes one allocation.
 pub const ROOM: usize = 32768;

@@ -4,12 +4,13 @@ use crate::asked::Asked;
 use crate::outcome::{AGAIN, ANSWER, Flaw, ROOM, grow};
 use events::Section;
 use mac_frame::Octets;
-use replay::{StreamFault, TextFault, report_stream, report_texts, run_stream, run_text};
-use replay_play::{PlayTextFault, play_text};
+use play_text::{PlayTextFault, play_text};
+use replay::{StreamFault, TextFault, report_texts, run_stream, run_text};
+use report::write_report;
 use std::alloc::Global;
 use std::sync::Wait;
 use std::thread::Threads;
-use trace::{Counted, ReportFault, write_report};
+use text_io::{Counted, ReportFault};
 
 /// Makes the call of the trial, and makes it again where memory ran out. What it had written by then must be a
 /// prefix of what it writes in the end.
@@ -84,16 +85,6 @@ fn is_refused<R: Threads + Wait + Sync>(
         "sections" => match report_texts(alloc, asked.config, asked.trace, &mut out) {
             Ok(_) => Ok(false),
             Err(TextFault::NoMemory) => Ok(true),
-            Err(_) => Err(ANSWER),
-        },
-        "streamed_sections" => match report_stream(
-            alloc,
-            asked.config,
-            &mut Counted::new(asked.trace),
-            &mut out,
-        ) {
-            Ok(_) => Ok(false),
-            Err(StreamFault::NoMemory) => Ok(true),
             Err(_) => Err(ANSWER),
         },
         _ => match play_text(rt, alloc, asked.config, traces, &mut out) {

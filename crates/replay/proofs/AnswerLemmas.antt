@@ -5,18 +5,18 @@ use Rattle.ap_config.specs.declared.config.RadioConfig.{RadioConfig}
 use Rattle.ap_config.specs.declared.config.ConfigFault.{ConfigFault}
 use Rattle.events.specs.declared.section.Section.{Section}
 use Rattle.events.specs.declared.line.Line.{Line}
-use Rattle.trace.specs.ConfigurationText.{configuration_of}
-use Rattle.trace.specs.Endings.{IsFaultOf, Ends, ending_of}
-use Rattle.trace.specs.Faults.{read_as, read_ending, report_as}
-use Rattle.trace.specs.Report.{report_text}
-use Rattle.trace.specs.Sinks.{report_ending}
+use Rattle.config_text.specs.ConfigurationText.{configuration_of}
+use Rattle.text_io.specs.Endings.{IsFaultOf, Ends, ending_of}
+use Rattle.text_io.specs.Faults.{read_as, read_ending, report_as}
+use Rattle.report.specs.Report.{report_text}
+use Rattle.text_io.specs.Sinks.{report_ending}
 use Rattle.trace.specs.TraceText.{lines_of}
 use Rattle.trace.specs.declared.fault.TraceFault.{TraceFault}
 use Rattle.text_io.specs.declared.read_fault.ReadFault.{ReadFault}
 use Rattle.text_io.specs.declared.read_fault.ReadFault.TheVariants as reads
 use Rattle.text_io.specs.declared.report_fault.ReportFault.{ReportFault}
 use Rattle.text_io.specs.declared.report_fault.ReportFault.TheVariants as reports
-use Rattle.trace.specs.EndingLaws.{nothing_written, part_written, part_kept}
+use Rattle.text_io.specs.EndingLaws.{nothing_written, part_written, part_kept}
 use Rattle.replay.specs.Answer.{answered, replayed, answer_of, text_ending}
 use Rattle.network.specs.Section.{sections_of_lines}
 use Rattle.replay.specs.Stream.{AreSectionsOf}

@@ -12,11 +12,11 @@ use Rattle.network.specs.Network.{alone}
 use Rattle.network.specs.Samples.{network_of_one_event, probe, probe_for_another}
 use Rattle.network.specs.Samples.{section_of_a_probe_for_another, section_of_a_short_history, section_of_one_probe}
 use Rattle.network.specs.Section.{section_of}
-use Rattle.trace.specs.Report.{report_text, section_text, network_line, counts_line, frame_line}
+use Rattle.report.specs.Report.{report_text, section_text, network_line, counts_line, frame_line}
 use Rattle.replay.specs.Answer.{answer_of}
 use Rattle.replay.specs.declared.fault.TextFault.{TextFault}
 use Rattle.replay.specs.declared.fault.TextFault.TheVariants.{Config, Trace}
-use Rattle.trace.specs.OnLiterals.{configuration_on_literals}
+use Rattle.config_text.specs.OnLiterals.{configuration_on_literals}
 
 -- the sample, with this channel and this most events
 abbrev config_text : List ℕ → List ℕ → List ℕ

@@ -3,13 +3,13 @@ use Rattle.std.proofs.Common.{◌≡◌, ℕ, List, length, Option, Result, Ok, 
 use Rattle.std.proofs.KnownBytes.{Keeps-refl}
 use Rattle.ap_config.specs.declared.config.RadioConfig.{RadioConfig}
 use Rattle.ap_config.specs.declared.config.ConfigFault.{ConfigFault}
-use Rattle.trace.specs.ConfigurationText.{configuration_of}
-use Rattle.trace.specs.Endings.{IsFaultOf, Ends, ending_of}
-use Rattle.trace.specs.Faults.{read_as, read_ending}
-use Rattle.trace.specs.Report.{count_line}
+use Rattle.config_text.specs.ConfigurationText.{configuration_of}
+use Rattle.text_io.specs.Endings.{IsFaultOf, Ends, ending_of}
+use Rattle.text_io.specs.Faults.{read_as, read_ending}
+use Rattle.report.specs.Report.{count_line}
 use Rattle.text_io.specs.declared.read_fault.ReadFault.{ReadFault}
 use Rattle.text_io.specs.declared.read_fault.ReadFault.TheVariants.{At, NoMemory}
-use Rattle.trace.specs.EndingLaws.{nothing_written}
+use Rattle.text_io.specs.EndingLaws.{nothing_written}
 use Rattle.replay.specs.Answer.{text_ending}
 use Rattle.replay.specs.Checking.{checked, check_of}
 use Rattle.replay.specs.declared.fault.TextFault.TheVariants as texts

@@ -6,7 +6,7 @@ use Rattle.std.proofs.lemmas.List.{set-set, set-get_or, length-set, get_or-set_s
 use Rattle.bss_core.specs.RadioView.{NetworkView, RadioView, unused, view_at}
 use Rattle.replay.specs.Frames.{FrameLists, sent_at}
 use Rattle.replay.specs.Replay.{SendsOne, with_waiting}
-use Rattle.replay.specs.declared.drained_radio.DrainedRadio.{DrainedRadio}
+use Rattle.replay.specs.declared.model.drained_radio.DrainedRadio.{DrainedRadio}
 
 -- a place where a frame waits is one of the radio's
 pub place_there : (r : RadioView) (place : ℕ) (frame : List ℕ) (rest : List (List ℕ))

@@ -4,9 +4,9 @@ use Rattle.std.proofs.Common.{refl, ap, ◌∙◌, arith}
 use Rattle.std.proofs.Math.Numerals.{one-add}
 use Rattle.std.proofs.lemmas.List.Splits.{join_with_byte-slice_split}
 use Rattle.std.specs.List.{list_any, position_or_len, before_first, after_first, flat_map, join_with_byte}
-use Rattle.trace.specs.Texts.{LacksLineFeed, cut, ended}
+use Rattle.text_io.specs.Texts.{LacksLineFeed, cut, ended}
 use Rattle.replay.specs.Joined.{is_separator, joined_parts, parts_of}
-use Rattle.trace.specs.TextLaws.{cut-ended, cut-last}
+use Rattle.text_io.specs.TextLaws.{cut-ended, cut-last}
 
 -- ---- what stands round the first element that passes a test
 

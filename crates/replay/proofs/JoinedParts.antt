@@ -9,7 +9,7 @@ use Rattle.std.proofs.lemmas.List.Splits.{join_with_byte-slice_split}
 use Rattle.std.proofs.lemmas.Slice.Eq.{bytes_eq-Decides}
 use Rattle.std.specs.List.{All, list_any, position_or_len, before_first, after_first, flat_map, join_with_byte}
 use Rattle.std.specs.List.{onto_first}
-use Rattle.trace.specs.Texts.{LacksLineFeed, cut, ended}
+use Rattle.text_io.specs.Texts.{LacksLineFeed, cut, ended}
 use Rattle.replay.specs.Joined.{IsJoined, is_separator, joined_parts, parts_of, separator}
 
 -- ---- the lines of a text

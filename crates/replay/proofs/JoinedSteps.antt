@@ -5,10 +5,10 @@ use Rattle.std.proofs.Common.{length-take, length-drop, length-append, arith}
 use Rattle.std.proofs.lemmas.List.{drop-drop, take_rest}
 use Rattle.std.proofs.lemmas.List.Quantifiers.{position-Some}
 use Rattle.std.specs.List.{position}
-use Rattle.trace.specs.Texts.{is_line_feed, LacksLineFeed, ended}
+use Rattle.text_io.specs.Texts.{is_line_feed, LacksLineFeed, ended}
 use Rattle.replay.specs.Joined.{IsJoined, is_separator, joined_parts}
 use Rattle.replay.proofs.JoinedParts.{IsJoined-joined_parts}
-use Rattle.trace.specs.TextLaws.{around_line_feed, prefix_lacks, lacks_from_none}
+use Rattle.text_io.specs.TextLaws.{around_line_feed, prefix_lacks, lacks_from_none}
 use Rattle.replay.proofs.JoinedLines.{joined_parts-separator, joined_parts-other, joined_parts-last_separator}
 use Rattle.replay.proofs.JoinedLines.{joined_parts-last_other}
 

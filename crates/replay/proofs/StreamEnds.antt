@@ -7,19 +7,19 @@ use Rattle.ap_config.specs.declared.config.ConfigFault.{ConfigFault}
 use Rattle.events.specs.declared.line.Line.{Line}
 use Rattle.events.specs.declared.section.Section.{Section}
 use Rattle.network.specs.Section.{sections_of_lines}
-use Rattle.trace.specs.ConfigurationText.{configuration_of}
-use Rattle.trace.specs.Endings.{Well, Refused, OutOfMemory, IsFaultOf, Ends, failures_of, ending_of}
-use Rattle.trace.specs.Faults.{read_as, read_ending, report_as}
-use Rattle.trace.specs.Report.{report_text}
-use Rattle.trace.specs.Sinks.{report_ending}
-use Rattle.trace.specs.Streams.{SourceChange, SourceView, SinkView, Streams, Reads, changed}
+use Rattle.config_text.specs.ConfigurationText.{configuration_of}
+use Rattle.text_io.specs.Endings.{Well, Refused, OutOfMemory, IsFaultOf, Ends, failures_of, ending_of}
+use Rattle.text_io.specs.Faults.{read_as, read_ending, report_as}
+use Rattle.report.specs.Report.{report_text}
+use Rattle.text_io.specs.Sinks.{report_ending}
+use Rattle.text_io.specs.Streams.{SourceChange, SourceView, SinkView, Streams, Reads, changed}
 use Rattle.trace.specs.TraceText.{lines_of}
 use Rattle.trace.specs.declared.fault.TraceFault.{TraceFault}
 use Rattle.text_io.specs.declared.read_fault.ReadFault.{ReadFault}
 use Rattle.text_io.specs.declared.read_fault.ReadFault.TheVariants as reads
 use Rattle.text_io.specs.declared.report_fault.ReportFault.{ReportFault}
 use Rattle.text_io.specs.declared.report_fault.ReportFault.TheVariants as reports
-use Rattle.trace.specs.EndingLaws.{part_written, whole_written}
+use Rattle.text_io.specs.EndingLaws.{part_written, whole_written}
 use Rattle.replay.specs.Answer.{answer_of}
 use Rattle.trace.specs.Pieces.{AreTaken}
 use Rattle.replay.specs.Stream.{AreSectionsOf, ReadsToEnd, RunsStream, IsStreamFault, StopsIn}

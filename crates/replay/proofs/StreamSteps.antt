@@ -6,7 +6,7 @@ use Rattle.std.specs.Io.KnownBytes.{Consumes}
 use Rattle.ap_config.specs.declared.config.RadioConfig.{RadioConfig}
 use Rattle.events.specs.declared.line.Line.{Line}
 use Rattle.trace.specs.Pieces.{ReaderView, AreTakenSoFar}
-use Rattle.trace.specs.Streams.{SourceView, reads_after}
+use Rattle.text_io.specs.Streams.{SourceView, reads_after}
 use Rattle.replay.specs.Stream.{StopsIn}
 
 -- ---- what was read so far

@@ -4,9 +4,9 @@ use Rattle.network.specs.Section.{sections_of_lines}
 use Rattle.ap_config.specs.declared.config.RadioConfig.{RadioConfig}
 use Rattle.ap_config.specs.declared.config.ConfigFault.{ConfigFault}
 use Rattle.events.specs.declared.line.Line.{Line}
-use Rattle.trace.specs.ConfigurationText.{configuration_of}
-use Rattle.trace.specs.Endings.{Ending, Refused, WriteFailed, OutOfMemory}
-use Rattle.trace.specs.Report.{report_text}
+use Rattle.config_text.specs.ConfigurationText.{configuration_of}
+use Rattle.text_io.specs.Endings.{Ending, Refused, WriteFailed, OutOfMemory}
+use Rattle.report.specs.Report.{report_text}
 use Rattle.trace.specs.TraceText.{lines_of}
 use Rattle.trace.specs.declared.fault.TraceFault.{TraceFault}
 use Rattle.replay.specs.declared.fault.TextFault.{TextFault}

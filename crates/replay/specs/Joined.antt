@@ -2,7 +2,7 @@
 use Rattle.std.specs.Prelude.{◌≡◌, ◌≢◌, ℕ, Bool, if◌then◌else◌, codes, List, [], ◌∷◌, ◌++◌, All, ◌⊎◌}
 use Rattle.std.specs.List.{list_any, before_first, after_first, flat_map, join_with_byte}
 use Rattle.std.specs.Str.{bytes_eq}
-use Rattle.trace.specs.Texts.{LacksLineFeed, cut, ended}
+use Rattle.text_io.specs.Texts.{LacksLineFeed, cut, ended}
 
 -- the line between the parts
 abbrev pub separator : List ℕ

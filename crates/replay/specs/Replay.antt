@@ -12,7 +12,7 @@ use Rattle.events.specs.declared.section.Section.{Section}
 use Rattle.events.specs.declared.line.Line.{Line}
 use Rattle.events.specs.Lines.{event_for, own_events, taken_of}
 use Rattle.replay.specs.Frames.{FrameLists, sent_at, sends_more}
-use Rattle.replay.specs.declared.drained_radio.DrainedRadio.{DrainedRadio}
+use Rattle.replay.specs.declared.model.drained_radio.DrainedRadio.{DrainedRadio}
 
 -- ---- a radio between two lines
 

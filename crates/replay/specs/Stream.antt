@@ -6,11 +6,11 @@ use Rattle.network.specs.Section.{sections_of_lines}
 use Rattle.ap_config.specs.declared.config.RadioConfig.{RadioConfig}
 use Rattle.events.specs.declared.line.Line.{Line}
 use Rattle.events.specs.declared.section.Section.{Section}
-use Rattle.trace.specs.ConfigurationText.{configuration_of}
-use Rattle.trace.specs.Endings.{Ending, Refused, ReadFailed, WriteFailed, OutOfMemory, AppendsPrefix, ending_of}
-use Rattle.trace.specs.Endings.{failures_of}
+use Rattle.config_text.specs.ConfigurationText.{configuration_of}
+use Rattle.text_io.specs.Endings.{Ending, Refused, ReadFailed, WriteFailed, OutOfMemory, AppendsPrefix, ending_of}
+use Rattle.text_io.specs.Endings.{failures_of}
 use Rattle.trace.specs.Pieces.{whole_lines}
-use Rattle.trace.specs.Streams.{SourceChange, SourceView, Streams, Reads, changed}
+use Rattle.text_io.specs.Streams.{SourceChange, SourceView, Streams, Reads, changed}
 use Rattle.trace.specs.TraceText.{bssids_of, lines_from, lines_of}
 use Rattle.replay.specs.Answer.{answer_of}
 use Rattle.replay.specs.declared.fault.StreamFault.{StreamFault}

@@ -1,14 +1,16 @@
 //! What is said of a configuration alone: how many networks it has, or its first fault.
 
 ghost use Rattle.std.specs.Prelude.{◌≡◌, ◌+◌};
-ghost use Rattle.trace.specs.Endings.{Ends, failures_of, ending_of};
-ghost use Rattle.trace.specs.Sinks.{MayFail};
+ghost use Rattle.text_io.specs.Endings.{Ends, failures_of, ending_of};
+ghost use Rattle.text_io.specs.Sinks.{MayFail};
 ghost use Rattle.replay.specs.Answer.{text_ending};
 ghost use Rattle.replay.specs.Checking.{check_of};
 
 use crate::fault::TextFault;
+use config_text::read_config;
+use report::write_count;
 use std::alloc::Global;
-use trace::{Sink, read_config, write_count};
+use text_io::Sink;
 
 /// Reads a configuration, and appends `ok N` and LF to what `out` has taken, N the number of its networks in decimal
 /// digits.

@@ -1,13 +1,15 @@
 //! Why a text was not answered.
 
 ghost use Rattle.std.specs.Prelude.{◌≡◌};
-ghost use Rattle.trace.specs.Faults.{read_as, report_as};
+ghost use Rattle.text_io.specs.Faults.{read_as, report_as};
 ghost use Rattle.replay.specs.declared.fault.StreamFault.TheVariants as streams;
 ghost use Rattle.replay.specs.declared.fault.TextFault.TheVariants as texts;
 
 use ap_config::ConfigFault;
+use config_text::ConfigTextFault;
 use mac_frame::NoMemory;
-use trace::{ConfigTextFault, ReportFault, TraceFault, TraceTextFault};
+use text_io::ReportFault;
+use trace::{TraceFault, TraceTextFault};
 
 /// Why a configuration's and a trace's text were not answered.
 #[derive(Clone, Copy, Debug, PartialEq, Eq)]

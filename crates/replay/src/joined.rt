@@ -3,7 +3,7 @@
 ghost use Rattle.replay.specs.Joined.{IsJoined, is_separator, joined_parts};
 ghost use Rattle.std.specs.Prelude.{◌≡◌};
 
-use trace::place_of;
+use text_io::place_of;
 
 /// What stands alone on the line between a configuration and a trace.
 const SEPARATOR: &[u8] = b"---";

@@ -5,26 +5,25 @@
 //! of its own events of the trace; that a fault of the configuration or of the trace is the first one, and nothing was
 //! written then; and that where memory ran out or a write failed, what was written is nothing or a prefix of that
 //! report. [`run_stream`] promises the same of a trace that it reads as it comes, a piece at a time. Both keep no
-//! history; [`report_texts`] and [`report_stream`] promise the same, and hand out the sections with the events. A
-//! [`Replay`] makes the sections of a report, one line at a time. [`split_joined`] cuts a text in which a configuration
-//! and a trace stand, and [`check_text`] writes how many networks a configuration has, or answers its first fault.
+//! history; [`report_texts`] promises the same, and hands out the sections with the events. A [`Replay`] makes the
+//! sections of a report, one line at a time. [`split_joined`] cuts a text in which a configuration and a trace stand, and
+//! [`check_text`] writes how many networks a configuration has, or answers its first fault.
+//!
+//! There are two ways to it, each in a folder of its own. In `run` the networks keep no history. In `model` a radio with
+//! its queue takes the lines, and each network keeps its events: that is the definition of a radio in code, and the way of
+//! standard input. Both answer one definition, `answer_of`, with the same faults.
 //!
 //! Where the texts come from, and where the report goes, is left to the program.
 #![tactic(auto)]
 
 mod check;
-mod drained_radio;
 mod fault;
 mod joined;
-mod logged_networks;
-mod radio_replay;
-mod sent_frames;
-mod stream;
-mod text;
+mod model;
+mod run;
 
 pub use check::check_text;
 pub use fault::{StreamFault, TextFault};
 pub use joined::split_joined;
-pub use radio_replay::Replay;
-pub use stream::{report_stream, run_stream};
-pub use text::{report_texts, run_text};
+pub use model::{Replay, report_texts};
+pub use run::{run_stream, run_text};

@@ -1,4 +1,4 @@
-//! Tests of the crates `replay` and `replay_play`, over their public calls.
+//! Tests of the crates `replay` and `play_text`, over their public calls.
 //!
 //! They show what neither a contract nor a run of the program shows: that calls succeed where there is memory, and what
 //! they answer where readers and writers fail, texts come in pieces, or histories are full. What the program writes of

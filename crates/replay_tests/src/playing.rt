@@ -2,9 +2,10 @@
 
 use fixtures::texts::{ANSWERED_REPORT, CONFIGURATION, PROBE_LINE};
 use mac_frame::Octets;
-use replay_play::{PlayTextFault, play_text};
+use play_text::{PlayTextFault, play_text};
 use std::test::Fail;
-use trace::{Counted, TraceFault};
+use text_io::Counted;
+use trace::TraceFault;
 
 /// The first trace with a fault is told, and how many there are before any of their faults.
 #[test]

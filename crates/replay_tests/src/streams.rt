@@ -2,11 +2,13 @@
 
 use ap_config::ConfigFault;
 use fixtures::texts::{CONFIGURATION, PROBE_LINE};
-use replay::{StreamFault, report_stream, report_texts, run_stream, run_text};
+use replay::{StreamFault, report_texts, run_stream, run_text};
+use report::write_report;
 use std::alloc::Global;
 use std::io::{self, ErrorKind, Read};
 use std::test::Fail;
-use trace::{Counted, Source, TraceFault, write_report};
+use text_io::{Counted, Source};
+use trace::TraceFault;
 
 /// A reader that gives a few octets at a time, and may fail where they end.
 #[derive(Drop)]
@@ -71,8 +73,8 @@ fn pieces_of_any_length_have_one_report(rt: HostRuntime) -> Result<(), Fail> {
 const UNIT_LINE: &str =
     "\nA 08010000 020000000001 02aa00000001 02bb00000001 0000 aaaa03000000 0800 01\n";
 
-/// `run_text` and `run_stream` keep no history, and what they write is the report of the sections that `report_texts` and
-/// `report_stream` hand out, also where more lines come than a history may have events.
+/// `run_text` and `run_stream` keep no history, and what they write is the report of the sections that `report_texts`
+/// hands out, also where more lines come than a history may have events.
 #[test]
 fn one_report_with_histories_and_without(rt: HostRuntime) -> Result<(), Fail> {
     let alloc = rt.alloc();
@@ -86,17 +88,11 @@ fn one_report_with_histories_and_without(rt: HostRuntime) -> Result<(), Fail> {
     let sections = report_texts(alloc, config, trace.as_bytes(), &mut out)?;
     let report = out.into_inner();
     let mut out = Counted::new(Vec::new(alloc));
-    let mut source = Counted::new(whole_pieces(trace.as_bytes()));
-    let streamed = report_stream(alloc, config, &mut source, &mut out)?;
+    assert_eq!(rt; write_report(alloc, sections.as_slice(), &mut out), Ok(()));
     assert_eq!(rt; out.into_inner().as_slice(), report.as_slice());
-    for sections in [sections.as_slice(), streamed.as_slice()] {
-        let mut out = Counted::new(Vec::new(alloc));
-        assert_eq!(rt; write_report(alloc, sections, &mut out), Ok(()));
-        assert_eq!(rt; out.into_inner().as_slice(), report.as_slice());
-        for section in sections {
-            assert_eq!(rt; section.events.as_slice().len(), 100);
-            assert_eq!(rt; section.wire.as_slice().len(), 16);
-        }
+    for section in sections.as_slice() {
+        assert_eq!(rt; section.events.as_slice().len(), 100);
+        assert_eq!(rt; section.wire.as_slice().len(), 16);
     }
     let mut out = Counted::new(Vec::new(alloc));
     assert_eq!(rt; run_text(alloc, config, trace.as_bytes(), &mut out), Ok(()));

@@ -4,7 +4,7 @@ use ap_config::ConfigFault;
 use fixtures::texts::{ANSWERED_REPORT, CONFIGURATION, PROBE_LINE, TICK_LINE};
 use replay::{TextFault, run_text};
 use std::test::Fail;
-use trace::{Counted, Sink};
+use text_io::{Counted, Sink};
 
 #[test]
 fn failing_writer(rt: HostRuntime) -> Result<(), Fail> {

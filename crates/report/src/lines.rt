@@ -15,7 +15,7 @@ use ap_config::NetConfig;
 use events::StationRow;
 use mac_frame::MacAddr;
 use station_state::Standing;
-use text_io::{Buffered, Sink};
+use text_io::{Buffered, Sink, digits};
 
 /// What the line of a network's counts tells. Those of a history fit 32 bits; a network that runs without one may go
 /// on to count.

@@ -1,2 +1,10 @@
 pub mod OctetPlaces
 pub mod OctetDigits
+pub mod DigitBlocks
+pub mod DigitDecoded
+pub mod DigitEncoded
+pub mod DigitLanes
+pub mod DigitMarks
+pub mod DigitPairLanes
+pub mod DigitSpelling
+pub mod DigitValues

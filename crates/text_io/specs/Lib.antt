@@ -9,3 +9,4 @@ pub mod Streams
 pub mod Buffers
 pub mod DeliveryLaws
 pub mod BufferLaws
+pub mod Pairs

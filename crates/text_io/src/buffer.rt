@@ -3,6 +3,7 @@
 ghost use Rattle.std.specs.Prelude.{◌≡◌, ◌+◌, ◌*◌, ◌≤◌, ◌++◌, [], false, length, flat_map};
 ghost use Rattle.hex.specs.Hex.{encode_lower};
 
+use crate::digits;
 use crate::sink::{Failed, Sink, write_all};
 
 /// How many octets become digits at a time where the piece has no room for all of them.

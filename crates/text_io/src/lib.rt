@@ -5,12 +5,15 @@
 //! where a write failed, a prefix of it, [`Buffered`] promises the same of all that is put into it, and [`write_each`] of
 //! items that are put into one, one after another.
 //!
+//! [`digits`] is how octets are spelled in hexadecimal, many octets a step.
+//!
 //! What the octets say is left to the crates above. How a call can end (well, refused by a fault, a read or a write
 //! failed, out of memory) and what its sink and its source did then is said here once for all of them.
 #![tactic(auto)]
 
 mod buffer;
 mod counted;
+pub mod digits;
 mod each;
 mod read_fault;
 mod report_fault;

@@ -14,7 +14,7 @@ use Rattle.events.specs.declared.event.Event.{Event}
 use Rattle.events.specs.declared.section.Section.{Section}
 use Rattle.network.specs.Network.{alone}
 use Rattle.network.specs.Section.{section_of}
-use Rattle.play_result.specs.Sections.{ArePlaced, AreSections, HaveLeft}
+use Rattle.play.specs.Sections.{ArePlaced, AreSections, HaveLeft}
 use Rattle.thread_laws.specs.Steps.{AreGivenBy, steps_of, takes_from, leaves_of}
 use Rattle.thread_laws.proofs.Lists.{steps-append, for-all, sections-by}
 use Rattle.thread_laws.proofs.Taking.{AreAllTaken, first-unsent, no-events, takes-all}

@@ -4,9 +4,9 @@ ghost use Rattle.std.specs.Prelude.{◌≡◌, List, None, length};
 ghost use Rattle.ap_config.specs.Configuration.{fault_of};
 ghost use Rattle.ap_config.specs.declared.config.RadioConfig.{RadioConfig};
 ghost use Rattle.events.specs.declared.line.Line.{Line};
-ghost use Rattle.play_result.specs.Played.{IsPlayOf};
-ghost use Rattle.play_result.specs.Sections.{ArePlaced, AreSections, HaveLeft};
-ghost use Rattle.play_result.specs.declared.finished.Finished.{Finished};
+ghost use Rattle.play.specs.Played.{IsPlayOf};
+ghost use Rattle.play.specs.Sections.{ArePlaced, AreSections, HaveLeft};
+ghost use Rattle.play.specs.declared.finished.Finished.{Finished};
 ghost use Rattle.thread_laws.specs.Steps.{AreGivenBy, steps_of};
 
 /// What an access point of threads ends with, of a configuration without a fault, is what some steps of a radio give: each
@@ -14,7 +14,7 @@ ghost use Rattle.thread_laws.specs.Steps.{AreGivenBy, steps_of};
 /// (*profile*). No frame is queued after them.
 ///
 /// The conditions of `ended` are what `Ap::finish` and `play` of `workers` ensure where they end well. Those of `played`
-/// are what `play` ensures; what `play_logged` of `concurrent_play` answers are the networks of such an end.
+/// are what `play` ensures; what `play_with_frames` of `play` answers are the networks of such an end.
 pub fn as_steps()
     ensures ended { (config : RadioConfig) (end : Finished) → fault_of config ≡ None
         → length end.sections ≡ length config.networks → AreSections config end.sections

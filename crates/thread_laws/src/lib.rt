@@ -3,7 +3,7 @@
 //!
 //! The law [`as_steps`] ties the two: what a run with threads hands out is what some list of steps of a radio gives. So
 //! all that is said of a radio's steps is said of it too, as that no network touches another (`two_worlds` of `bss_core`).
-//! Which steps they are stands in the definitions (`Steps`). How threads run is left to `workers` and `concurrent_play`.
+//! Which steps they are stands in the definitions (`Steps`). How threads run is left to `workers` and `play`.
 #![tactic(auto)]
 
 mod laws;

@@ -4,9 +4,10 @@
 //! ([`cut_anywhere`]), and [`read_trace`] the lines that a whole text writes, or its first fault, or that memory ran
 //! out.
 //!
-//! The other texts have crates of their own, and are given on here, so that callers name one crate for all of them: the
-//! configuration `config_text`, the report `report`, and the octets that go in and out `text_io`. Which lines a network
-//! hears, and what it does about them, is left to the networks.
+//! The other texts have crates of their own: the configuration `config_text`, the report `report`, and the octets that
+//! go in and out `text_io`. Of these it gives on what a caller needs from a text to a report: [`read_config`],
+//! [`write_report`], and [`Counted`] to read from and write to. Which lines a network hears, and what it does about
+//! them, is left to the networks.
 #![tactic(auto)]
 
 mod fault;
@@ -25,15 +26,7 @@ pub use line::{place_with, read_content, read_line, without_spaces_at_end};
 pub use line_buffer::LineBuffer;
 pub use line_reader::LineReader;
 pub use read::read_trace;
-pub use report::{
-    AsText, LineForm, Reported, Totals, address_text, put_counts_line, put_counts_line_in,
-    put_end_line, put_end_line_in, put_frame_line, put_frames, put_heading_in, put_network_line,
-    put_network_line_in, put_section_in, put_station_line, put_station_line_in, write_count,
-    write_report,
-};
+pub use report::write_report;
 pub use take_lines::TakeLines;
 pub use take_text::{TakeText, cut_text};
-pub use text_io::{
-    Buffered, Counted, Failed, PutItem, ReadFault, ReportFault, Sink, Source, place_of,
-    without_carriage_return, write_all, write_each,
-};
+pub use text_io::{Counted, Failed, ReportFault, Sink, Source};

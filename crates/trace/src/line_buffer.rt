@@ -12,6 +12,7 @@ use mac_frame::NoMemory;
 use std::alloc::Global;
 use std::marker::Model;
 use std::simd::prelude::*;
+use text_io::digits;
 
 /// The most octets of a line.
 const MAX_OCTETS: usize = 4096;

@@ -1,17 +1,18 @@
-ghost use Rattle.trace.specs.Buffers.{CanWrite};
+ghost use Rattle.text_io.specs.Buffers.{CanWrite};
 
 use ap_config::NetConfig;
 use events::{Counts, Event, Section, StationRow};
 use fixtures::{lab, octets};
 use mac_frame::{List, MacAddr, Octets};
+use report::{
+    Totals, put_counts_line, put_end_line, put_frame_line, put_network_line, put_station_line,
+    write_report,
+};
 use station_state::Standing;
 use std::alloc::Global;
 use std::io::{self, ErrorKind, Read, Write};
 use std::test::Fail;
-use trace::{
-    Buffered, Counted, Failed, ReportFault, Sink, Source, Totals, put_counts_line, put_end_line,
-    put_frame_line, put_network_line, put_station_line, write_report,
-};
+use text_io::{Buffered, Counted, Failed, ReportFault, Sink, Source};
 
 /// The report of [`section`].
 const REPORT: &str = "network 02:00:00:00:00:01 ssid 6c6162\n\

@@ -1,13 +1,11 @@
 use ap_config::RadioConfig;
+use config_text::read_config;
 use events::{LentLine, Line};
 use mac_frame::MacAddr;
 use std::alloc::Global;
 use std::process::Abort;
 use std::test::Fail;
-use trace::{
-    LineBuffer, LineFault, LineReader, TraceFault, TraceTextFault, read_config, read_line,
-    read_trace,
-};
+use trace::{LineBuffer, LineFault, LineReader, TraceFault, TraceTextFault, read_line, read_trace};
 
 /// A configuration of two networks, in whose addresses is a letter. No two values of a network are the same.
 const CONFIGURATION: &[u8] = b"version = 2\nchannel = 6\ninterval = 100\nqueue = 64\n\

@@ -11,26 +11,20 @@ use Rattle.ap_config.specs.Places.{setting_at}
 use Rattle.events.specs.Items.{items_of}
 use Rattle.network.specs.BssView.{section_with, BssView}
 use Rattle.network.specs.Section.{section_of}
-use Rattle.play_result.specs.Givers.{histories_of}
-use Rattle.play_result.specs.Sections.{IsSectionAt}
+use Rattle.play.specs.Givers.{histories_of}
+use Rattle.play.specs.Sections.{IsSectionAt}
 use Rattle.ap_config.specs.declared.config.RadioConfig.{RadioConfig}
 use Rattle.events.specs.declared.event.Event.{Event}
 use Rattle.events.specs.declared.section.Section.{Section}
 use Rattle.ap_config.specs.declared.setting.Setting.{Setting}
 use Rattle.events.specs.declared.air_item.AirItem.{AirItem}
-use Rattle.workers.specs.Attributions.{histories, limits}
+use Rattle.workers.specs.Receipts.{histories, limits}
 use Rattle.workers.specs.Ending.{AreSeated, IsSent, AreSent, items_at, sections_from, waiting_from}
 use Rattle.workers.specs.Receipts.{limits_of}
 use Rattle.workers.specs.Seats.{IsSeated}
 use Rattle.workers.proofs.Frames.{items_of-append, items_of-items_at, items_of-elsewhere, placed-at}
 
 -- ---- seats, in order of place
-
-pub seated-push : (config : RadioConfig) (queue : QueueName) (bs : List BssView) (ps : List NetPassView) (b : BssView) (p : NetPassView) → AllZip (IsSeated config queue) bs ps → IsSeated config queue b p → AllZip (IsSeated config queue) (bs ++ b ∷ []) (ps ++ p ∷ [])
-seated-push config queue [] [] b p all one = (one, tt)
-seated-push config queue [] (q ∷ qs) b p all one = absurd all
-seated-push config queue (c ∷ cs) [] b p all one = absurd all
-seated-push config queue (c ∷ cs) (q ∷ qs) b p all one = (all.0, seated-push config queue cs qs b p all.1 one)
 
 pub named-seated : (config : RadioConfig) (queue : QueueName) (bs : List BssView) (ps : List NetPassView) → AllZip (IsSeated config queue) bs ps → AllByRecursion (λ pass. pass.name ≡ queue) ps
 named-seated config queue [] [] all = tt

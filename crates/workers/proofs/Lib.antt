@@ -1,9 +1,5 @@
-pub mod Sizes
-pub mod Seating
 pub mod Starting
 pub mod Offering
 pub mod Frames
 pub mod Endings
-pub mod Dealing
-pub mod Attributing
-pub mod Fullness
+pub mod Receiving

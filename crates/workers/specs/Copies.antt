@@ -1,6 +1,6 @@
 -- Copies of an event, one pair for each place (profile).
-use Rattle.std.specs.Prelude.{ℕ, ◌≡◌, ◌<◌, ◌↔◌, List, [], ◌∷◌, length, map, Option, Some, None, IfSome}
-use Rattle.std.specs.List.{slice_index_or, range_with_len}
+use Rattle.std.specs.Prelude.{ℕ, ◌≡◌, ◌↔◌, List, [], ◌∷◌, map, Option, Some, None}
+use Rattle.std.specs.List.{range_with_len}
 use Rattle.ap_config.specs.Configuration.{most_networks}
 use Rattle.ap_config.specs.declared.config.RadioConfig.{RadioConfig}
 use Rattle.events.specs.declared.event.Event.{Event}
@@ -25,20 +25,6 @@ copies_at config line place = copies_of (heard_at config line place)
 abbrev pub AreCopies : RadioConfig → Line → List (Option Copies) → Type 0
 AreCopies config line copies = copies ≡ map (copies_at config line) (range_with_len 0 most_networks)
 
--- copies are for places that have a network
-abbrev pub HaveNetworks : RadioConfig → List (Option Copies) → Type 0
-HaveNetworks config copies =
-    (place : ℕ) → IfSome (slice_index_or copies place None) (λ pair. place < length config.networks)
-
--- all of them are of this event
-abbrev pub AreOf : Event → List (Option Copies) → Type 0
-AreOf e copies = (place : ℕ) → IfSome (slice_index_or copies place None) (λ pair. pair.kept ≡ e)
-
 -- an outcome is `NotHeard` just where there were no copies
 abbrev pub IsOffered : Option Copies → Outcome → Type 0
 IsOffered copies outcome = (outcome ≡ NotHeard) ↔ (copies ≡ None)
-
-abbrev pub AreOffered : List (Option Copies) → List Outcome → Type 0
-AreOffered copies outcomes =
-    (place : ℕ) → place < most_networks
-    → IsOffered (slice_index_or copies place None) (slice_index_or outcomes place NotHeard)

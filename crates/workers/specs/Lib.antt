@@ -5,4 +5,3 @@ pub mod Giving
 pub mod Copies
 pub mod Ending
 pub mod Receipts
-pub mod Attributions

@@ -1,11 +1,12 @@
 -- Which caller gave which event of the networks' histories (profile).
-use Rattle.std.specs.Prelude.{ℕ, ◌≡◌, ◌<◌, ◌==◌, List, [], length, map, drop, Option, Some, None, slice_get}
+use Rattle.std.specs.Prelude.{ℕ, ◌≡◌, ◌<◌, ◌≤◌, ◌==◌, Bool, true, false, List, [], length, map, drop, Option, Some, None, slice_get}
 use Rattle.std.specs.Prelude.{slice_index_or, if◌then◌else◌}
 use Rattle.std.specs.List.{enumerate_from, filter_map}
+use Rattle.network.specs.BssView.{BssView}
 use Rattle.network.specs.declared.bss.Refusal.TheVariants as refusals
 use Rattle.events.specs.declared.event.Event.{Event}
 use Rattle.events.specs.declared.section.Section.{Section}
-use Rattle.play_result.specs.Givers.{dealt}
+use Rattle.play.specs.Givers.{dealt}
 use Rattle.workers.specs.declared.caller.Entry.{Entry}
 use Rattle.workers.specs.declared.caller.Entry.TheVariants.{Receipt, Refused}
 
@@ -53,3 +54,32 @@ IsFullLast limits histories entries =
 
 abbrev pub AreFullLast : List ℕ → List (List Event) → List (List Entry) → Type 0
 AreFullLast limits histories callers = (i : ℕ) → IsFullLast limits histories (slice_index_or callers i [])
+
+-- ---- while they are tested
+
+-- what the networks took, and how many each may take, before they end
+abbrev pub histories : List BssView → List (List Event)
+histories networks = map (λ n. n.history) networks
+
+abbrev pub limits : List BssView → List ℕ
+limits networks = map (λ n. n.setting.network.max_events) networks
+
+-- no entry is a receipt for a network past this number of them
+abbrev pub AreThere : ℕ → List Entry → Type 0
+AreThere networks entries = (place : ℕ) → networks ≤ place → receipts_of place entries ≡ []
+
+-- these entries agree with what is dealt to caller i of each history
+abbrev pub AreReceiptsOf : ℕ → List (List Event) → List (List ℕ) → List Entry → Type 0
+AreReceiptsOf i histories givers entries =
+    (place : ℕ)
+    → receipts_of place entries
+    ≡ dealt (slice_index_or givers place []) (numbered (slice_index_or histories place [])) i
+
+-- The networks that a caller was told are full are marked. An entry marks its own; and it is no receipt for one that
+-- is marked.
+pub record MarksFull (networks : List BssView) (entry : Entry) (old new : List Bool) : Type 0 where
+  pub stay : (place : ℕ) → slice_index_or old place false ≡ true → slice_index_or new place false ≡ true
+  pub last : (place : ℕ) → slice_index_or old place false ≡ true → receipt_for place entry ≡ None
+  pub marked :
+      (place : ℕ) → entry ≡ Refused place refusals.HistoryFull
+      → (slice_index_or new place false ≡ true) × IsFullAt (limits networks) (histories networks) place

@@ -7,9 +7,10 @@ ghost use Rattle.network.specs.BssView.{BssView};
 ghost use Rattle.events.specs.LentEvents.{line_of};
 ghost use Rattle.events.specs.Lines.{event_of_line};
 ghost use Rattle.events.specs.declared.event.Event.{Event};
+ghost use Rattle.events.specs.declared.line.Line.{Line};
 ghost use Rattle.events.specs.declared.line.Line.TheVariants as line;
 ghost use Rattle.events.specs.declared.air_item.AirItem.{AirItem};
-ghost use Rattle.workers.specs.Copies.{copies_at, AreCopies, HaveNetworks, AreOf, AreOffered, IsOffered};
+ghost use Rattle.workers.specs.Copies.{copies_at, AreCopies, IsOffered};
 ghost use Rattle.workers.specs.Giving.{AreHeard, AddsEntries, entry_of};
 ghost use Rattle.workers.specs.Seats.{IsNetworkOf};
 
@@ -167,12 +168,12 @@ impl<N: ApName> Ap<N> {
         mut copies: Vec<Option<Copies>>,
     ) -> [Outcome; MAX_NETWORKS]
         requires count { vec_len copies ≡ MAX_NETWORKS }
-        requires places { HaveNetworks N.config copies.items }
+        requires copies { (told : Line) × AreCopies N.config told copies.items }
         requires room { vec_len entries.old + MAX_NETWORKS ≤ vec_capacity entries.old }
         ensures count { length result ≡ MAX_NETWORKS }
-        ensures heard { AreOffered copies.items result }
-        ensures entries { (event : Event) → AreOf event copies.items →
-            AddsEntries event entries.old.items entries.new.items result }
+        ensures heard { (told : Line) → AreCopies N.config told copies.items → AreHeard N.config told result }
+        ensures entries { (told : Line) → AreCopies N.config told copies.items →
+            AddsEntries (event_of_line told) entries.old.items entries.new.items result }
     {
         let mut outcomes = [Outcome::NotHeard; MAX_NETWORKS];
         for place in 0..MAX_NETWORKS {

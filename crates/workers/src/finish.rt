@@ -4,9 +4,9 @@ ghost use Rattle.std.specs.Prelude.{◌≡◌, ◌++◌, IfOk, OnOk, vec_len, le
 ghost use Rattle.events.specs.Lists.{IsPrefix};
 ghost use Rattle.events.specs.Items.{items_of};
 ghost use Rattle.network.specs.BssView.{section_with};
-ghost use Rattle.play_result.specs.Sections.{AreSections, HaveLeft, ArePlaced};
+ghost use Rattle.play.specs.Sections.{AreSections, HaveLeft, ArePlaced};
 ghost use Rattle.workers.specs.Ending.{AreSeated, items_at, sections_from, waiting_from};
-ghost use Rattle.play_result.specs.Givers.{AreGivers, histories_of};
+ghost use Rattle.play.specs.Givers.{AreGivers, histories_of};
 ghost use Rattle.workers.specs.Receipts.{AreReceipts, AreFullLast, limits_of};
 
 use crate::ap::Ap;
@@ -19,7 +19,7 @@ use air_queue::NetPass;
 use events::{AirItem, Section};
 use mac_frame::{List, NoMemory, Octets};
 use network::Bss;
-use play_result::{FinishFault, Finished};
+use play::{FinishFault, Finished};
 use std::alloc::Global;
 use std::sync::{Mutex, Wait};
 

@@ -16,7 +16,6 @@
 #![tactic(auto)]
 
 mod ap;
-mod attribution;
 mod caller;
 mod copies;
 mod finish;
@@ -31,11 +30,10 @@ mod transmitter;
 
 pub use ap::Ap;
 pub use caller::{Caller, Entry};
-pub use concurrent_play::Gate;
 pub use events::Line;
 pub use name::ApName;
 pub use outcome::Outcome;
 pub use parts::Parts;
-pub use play_result::{FinishFault, Finished, MAX_CALLERS, PlayFault};
+pub use play::{FinishFault, Finished, Gate, MAX_CALLERS, PlayFault};
 pub use playing::play;
 pub use transmitter::Transmitter;

@@ -43,7 +43,7 @@ pub trait ApName {
 
 /// What such a call passes, so that its proof picks the name. Where it picks none, the name is nobody's.
 impl ApName for Brand {
-    ghost use Rattle.concurrent_play.specs.Plays.{no_config, no_queue};
+    ghost use Rattle.play.specs.Plays.{no_config, no_queue};
 
     ghost config = { no_config };
 

@@ -3,11 +3,11 @@
 ghost use Rattle.std.specs.Prelude.{◌≡◌, ◌↔◌, false, None, Some, Err, IfOk};
 ghost use Rattle.ap_config.specs.Configuration.{fault_of};
 ghost use Rattle.ap_config.specs.declared.config.ConfigFault.{ConfigFault};
-ghost use Rattle.play_result.specs.Faults.{callers_fit};
+ghost use Rattle.play.specs.Faults.{callers_fit};
 
 use air_queue::{AirQueue, NetPass, RadioPass};
 use ap_config::{OpenFault, RadioConfig};
-use play_result::MAX_CALLERS;
+use play::MAX_CALLERS;
 use std::alloc::Global;
 use std::marker::Model;
 

@@ -3,17 +3,16 @@
 ghost use Rattle.std.specs.Prelude.{◌≡◌, ◌≢◌, ◌↔◌, None, Some, Err, IfOk, vec_len, length, map, false};
 ghost use Rattle.ap_config.specs.Configuration.{fault_of};
 ghost use Rattle.ap_config.specs.declared.config.ConfigFault.{ConfigFault};
-ghost use Rattle.play_result.specs.Sections.{AreSections, HaveLeft, ArePlaced};
-ghost use Rattle.play_result.specs.Played.{ArePlayed};
-ghost use Rattle.play_result.specs.Faults.{callers_fit};
-ghost use Rattle.play_result.specs.Givers.{AreGivers, histories_of};
-ghost use Rattle.play_result.specs.declared.finish_fault.FinishFault.{FinishFault};
-ghost use Rattle.play_result.specs.declared.finish_fault.FinishFault.TheVariants as ends;
+ghost use Rattle.play.specs.Sections.{AreSections, HaveLeft, ArePlaced};
+ghost use Rattle.play.specs.Played.{ArePlayed};
+ghost use Rattle.play.specs.Faults.{callers_fit};
+ghost use Rattle.play.specs.Givers.{AreGivers, histories_of};
+ghost use Rattle.play.specs.declared.finish_fault.FinishFault.{FinishFault};
+ghost use Rattle.play.specs.declared.finish_fault.FinishFault.TheVariants as ends;
 
 use ap_config::{ConfigFault, RadioConfig};
-use concurrent_play::{Gate, play_finished};
 use events::Line;
-use play_result::{FinishFault, Finished, PlayFault};
+use play::{FinishFault, Finished, Gate, PlayFault, play_finished};
 use std::alloc::Global;
 use std::sync::Wait;
 use std::thread::Threads;

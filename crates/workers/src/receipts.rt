@@ -1,19 +1,16 @@
 //! The callers' entries against the networks' histories (*profile*).
 
-ghost use Rattle.std.specs.Prelude.{◌≡◌, ◌==◌, [], Some, IfOk, OnOk, length, map};
-ghost use Rattle.events.specs.LentEvents.{event_of};
-ghost use Rattle.workers.specs.Attributions.{histories, limits, fresh_attribution, AddsEntry, AreAttributed, AreLong};
-ghost use Rattle.workers.specs.Attributions.{AreUpTo, MarksFull};
-ghost use Rattle.play_result.specs.Givers.{AreGivers};
-ghost use Rattle.workers.specs.Receipts.{AreFullLast, AreReceipts, IsFullLast};
-ghost use Rattle.workers.specs.declared.caller.Entry.TheVariants.{Receipt};
+ghost use Rattle.std.specs.Prelude.{ℕ, ◌≡◌, ◌↔◌, ◌==◌, ◌∷◌, ◌<◌, ◌≤◌, [], None, length, map, option_map};
+ghost use Rattle.std.specs.Prelude.{All, IfOk, IsTrue, MatchOption, OnOk};
+ghost use Rattle.play.specs.Givers.{AreGivers, dealt};
+ghost use Rattle.workers.specs.Receipts.{AreFullLast, AreReceipts, AreThere, AreReceiptsOf, IsFullLast, MarksFull};
+ghost use Rattle.workers.specs.Receipts.{histories, limits, numbered, receipt_for, receipts_of};
 
-use crate::attribution::Attribution;
 use crate::caller::{Caller, Entry};
-use events::LentEvent;
+use events::Event;
 use mac_frame::{List, NoMemory};
 use network::{Bss, Refusal};
-use play_result::FinishFault;
+use play::FinishFault;
 use std::alloc::Global;
 
 /// For each network, in order of place, who gave each event of its history: the callers by their numbers, from 0.
@@ -29,116 +26,162 @@ pub(crate) fn givers_of(
     ensures givers { IfOk result (AreGivers (length callers.now) (histories networks.now)) }
     ensures full { OnOk result (AreFullLast (limits networks.now) (histories networks.now) callers.now) }
 {
-    let mut attributions = open(alloc, networks)?;
-    read_receipts(networks, callers, attributions.as_mut_slice())?;
-    let givers = cover(alloc, attributions)?;
-    check_full(alloc, networks, callers)?;
-    Ok(givers)
-}
-
-/// Before any receipt.
-fn open(alloc: Global, networks: &[Bss]) -> Result<Vec<Attribution>, NoMemory>
-    ensures { IfOk result (λ attributions.
-        attributions.items ≡ map (λ n. fresh_attribution (length n.history)) networks.now) }
-{
-    let mut attributions = Vec::with_capacity(alloc, networks.len())?;
-    for network in networks {
-        attributions.push(Attribution::new(alloc, network.history().len())?)?;
+    let mut givers = Vec::with_capacity(alloc, networks.len())?;
+    for (place, network) in networks.iter().enumerate() {
+        givers.push(told_givers(alloc, place, network.history().len(), callers)?)?;
     }
-    Ok(attributions)
-}
-
-/// Reads all receipts, caller after caller.
-fn read_receipts(
-    networks: &[Bss],
-    callers: &[Caller],
-    attributions: &mut [Attribution],
-) -> Result<(), FinishFault>
-    requires count { length attributions.old ≡ length networks.now }
-    requires start { AreAttributed networks.now [] attributions.old }
-    requires first { AreUpTo 0 attributions.old }
-    ensures { OnOk result (AreAttributed networks.now callers.now attributions.new) }
-{
     for (number, caller) in callers.iter().enumerate() {
-        for entry in caller.entries() {
-            read_entry(networks, number, entry, attributions)?;
+        if !are_receipts(networks, givers.as_slice(), number, caller.entries()) {
+            return Err(FinishFault::BadReceipt);
         }
     }
-    Ok(())
-}
-
-/// Reads a caller's entry.
-fn read_entry(
-    networks: &[Bss],
-    caller: usize,
-    entry: &Entry,
-    attributions: &mut [Attribution],
-) -> Result<(), FinishFault>
-    requires count { length attributions.old ≡ length networks.now }
-    requires long { AreLong networks.now attributions.old }
-    ensures { OnOk result (AddsEntry networks.now caller entry.now attributions.old attributions.new) }
-{
-    let Entry::Receipt {
-        place,
-        number,
-        event,
-    } = entry
-    else {
-        return Ok(());
-    };
-    read_receipt(
-        networks,
-        caller,
-        *place,
-        *number,
-        event.lend(),
-        attributions,
-    )
-}
-
-/// Reads the receipt that the network at a place took what was given as the event with this number.
-pub(crate) fn read_receipt(
-    networks: &[Bss],
-    caller: usize,
-    place: usize,
-    number: u32,
-    given: LentEvent<'_>,
-    attributions: &mut [Attribution],
-) -> Result<(), FinishFault>
-    requires count { length attributions.old ≡ length networks.now }
-    requires long { AreLong networks.now attributions.old }
-    ensures { OnOk result (AddsEntry networks.now caller (Receipt place number (event_of given.entry))
-        attributions.old attributions.new) }
-{
-    if place >= networks.len() {
-        return Err(FinishFault::BadReceipt);
+    if !are_known(callers.len(), givers.as_slice()) {
+        return Err(FinishFault::Uncovered);
     }
-    attributions[place].add(networks[place].history(), caller, number as usize, given)
-}
-
-/// Who gave each event of each network, if a receipt tells of each.
-fn cover(alloc: Global, attributions: Vec<Attribution>) -> Result<List<List<usize>>, FinishFault>
-    ensures { IfOk result (λ givers. map (map Some) givers ≡ map (λ a. a.givers) attributions.items) }
-{
-    let mut givers = Vec::with_capacity(alloc, attributions.len())?;
-    for attribution in attributions {
-        givers.push(attribution.into_givers(alloc)?)?;
+    for caller in callers {
+        check_full(alloc, networks, caller.entries())?;
     }
     Ok(List::from_vec(givers))
 }
 
-/// Whether each network is full that a caller was told is full, and that caller has no later receipt for it.
-fn check_full(alloc: Global, networks: &[Bss], callers: &[Caller]) -> Result<(), FinishFault>
-    ensures { OnOk result (AreFullLast (limits networks.now) (histories networks.now) callers.now) }
+/// Who gave each event of the network at a place, as receipts tell, which may be wrong: the number after the last
+/// caller's where none tells of it.
+fn told_givers(
+    alloc: Global,
+    place: usize,
+    events: usize,
+    callers: &[Caller],
+) -> Result<List<usize>, FinishFault>
+    ensures { IfOk result (λ givers. length givers ≡ events) }
 {
-    for caller in callers {
-        check_caller(alloc, networks, caller.entries())?;
+    let mut givers = vec![in alloc; callers.len(); events]?;
+    for (number, caller) in callers.iter().enumerate() {
+        for entry in caller.entries() {
+            let Some((event, _)) = receipt_for(place, entry) else {
+                continue;
+            };
+            if event as usize >= givers.len() {
+                return Err(FinishFault::BadReceipt);
+            }
+            givers[event as usize] = number;
+        }
     }
-    Ok(())
+    Ok(List::from_vec(givers))
 }
 
-/// The same of one caller.
-fn check_caller(alloc: Global, networks: &[Bss], entries: &[Entry]) -> Result<(), FinishFault>
+/// Whether a caller's receipts tell of the events that it gave, those of each network in order, and of no others.
+fn are_receipts(networks: &[Bss], givers: &[List<usize>], caller: usize, entries: &[Entry]) -> bool
+    requires { map length givers.now ≡ map length (histories networks.now) }
+    ensures { IsTrue result → AreReceiptsOf caller (histories networks.now) givers.now entries.now }
+{
+    for (place, network) in networks.iter().enumerate() {
+        let givers = givers[place].as_slice();
+        if !are_dealt(place, network.history(), givers, caller, entries) {
+            return false;
+        }
+    }
+    are_there(networks.len(), entries)
+}
+
+/// Whether each receipt is of one of this number of networks.
+fn are_there(networks: usize, entries: &[Entry]) -> bool
+    ensures { IsTrue result → AreThere networks entries.now }
+{
+    for entry in entries {
+        if !is_there(networks, entry) {
+            return false;
+        }
+    }
+    true
+}
+
+/// The same of one entry.
+fn is_there(networks: usize, entry: &Entry) -> bool
+    ensures { IsTrue result → (place : ℕ) → networks ≤ place → receipt_for place entry.now ≡ None }
+{
+    match entry {
+        Entry::Receipt { place, .. } => *place < networks,
+        Entry::Refused { .. } => true,
+    }
+}
+
+/// Whether a caller's receipts for the network at a place tell, in order, of the events that it gave.
+fn are_dealt(
+    place: usize,
+    history: &[Event],
+    givers: &[usize],
+    caller: usize,
+    entries: &[Entry],
+) -> bool
+    requires { length givers.now ≡ length history.now }
+    ensures { IsTrue result → receipts_of place entries.now ≡ dealt givers.now (numbered history.now) caller }
+{
+    let mut rest = entries;
+    for (number, giver) in givers.iter().enumerate() {
+        if *giver != caller {
+            continue;
+        }
+        match next_receipt(place, rest) {
+            Some((told, event, others))
+                if told as usize == number && is_same(&history[number], event) => {
+                rest = others;
+            }
+            _ => return false,
+        }
+    }
+    next_receipt(place, rest).is_none()
+}
+
+/// The next receipt for the network at a place: the event's number, the event, and the entries after it.
+fn next_receipt(place: usize, entries: &[Entry]) -> Option<(u32, &Event, &[Entry])>
+    ensures { MatchOption result (receipts_of place entries.now ≡ [])
+        (λ next. receipts_of place entries.now ≡ (next.0, next.1.now) ∷ receipts_of place next.2.now) }
+{
+    let mut rest = entries;
+    while let [entry, others @ ..] = rest {
+        if let Some((number, event)) = receipt_for(place, entry) {
+            return Some((number, event, others));
+        }
+        rest = others;
+    }
+    None
+}
+
+/// The event's number and the event, where an entry is a receipt for the network at a place.
+fn receipt_for(place: usize, entry: &Entry) -> Option<(u32, &Event)>
+    ensures { option_map (λ r. (r.0, r.1.now)) result ≡ receipt_for place entry.now }
+{
+    match entry {
+        Entry::Receipt {
+            place: named,
+            number,
+            event,
+        } if *named == place => Some((*number, event)),
+        _ => None,
+    }
+}
+
+/// Whether an event is another.
+fn is_same(event: &Event, other: &Event) -> bool
+    ensures { IsTrue result ↔ (event.now ≡ other.now) }
+{
+    match (event, other) {
+        (Event::Air(took), Event::Air(told)) => took.as_slice() == told.as_slice(),
+        (Event::Wire(took), Event::Wire(told)) => took.as_slice() == told.as_slice(),
+        (Event::Tick, Event::Tick) => true,
+        _ => false,
+    }
+}
+
+/// Whether all who gave events are among this number of callers.
+fn are_known(callers: usize, givers: &[List<usize>]) -> bool
+    ensures { IsTrue result → All (All (λ giver. giver < callers)) givers.now }
+{
+    givers.iter().all(|each| each.as_slice().iter().all(|giver| *giver < callers))
+}
+
+/// Whether each network is full that a caller was told is full, and that caller has no later receipt for it.
+fn check_full(alloc: Global, networks: &[Bss], entries: &[Entry]) -> Result<(), FinishFault>
     ensures { OnOk result (IsFullLast (limits networks.now) (histories networks.now) entries.now) }
 {
     let mut full = vec![in alloc; false; networks.len()]?;

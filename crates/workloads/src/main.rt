@@ -10,27 +10,27 @@
 
 mod digest;
 mod draw;
+mod drawn_networks;
 mod input;
 mod job;
-mod networks;
 mod piece;
 mod script;
 
 use digest::Digest;
+use drawn_networks::config_of;
 use input::Input;
 use job::{DAY, DOZE, GUESTS, Job, LINES, PLAY, RECORDS, SCAN};
 use live::{Face, Live, LiveRecords};
 use mac_frame::{NoMemory, Octets};
-use networks::config_of;
+use play_text::play_text;
 use replay::run_stream;
-use replay_play::play_text;
 use script::Script;
 use std::alloc::Global;
 use std::env;
 use std::process::ExitCode;
 use std::sync::Wait;
 use std::thread::Threads;
-use trace::Counted;
+use text_io::Counted;
 
 /// How many traces are played at once.
 const TRACES: u8 = 4;

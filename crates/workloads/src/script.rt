@@ -1,8 +1,8 @@
 //! What happens in a workload, drawn act by act, as lines or records.
 
 use crate::draw::Draw;
+use crate::drawn_networks::{Network, Station, networks_of};
 use crate::job::{Act, Job};
-use crate::networks::{Network, Station, networks_of};
 use crate::piece::{Out, Piece, Style};
 use live::Face;
 use mac_frame::NoMemory;

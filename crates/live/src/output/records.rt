@@ -2,8 +2,8 @@
 
 ghost use Rattle.std.specs.Prelude.{◌≡◌, ◌≤◌, ◌*◌, ◌++◌, ◌^◌, ◌-◌, codes, decimal, flat_map, length, min, option_to_list, option_map};
 ghost use Rattle.hex.specs.Hex.{encode_lower};
-ghost use Rattle.trace.specs.Buffers.{CanWrite, Puts, watch};
-ghost use Rattle.trace.specs.Texts.{ended};
+ghost use Rattle.text_io.specs.Buffers.{CanWrite, Puts, watch};
+ghost use Rattle.text_io.specs.Texts.{ended};
 ghost use Rattle.trace.specs.TraceText.{code_of};
 ghost use Rattle.live.specs.AnswerOctets.{record_header, record_of, told, record_fault, reply_octets};
 ghost use Rattle.live.specs.AnswerOctets.{told-nothing};
@@ -13,7 +13,9 @@ ghost use Rattle.live.specs.Frames.{frames_octets};
 use super::text::refusal_word;
 use mac_frame::{MacAddr, Octets};
 use network::{NetworkRefusal, Sent};
-use trace::{Buffered, LineFault, LineForm, Sink, address_text};
+use report::{LineForm, address_text};
+use text_io::{Buffered, Sink};
+use trace::LineFault;
 
 /// A frame that is sent on the air.
 const AIR: u8 = b'A';

@@ -1,12 +1,13 @@
 //! The tables of networks, in either face.
 
 ghost use Rattle.std.specs.Prelude.{◌≡◌, flat_map};
-ghost use Rattle.trace.specs.Buffers.{CanWrite, Puts, watch};
-ghost use Rattle.log_report.specs.Log.{table_in};
+ghost use Rattle.text_io.specs.Buffers.{CanWrite, Puts, watch};
+ghost use Rattle.network_report.specs.NetworkText.{table_in};
 
-use log_report::ReportedNetwork;
 use network::Network;
-use trace::{Buffered, LineForm, Sink, put_section_in};
+use network_report::ReportedNetwork;
+use report::{LineForm, put_section_in};
+use text_io::{Buffered, Sink};
 
 /// Puts the table of each network in a form, in order of place: what the report says of it, but for its frames.
 pub fn put_tables_in<F: LineForm, W: Sink>(out: &mut Buffered<'_, W>, networks: &[Network])

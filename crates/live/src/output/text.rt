@@ -2,9 +2,9 @@
 
 ghost use Rattle.std.specs.Prelude.{◌≡◌, ◌++◌, codes, decimal, option_to_list, option_map};
 ghost use Rattle.mac_frame.specs.Address.{address_text};
-ghost use Rattle.trace.specs.Buffers.{CanWrite, Puts, watch};
-ghost use Rattle.trace.specs.Report.{frame_line};
-ghost use Rattle.trace.specs.Texts.{ended};
+ghost use Rattle.text_io.specs.Buffers.{CanWrite, Puts, watch};
+ghost use Rattle.report.specs.Report.{frame_line};
+ghost use Rattle.text_io.specs.Texts.{ended};
 ghost use Rattle.trace.specs.TraceText.{code_of};
 ghost use Rattle.live_rules.specs.AnswerText.{fault_words, frame_words, refusal_word, reply_text};
 ghost use Rattle.live_rules.specs.Moments.{Refuses};
@@ -12,7 +12,9 @@ ghost use Rattle.live.specs.Frames.{frames_text};
 
 use mac_frame::{MacAddr, Octets};
 use network::{NetworkRefusal, Sent};
-use trace::{Buffered, LineFault, Sink, address_text};
+use report::address_text;
+use text_io::{Buffered, Sink};
+use trace::LineFault;
 
 /// Puts a number in decimal digits.
 fn put_number<W: Sink>(out: &mut Buffered<'_, W>, number: u64)

@@ -4,13 +4,14 @@ use super::{check_cuts, check_failing_reader, check_failing_writer};
 use crate::lines::{OK, TEXT, conversation};
 use crate::samples::Sample;
 use crate::streams::{MANY, Shown};
+use config_text::read_config;
 use fixtures::texts::CONFIGURATION;
 use live::Live;
 use std::alloc::Global;
 use std::cell::Cell;
 use std::process::Abort;
 use std::test::Fail;
-use trace::{Counted, Sink, read_config};
+use text_io::{Counted, Sink};
 
 #[test]
 fn nothing_is_held_back_however_the_text_is_cut(rt: HostRuntime) -> Result<(), Fail> {

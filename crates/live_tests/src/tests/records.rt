@@ -6,6 +6,7 @@ use crate::records::{
 };
 use crate::samples::Sample;
 use crate::streams::{MANY, Shown, Streams, WHOLE};
+use config_text::read_config;
 use fixtures::lab::{BEACON, BSSID, PROBE_RESPONSE};
 use fixtures::texts::CONFIGURATION;
 use fixtures::{PROBE_REQUEST, octets};
@@ -14,7 +15,7 @@ use std::alloc::Global;
 use std::cell::Cell;
 use std::process::Abort;
 use std::test::Fail;
-use trace::{Counted, Sink, read_config};
+use text_io::{Counted, Sink};
 
 #[test]
 fn nothing_is_held_back_however_records_are_cut(rt: HostRuntime) -> Result<(), Fail> {

@@ -1,6 +1,6 @@
 use Rattle.std.proofs.Common.{◌≡◌, IfOk, length, subst}
 use Rattle.ap_config.specs.declared.config.RadioConfig.{RadioConfig}
-use Rattle.play_result.specs.Sections.{AreSections}
+use Rattle.play.specs.Sections.{AreSections}
 use Rattle.library_examples.proofs.threads.run_two.Goals as goal
 
 -- the access point has the configuration of its parts, which is the one given

@@ -1,5 +1,5 @@
 use Rattle.std.proofs.Common.{[], ◌∷◌, ◌∙◌, ap, subst}
-use Rattle.trace.specs.Buffers.{watch}
+use Rattle.text_io.specs.Buffers.{watch}
 use Rattle.live_rules.specs.Asked.{asked_in}
 use Rattle.live.specs.Output.{AreAnswered, through}
 use Rattle.live.specs.declared.face.Face.TheVariants.{Lines}

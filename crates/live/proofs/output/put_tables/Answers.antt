@@ -1,4 +1,4 @@
-use Rattle.trace.specs.BufferLaws.{Puts-same}
+use Rattle.text_io.specs.BufferLaws.{Puts-same}
 use Rattle.live.proofs.TableTexts.{all-tables}
 use Rattle.live.proofs.output.put_tables.Goals as goal
 

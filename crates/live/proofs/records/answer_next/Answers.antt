@@ -1,5 +1,5 @@
 use Rattle.std.proofs.Common.{◌≤◌, ◌++◌, ℕ, List, [], ◌∷◌, length, arith, sym, subst}
-use Rattle.trace.specs.Buffers.{watch}
+use Rattle.text_io.specs.Buffers.{watch}
 use Rattle.live_rules.specs.Moments.{bssids_at}
 use Rattle.live.specs.Output.{AreAnswered, through}
 use Rattle.live_rules.specs.Records.{IsPartialRecord, IsRecord, records_ask}

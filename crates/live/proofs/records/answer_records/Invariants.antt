@@ -1,6 +1,6 @@
 -- Some of the records that end in the piece are answered; the partial record then, and the rest of it, are left.
 use Rattle.std.proofs.Common.{length}
-use Rattle.trace.specs.Buffers.{watch}
+use Rattle.text_io.specs.Buffers.{watch}
 use Rattle.live.specs.Output.{AnswersRecords, through, waiting}
 use Rattle.live.specs.declared.face.Face.TheVariants.{Records}
 use Rattle.live.proofs.records.answer_records.Given as goal

@@ -1,4 +1,4 @@
-use Rattle.live_rules.proofs.SameSaid.{all-same, octets-are, text-is, to-lines, to-records}
+use Rattle.live_rules.proofs.SameSaid.{all-same, octets-are, text-is}
 use Rattle.live_rules.proofs.laws.either_face.Goals as goal
 
 pub returns-clause-text : goal.returns-clause-text
@@ -9,9 +9,3 @@ returns-clause-octets c = octets-are
 
 pub returns-clause-same : goal.returns-clause-same
 returns-clause-same c = all-same c.address_comes_back.ensures
-
-pub returns-clause-to_lines : goal.returns-clause-to_lines
-returns-clause-to_lines c = to-lines
-
-pub returns-clause-to_records : goal.returns-clause-to_records
-returns-clause-to_records c = to-records

@@ -1,7 +1,7 @@
 use Rattle.std.proofs.Common.{◌≡◌, length, ap}
 use Rattle.std.proofs.lemmas.Result.{err_from_is_err_and}
-use Rattle.trace.specs.Report.{count_line}
-use Rattle.trace.specs.EndingLaws.{whole_written}
+use Rattle.report.specs.Report.{count_line}
+use Rattle.text_io.specs.EndingLaws.{whole_written}
 use Rattle.replay.proofs.AnswerLemmas.{report_ends}
 use Rattle.replay.proofs.CheckingLemmas.{fault_ends, check_of-read}
 use Rattle.replay.proofs.check.check_text.Goals as goal

@@ -1,9 +1,10 @@
 use Rattle.std.proofs.Common.{◌≡◌, ◌+◌, ◌++◌, ◌∷◌, [], List, length, sym, ap, subst, ◌∙◌, arith, vec_len}
 use Rattle.std.specs.List.{AllZip, range_with_len}
+use Rattle.std.proofs.lemmas.Slice.Zip.{all_zipped_more}
 use Rattle.air_queue.specs.Passes.{NetPassView}
 use Rattle.network.specs.BssView.{BssView}
 use Rattle.workers.specs.Seats.{IsSeated}
-use Rattle.workers.proofs.Endings.{seated-push, named-seated, placed-push}
+use Rattle.workers.proofs.Endings.{named-seated, placed-push}
 use Rattle.workers.proofs.finish.unseat.Goals as goal
 
 pub loop-seat-preserved : goal.loop-seat-preserved
@@ -20,7 +21,7 @@ loop-seat-preserved g c =
     let count = i.count in
     let next = c.in-Some.ensures.steps.1 in
     record {
-      seated = subst (λ (x : List BssView × List NetPassView). AllZip (IsSeated config queue) x.0 x.1) (λ k. (sym networks k, sym nets k)) (seated-push config queue c.loop-seat.networks.items c.loop-seat.nets.items b p i.seated c.into_parts-bss.ensures.seated);
+      seated = subst (λ (x : List BssView × List NetPassView). AllZip (IsSeated config queue) x.0 x.1) (λ k. (sym networks k, sym nets k)) (all_zipped_more (IsSeated config queue) c.loop-seat.networks.items c.loop-seat.nets.items b p i.seated c.into_parts-bss.ensures.seated);
       placed = placed-push c.loop-seat.nets.items c.push-in-loop-seat.new.self.items p (vec_len c.loop-seat.nets) nets here i.placed ∙ ap (range_with_len 0) (sym len);
       count = omega (arith, count, next, len);
     }

@@ -2,10 +2,10 @@ use Rattle.std.proofs.Common.{◌≡◌, ℕ, List, Result, Ok, Err, length, map
 use Rattle.std.specs.Prelude.{IfOk}
 use Rattle.std.proofs.lemmas.List.{length-map}
 use Rattle.events.specs.declared.line.Line.{Line}
-use Rattle.play_result.specs.Givers.{AreGivers, histories_of}
-use Rattle.play_result.specs.Played.{IsPlayOf}
-use Rattle.play_result.specs.declared.finished.Finished.{Finished}
-use Rattle.play_result.specs.declared.play_fault.PlayFault.{PlayFault}
+use Rattle.play.specs.Givers.{AreGivers, histories_of}
+use Rattle.play.specs.Played.{IsPlayOf}
+use Rattle.play.specs.declared.finished.Finished.{Finished}
+use Rattle.play.specs.declared.play_fault.PlayFault.{PlayFault}
 use Rattle.workers.proofs.playing.play.Goals as goal
 
 -- what follows from a fact of an end follows where there is one

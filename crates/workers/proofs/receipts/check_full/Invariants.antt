@@ -1,8 +1,11 @@
-use Rattle.std.proofs.Common.{ℕ, ◌<◌, [], get_or}
-use Rattle.workers.specs.Attributions.{histories, limits}
-use Rattle.workers.specs.Receipts.{IsFullLast}
+use Rattle.std.proofs.Common.{◌≡◌, drop, length, vec_len}
+use Rattle.workers.specs.Receipts.{histories, limits, IsFullLast}
+use Rattle.workers.proofs.Receiving.{IsRest}
 use Rattle.workers.proofs.receipts.check_full.Given as goal
 
-abbrev pub invariant-loop-caller : goal.invariant-loop-caller
-invariant-loop-caller l =
-    (i : ℕ) → i < l.caller-index → IsFullLast (limits l.networks) (histories l.networks) (get_or l.callers i [])
+-- where the rest of the entries is as it should be, all are
+abbrev pub invariant-loop-entry : goal.invariant-loop-entry
+invariant-loop-entry l = record {
+  all : IsRest l.networks l.full.items (drop l.entry-index l.entries) → IsFullLast (limits l.networks) (histories l.networks) l.entries;
+  long : vec_len l.full ≡ length l.networks;
+}

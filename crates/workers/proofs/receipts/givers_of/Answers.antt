@@ -1,37 +1,41 @@
-use Rattle.std.proofs.Common.{◌≡◌, [], List, Some, length, map, sym, ap, subst, ◌∙◌, vec_len}
-use Rattle.std.proofs.lemmas.List.{length-map, with_items_is}
-use Rattle.workers.specs.Attributions.{AttributionView, AreAttributed, AreUpTo, fresh_attribution}
-use Rattle.workers.proofs.Attributing.{attributed-first, receipts-covered, givers-covered}
+use Rattle.std.proofs.Common.{◌≡◌, ◌<◌, ◌≤◌, ℕ, [], List, length, map, sym, ap, subst, ◌∙◌, arith}
+use Rattle.std.specs.Prelude.{All}
+use Rattle.std.proofs.lemmas.List.{take_all, get_or_read}
+use Rattle.std.proofs.lemmas.List.Elements.{All-more}
+use Rattle.play.specs.Givers.{AreGivers}
+use Rattle.workers.specs.Receipts.{histories, limits, IsFullLast, AreReceipts}
+use Rattle.workers.specs.declared.caller.Entry.{Entry}
+use Rattle.workers.proofs.Receiving.{at-any, all-receipts, all-givers}
 use Rattle.workers.proofs.receipts.givers_of.Goals as goal
-use Rattle.workers.proofs.receipts.givers_of.Goals.{In_ok-givers}
+use Rattle.workers.proofs.receipts.givers_of.Goals.{After-from_vec}
 
-pub read_receipts-requires-clause-start : goal.read_receipts-requires-clause-start
-read_receipts-requires-clause-start c =
-    subst (λ (kept : List AttributionView). AreAttributed c.args.networks.now [] kept) (sym c.as_mut_slice.ensures.value)
-    (attributed-first c.args.networks.now c.in_ok-attributions.attributions.items c.in_ok-attributions.ensures).0
+pub loop-caller-preserved : goal.loop-caller-preserved
+loop-caller-preserved c =
+    let callers : List (List Entry) = c.args.callers.now in
+    let k : ℕ = c.loop-caller.caller-index in
+    let test : k < length callers = c.loop-caller-test.true in
+    let same = c.entries-in-loop-caller.ensures ∙ get_or_read callers k c.caller-item.result test c.caller-item.is [] in
+    All-more (IsFullLast (limits c.args.networks.now) (histories c.args.networks.now)) callers k [] test c.loop-caller.invariant
+    (subst (IsFullLast (limits c.args.networks.now) (histories c.args.networks.now)) same c.in_ok-check_full.ensures)
 
-pub read_receipts-requires-clause-first : goal.read_receipts-requires-clause-first
-read_receipts-requires-clause-first c =
-    subst (AreUpTo 0) (sym c.as_mut_slice.ensures.value)
-    (attributed-first c.args.networks.now c.in_ok-attributions.attributions.items c.in_ok-attributions.ensures).1
-
--- what the attributions are after all receipts were read
-module _ (c : In_ok-givers) where
-  long : length c.read_receipts.new.attributions ≡ vec_len c.in_ok-attributions.attributions
-  long = c.read_receipts.auto.attributions ∙ c.as_mut_slice.ensures.len
-
-  whole : map (map Some) c.in_ok-givers.givers ≡ map (λ a. a.givers) c.read_receipts.new.attributions
-  whole =
-      c.in_ok-givers.ensures
-      ∙ ap (map (λ (a : AttributionView). a.givers)) (with_items_is c.in_ok-attributions.attributions c.read_receipts.new.attributions long)
+-- all who gave events are callers
+module _ (c : After-from_vec) where
+  known : All (All (λ g. g < length c.args.callers.now)) c.loop-place.givers.items
+  known = subst (All (All (λ g. g < length c.args.callers.now))) c.as_slice-2.ensures.value (c.are_known.ensures c.if-not-are_known.false)
 
 pub returns-clause-receipts : goal.returns-clause-receipts
 returns-clause-receipts c =
-    receipts-covered c.args.networks.now c.args.callers.now c.read_receipts.new.attributions c.in_ok-givers.givers (whole (goal.at.returns-clause-receipts c).In_ok-givers) c.in_ok-read_receipts.ensures
+    let over = c.loop-number-test.false in
+    subst (AreReceipts c.args.callers.now (histories c.args.networks.now)) (sym c.from_vec.ensures)
+    (all-receipts c.args.callers.now (histories c.args.networks.now) c.loop-place.givers.items (known c) (λ i within. (let before : i < c.loop-number.number = omega (arith, within, over) in c.loop-number.invariant i before)))
 
 pub returns-clause-givers : goal.returns-clause-givers
 returns-clause-givers c =
-    let count : length c.read_receipts.new.attributions ≡ length c.args.networks.now =
-    c.read_receipts.auto.attributions ∙ ap length (c.as_mut_slice.ensures.value ∙ c.in_ok-attributions.ensures)
-    ∙ length-map c.args.networks.now (λ n. fresh_attribution (length n.history)) in
-    givers-covered c.args.networks.now c.args.callers.now c.read_receipts.new.attributions c.in_ok-givers.givers count (whole (goal.at.returns-clause-givers c).In_ok-givers) c.in_ok-read_receipts.ensures
+    subst (AreGivers (length c.args.callers.now) (histories c.args.networks.now)) (sym c.from_vec.ensures)
+    (all-givers (length c.args.callers.now) (histories c.args.networks.now) c.loop-place.givers.items (known c)
+    (c.loop-place.invariant ∙ ap (λ ns. map length (histories ns)) (take_all c.loop-place.place c.args.networks.now c.loop-place-test.false)))
+
+pub returns-clause-full : goal.returns-clause-full
+returns-clause-full c =
+    let full = IsFullLast (limits c.args.networks.now) (histories c.args.networks.now) in
+    at-any full c.args.callers.now [] (subst (All full) (take_all c.loop-caller.caller-index c.args.callers.now c.loop-caller-test.false) c.loop-caller.invariant) (λ k place told. absurd (cc))

@@ -1,9 +1,9 @@
 -- What the end says is answered, the tables are put, and in the end the piece of memory is written. The sink after it
 -- is the one that was passed.
 use Rattle.std.proofs.Common.{rules, ◌≡◌, ◌∙◌, ◌+◌, ap, subst, sym}
-use Rattle.trace.specs.BufferLaws.{Puts-same}
-use Rattle.trace.specs.Endings.{failures_of}
-use Rattle.trace.specs.Sinks.{write_ending}
+use Rattle.text_io.specs.BufferLaws.{Puts-same}
+use Rattle.text_io.specs.Endings.{failures_of}
+use Rattle.text_io.specs.Sinks.{write_ending}
 use Rattle.live.specs.LiveView.{Finishes, Reached, reached, running}
 use Rattle.live.specs.Written.{written_tables}
 use Rattle.live.specs.declared.face.Face.{Face}

@@ -1,8 +1,8 @@
 -- What ends in the piece is answered, and in the end the piece of memory is written. The sink after it is the one that
 -- was passed.
 use Rattle.std.proofs.Common.{rules, ◌≡◌, ◌∙◌, ◌+◌, subst}
-use Rattle.trace.specs.Endings.{failures_of}
-use Rattle.trace.specs.Sinks.{write_ending}
+use Rattle.text_io.specs.Endings.{failures_of}
+use Rattle.text_io.specs.Sinks.{write_ending}
 use Rattle.live.specs.LiveView.{Reached, Takes, reached, running}
 use Rattle.live.proofs.Flushed.{takes-flushed}
 use Rattle.live.proofs.InputSteps.{more-in}

@@ -1,7 +1,7 @@
 use Rattle.std.proofs.Common.{◌≡◌, ◌∙◌, ap, append_assoc}
 use Rattle.std.specs.Fmt.{decimal}
 use Rattle.live.specs.AnswerOctets.{told}
-use Rattle.trace.specs.BufferLaws.{Puts-same}
+use Rattle.text_io.specs.BufferLaws.{Puts-same}
 use Rattle.trace.specs.TraceText.{code_of}
 use Rattle.live.proofs.output.records.put_fault.Goals as goal
 

@@ -2,7 +2,7 @@ use Rattle.std.proofs.Common.{ap, sym, append-nil, ◌∙◌}
 use Rattle.std.specs.Prelude.{option_to_list, option_map}
 use Rattle.live.specs.AnswerOctets.{record_of}
 use Rattle.live.specs.Frames.{frames_octets}
-use Rattle.trace.specs.BufferLaws.{Puts-same}
+use Rattle.text_io.specs.BufferLaws.{Puts-same}
 use Rattle.live.proofs.output.records.put_frame_if.Goals as goal
 
 pub returns-in-Some : goal.returns-in-Some

@@ -1,6 +1,6 @@
 use Rattle.std.proofs.Common.{ap}
 use Rattle.live.specs.AnswerOctets.{record_of}
-use Rattle.trace.specs.BufferLaws.{Puts-nothing, Puts-item, Puts-items, Puts-same}
+use Rattle.text_io.specs.BufferLaws.{Puts-nothing, Puts-item, Puts-items, Puts-same}
 use Rattle.live.proofs.output.records.put_frames.Goals as goal
 
 pub loop-frame-init : goal.loop-frame-init

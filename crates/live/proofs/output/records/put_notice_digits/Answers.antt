@@ -1,6 +1,6 @@
 use Rattle.std.proofs.Common.{ℕ, List, arith}
 use Rattle.std.specs.Prelude.{flat_map}
-use Rattle.trace.specs.BufferLaws.{Puts-nothing, Puts-then, Puts-same}
+use Rattle.text_io.specs.BufferLaws.{Puts-nothing, Puts-then, Puts-same}
 use Rattle.live.proofs.NoticeSteps.{told-over, told-line}
 use Rattle.live.proofs.output.records.put_notice_digits.Goals as goal
 

@@ -1,4 +1,4 @@
-use Rattle.trace.specs.BufferLaws.{Puts-nothing, Puts-same, Puts-then}
+use Rattle.text_io.specs.BufferLaws.{Puts-nothing, Puts-same, Puts-then}
 use Rattle.live.proofs.NoticeSteps.{record-over, record-is}
 use Rattle.live.proofs.output.records.put_record.Goals as goal
 

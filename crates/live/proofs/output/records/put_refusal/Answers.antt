@@ -2,7 +2,7 @@ use Rattle.std.proofs.Common.{◌≡◌, ◌∙◌, ap, append_assoc}
 use Rattle.std.specs.Fmt.{decimal}
 use Rattle.mac_frame.specs.Address.{address_text}
 use Rattle.live.specs.AnswerOctets.{told}
-use Rattle.trace.specs.BufferLaws.{Puts-same}
+use Rattle.text_io.specs.BufferLaws.{Puts-same}
 use Rattle.live_rules.specs.AnswerText.{refusal_word}
 use Rattle.live.proofs.output.records.put_refusal.Goals as goal
 

@@ -4,7 +4,7 @@ use Rattle.std.proofs.lemmas.List.Concat.{flat_map-append}
 use Rattle.live.specs.AnswerOctets.{record_of}
 use Rattle.live.specs.Frames.{frames_octets}
 use Rattle.live.proofs.LentFrames.{copied}
-use Rattle.trace.specs.BufferLaws.{Puts-then, Puts-same}
+use Rattle.text_io.specs.BufferLaws.{Puts-then, Puts-same}
 use Rattle.live.proofs.output.records.put_sent.Goals as goal
 
 pub returns : goal.returns

@@ -1,6 +1,6 @@
 use Rattle.std.proofs.Common.{ap}
-use Rattle.trace.specs.BufferLaws.{Puts-same}
-use Rattle.trace.specs.Forms.{section_in}
+use Rattle.text_io.specs.BufferLaws.{Puts-same}
+use Rattle.report.specs.Forms.{section_in}
 use Rattle.live.proofs.output.tables.put_table_in.Goals as goal
 
 pub returns : goal.returns

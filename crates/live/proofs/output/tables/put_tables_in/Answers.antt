@@ -1,5 +1,5 @@
-use Rattle.trace.specs.BufferLaws.{Puts-nothing, Puts-item, Puts-items}
-use Rattle.log_report.specs.Log.{table_in}
+use Rattle.text_io.specs.BufferLaws.{Puts-nothing, Puts-item, Puts-items}
+use Rattle.network_report.specs.NetworkText.{table_in}
 use Rattle.live.proofs.output.tables.put_tables_in.Goals as goal
 
 pub loop-network-init : goal.loop-network-init

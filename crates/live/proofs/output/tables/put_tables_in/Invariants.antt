@@ -1,8 +1,8 @@
 -- The tables of the networks so far were put.
 use Rattle.std.proofs.Common.{take}
 use Rattle.std.specs.Prelude.{flat_map}
-use Rattle.trace.specs.Buffers.{Puts, watch}
-use Rattle.log_report.specs.Log.{table_in}
+use Rattle.text_io.specs.Buffers.{Puts, watch}
+use Rattle.network_report.specs.NetworkText.{table_in}
 use Rattle.live.proofs.output.tables.put_tables_in.Given as goal
 
 abbrev pub invariant-loop-network : goal.invariant-loop-network

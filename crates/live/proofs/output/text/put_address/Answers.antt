@@ -1,4 +1,4 @@
-use Rattle.trace.specs.BufferLaws.{Puts-same}
+use Rattle.text_io.specs.BufferLaws.{Puts-same}
 use Rattle.live.proofs.output.text.put_address.Goals as goal
 
 pub returns : goal.returns

@@ -1,4 +1,4 @@
-use Rattle.trace.specs.BufferLaws.{Puts-then}
+use Rattle.text_io.specs.BufferLaws.{Puts-then}
 use Rattle.live.proofs.output.text.put_fault_words.Goals as goal
 
 pub returns : goal.returns

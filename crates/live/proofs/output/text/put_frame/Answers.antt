@@ -1,5 +1,5 @@
-use Rattle.trace.specs.Report.{frame_line}
-use Rattle.trace.specs.BufferLaws.{Puts-then}
+use Rattle.report.specs.Report.{frame_line}
+use Rattle.text_io.specs.BufferLaws.{Puts-then}
 use Rattle.live.proofs.output.text.put_frame.Goals as goal
 
 pub returns : goal.returns

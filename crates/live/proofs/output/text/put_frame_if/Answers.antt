@@ -1,9 +1,9 @@
 use Rattle.std.proofs.Common.{ℕ, List, ap, sym, append-nil, ◌∙◌}
 use Rattle.std.specs.Prelude.{option_to_list, option_map}
-use Rattle.trace.specs.Report.{frame_line}
+use Rattle.report.specs.Report.{frame_line}
 use Rattle.live_rules.specs.AnswerText.{frame_words}
 use Rattle.live.specs.Frames.{frames_text}
-use Rattle.trace.specs.BufferLaws.{Puts-same}
+use Rattle.text_io.specs.BufferLaws.{Puts-same}
 use Rattle.live.proofs.output.text.put_frame_if.Goals as goal
 
 pub returns-in-Some : goal.returns-in-Some

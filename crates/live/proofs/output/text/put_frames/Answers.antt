@@ -1,6 +1,6 @@
 use Rattle.std.proofs.Common.{ap}
-use Rattle.trace.specs.Report.{frame_line}
-use Rattle.trace.specs.BufferLaws.{Puts-nothing, Puts-item, Puts-items, Puts-same}
+use Rattle.report.specs.Report.{frame_line}
+use Rattle.text_io.specs.BufferLaws.{Puts-nothing, Puts-item, Puts-items, Puts-same}
 use Rattle.live_rules.specs.AnswerText.{frame_words}
 use Rattle.live.proofs.output.text.put_frames.Goals as goal
 

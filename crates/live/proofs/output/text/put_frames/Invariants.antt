@@ -1,6 +1,6 @@
 -- The lines of the frames so far were put.
 use Rattle.std.proofs.Common.{take}
-use Rattle.trace.specs.Buffers.{Puts, watch}
+use Rattle.text_io.specs.Buffers.{Puts, watch}
 use Rattle.live.specs.Frames.{frames_text}
 use Rattle.live.proofs.output.text.put_frames.Given as goal
 

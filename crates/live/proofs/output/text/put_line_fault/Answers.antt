@@ -1,6 +1,6 @@
 use Rattle.std.proofs.Common.{ap, ◌∙◌}
 use Rattle.std.specs.Prelude.{decimal}
-use Rattle.trace.specs.BufferLaws.{Puts-then, Puts-same}
+use Rattle.text_io.specs.BufferLaws.{Puts-then, Puts-same}
 use Rattle.live.proofs.output.text.put_line_fault.Goals as goal
 
 pub returns : goal.returns

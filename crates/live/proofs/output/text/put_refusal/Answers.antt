@@ -1,6 +1,6 @@
 use Rattle.std.proofs.Common.{ℕ, List, ap}
 use Rattle.live_rules.specs.AnswerText.{fault_words}
-use Rattle.trace.specs.BufferLaws.{Puts-then, Puts-same}
+use Rattle.text_io.specs.BufferLaws.{Puts-then, Puts-same}
 use Rattle.live.proofs.output.text.put_refusal.Goals as goal
 
 pub returns : goal.returns

@@ -1,11 +1,11 @@
 use Rattle.std.proofs.Common.{ℕ, List, ap, sym, ◌∙◌, codes}
 use Rattle.std.specs.Prelude.{option_to_list, option_map}
 use Rattle.std.proofs.lemmas.List.Concat.{flat_map-append}
-use Rattle.trace.specs.Report.{frame_line}
+use Rattle.report.specs.Report.{frame_line}
 use Rattle.live_rules.specs.AnswerText.{frame_words}
 use Rattle.live.specs.Frames.{frames_text}
 use Rattle.live.proofs.LentFrames.{copied}
-use Rattle.trace.specs.BufferLaws.{Puts-then, Puts-same}
+use Rattle.text_io.specs.BufferLaws.{Puts-then, Puts-same}
 use Rattle.live.proofs.output.text.put_sent.Goals as goal
 
 pub returns : goal.returns

@@ -1,3 +1,0 @@
-pub mod TakeSteps
-pub mod FrameSteps
-pub mod LogSteps

@@ -1,3 +1,0 @@
-pub mod Takes
-pub mod FrameLog
-pub mod Log

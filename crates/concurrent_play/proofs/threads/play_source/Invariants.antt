@@ -1,9 +1,0 @@
-use Rattle.std.proofs.Common.{◌-◌, length, ◌≤◌}
-use Rattle.concurrent_play.specs.Lines.{lines_of}
-use Rattle.concurrent_play.proofs.threads.play_source.Given as goal
-
-abbrev pub invariant-loop-first : goal.invariant-loop-first
-invariant-loop-first g l = l.first ≤ length (lines_of g.N.PlayName.sources l.source.number)
-
-abbrev pub decreases-loop-first : goal.decreases-loop-first
-decreases-loop-first g l = length (lines_of g.N.PlayName.sources l.source.number) - l.first

@@ -1,8 +1,0 @@
-//! Tests of the crate `concurrent_play`, over its public calls.
-//!
-//! They show what no contract says: that a play succeeds where there is memory, and that no source waits for the end of
-//! another.
-#![tactic(auto)]
-
-#[cfg(test)]
-mod tests;

@@ -1,9 +1,0 @@
-use Rattle.std.proofs.Common.{ℕ, ◌-◌, ◌<◌}
-use Rattle.digits.specs.Pairs.{ReadsAt}
-use Rattle.digits.proofs.decoding.decode_blocks.Given as goal
-
-abbrev pub invariant-loop-at : goal.invariant-loop-at
-invariant-loop-at l = (k : ℕ) → k < l.at → ReadsAt l.text l.octets k
-
-abbrev pub decreases-loop-at : goal.decreases-loop-at
-decreases-loop-at l = l.last - l.at

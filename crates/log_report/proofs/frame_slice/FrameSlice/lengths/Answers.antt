@@ -1,6 +1,0 @@
-use Rattle.std.proofs.Common.{length, map, ap, ◌∙◌}
-use Rattle.log_report.proofs.SliceLaws.{lengths-cut}
-use Rattle.log_report.proofs.frame_slice.FrameSlice.lengths.Goals as goal
-
-pub returns : goal.returns
-returns c = lengths-cut _ _ c.self.invariant ∙ ap (map length) c.self.view_is

@@ -1,2 +1,0 @@
--- All that stands here is the profile's.
-pub mod Log

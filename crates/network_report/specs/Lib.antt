@@ -1,0 +1,2 @@
+-- All that stands here is the profile's.
+pub mod NetworkText

@@ -1,0 +1,3 @@
+pub mod TakeSteps
+pub mod FrameSteps
+pub mod SentSteps

@@ -1,0 +1,10 @@
+pub mod Lines
+pub mod LineLog
+pub mod Sources
+pub mod Sections
+pub mod Givers
+pub mod Played
+pub mod Faults
+pub mod Plays
+pub mod Leaving
+pub mod Kept

@@ -1,4 +1,0 @@
-pub mod Sections
-pub mod Givers
-pub mod Played
-pub mod Faults

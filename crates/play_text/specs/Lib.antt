@@ -1,0 +1,3 @@
+-- All that stands here is the profile's.
+pub mod Reading
+pub mod Playing
