@@ -169,6 +169,11 @@ impl<W> Flight<W> {
         done.any(|given| given.name.receiver == receiver && given.name.place == place)
     }
 
+    /// Whether the radio has a frame for this receiver, or it isn't known what became of one.
+    pub fn has(&self, place: Place, receiver: Address) -> bool {
+        self.frames.iter().any(|given| given.name.receiver == receiver && given.name.place == place)
+    }
+
     /// Whether `settle` has something to do at this time.
     pub fn is_doubtful(&self, now: Nanos) -> bool {
         self.frames.front().map_or(false, |given| given.state == State::Out && given.overdue < now)

@@ -187,7 +187,7 @@ impl Stations {
     /// At which rate the next frame goes to a station, unless it is a sample.
     pub fn expected_rate(&self, place: Place, address: Address, is_unit: bool) -> u8 {
         let station = self.networks[place].stations.get(&address).filter(|_| is_unit && self.is_told());
-        station.map_or_else(|| self.lowest(place), |station| station.rates.again().rate)
+        station.map_or_else(|| self.lowest(place), |station| station.rates.plainly().rate)
     }
 
     /// How a frame is sent to a station now, where the radio is busy or isn't, and whether what comes next for it waits
@@ -209,11 +209,12 @@ impl Stations {
             None => return (plainly, false),
         };
         station.used = self.turns;
-        let was_again = station.last.as_ref().map_or(false, |last| last.was_again && Rc::ptr_eq(&last.frame, frame));
-        let choice = match (was_again, is_unit(frame)) {
-            (true, _) => station.rates.again(),
-            (false, true) => station.rates.next(now, is_busy),
-            (false, false) => plainly,
+        let lost = station.last.as_ref().filter(|last| last.was_again && Rc::ptr_eq(&last.frame, frame));
+        let was_again = lost.is_some();
+        let choice = match (lost, is_unit(frame)) {
+            (Some(lost), _) => station.rates.once_more(lost.choice.rate),
+            (None, true) => station.rates.next(now, is_busy),
+            (None, false) => plainly,
         };
         let waits = was_again || choice.is_sample || station.rates.is_in_doubt();
         station.last = Some(Last { frame: Rc::clone(frame), number: number(frame), choice, was_again });

@@ -34,6 +34,8 @@ const MOST_FOR_STATION: usize = 64;
 const MOST_FOR_OTHERS: usize = 256;
 /// The most octets that wait of a network.
 const MOST_OCTETS: usize = 2 << 20;
+/// While no more frames wait for a station that loses some, the radio has one of them at a time.
+const FEW: usize = 8;
 /// How often the radio's socket is looked at, where the radio doesn't say what became of a frame.
 const LOOK_EVERY: Nanos = MILLISECOND;
 /// A radio that had as much as it may have at once is busy for so long.
@@ -483,10 +485,16 @@ impl<P: Port> Transmitter<P> {
     }
 
     /// Whether what comes next for a station waits for what became of a frame before: of one that takes long, and of one
-    /// that may be lost, since a unit is sent once more only where nothing went to its station since.
+    /// that may be lost, since a unit is sent once more only where nothing went to its station since. Where many wait, the
+    /// radio has several of them all the same.
     fn awaits(&self, place: Place, address: Address, now: Nanos) -> bool {
+        if self.stations.is_sure(place, address) {
+            return self.flight.is_overdue(place, address, now);
+        }
+        let few_wait = self.shares.waiting(place, Receiver::Station(address)) <= FEW;
         self.flight.is_overdue(place, address, now)
-            || self.flight.is_unknown(place, address) && !self.stations.is_sure(place, address)
+            || self.flight.is_unknown(place, address)
+            || few_wait && self.flight.has(place, address)
     }
 
     /// Takes the frame that goes next, and gives it to the radio.
@@ -869,11 +877,31 @@ mod tests {
         driver.told(0, &first[0], 6, false);
         driver.send(0, unit(OURS, STATION, 10));
         let second = driver.flush();
-        assert_eq!((second.len(), second[0].rate, second[0].is_again(), second[0].number()), (1, 2, true, 9));
+        assert_eq!((second.len(), second[0].rate, second[0].is_again(), second[0].number()), (1, 12, true, 9));
         driver.told(0, &second[0], 0, true);
         let third = driver.flush();
         assert_eq!((third.len(), third[0].is_again(), third[0].number()), (1, false, 10));
         assert_eq!(driver.air.unacknowledged(), Unacknowledged { again: 1, lost: 0 });
+    }
+
+    /// Of a station that loses tries the radio has one frame, so that each may be sent once more, unless many wait.
+    #[test]
+    fn a_station_that_loses_some_is_given_one_frame_at_a_time_while_few_wait() {
+        for (waiting, given) in [(FEW, 1), (FEW + 3, 3)] {
+            let mut driver = driver([1, 1]);
+            driver.at_54();
+            driver.send(0, unit(OURS, STATION, 8));
+            let first = driver.flush();
+            driver.told(0, &first[0], 1, true);
+            let numbers_waiting = 9..9 + waiting as u16;
+            numbers_waiting.for_each(|number| driver.send(0, unit(OURS, STATION, number)));
+            let sent = driver.flush();
+            assert_eq!(sent.len(), given);
+            driver.told(0, sent.last().unwrap(), 6, false);
+            let again = driver.flush();
+            assert_eq!((again.len(), again[0].is_again()), (1, true));
+            assert_eq!(again[0].number(), sent.last().unwrap().number());
+        }
     }
 
     #[test]
