@@ -447,8 +447,7 @@ impl<P: OfSocket> Bridge<P> {
             _ => return Ok(()),
         };
         let unread = running.sender.sent_on_air() - running.sent_before;
-        let waits_for_them = running.sender.holds_back() || running.sender.is_unsettled();
-        if unread >= UNREAD_ACKNOWLEDGED || unread > 0 && waits_for_them {
+        if unread >= UNREAD_ACKNOWLEDGED || unread > 0 && running.sender.holds_back() {
             running.receive(Token::Acknowledged, &mut self.batch, self.time)?;
             running.sender.looked();
             self.send()?;

@@ -41,12 +41,12 @@ pub struct Name {
 struct Given<W> {
     name: Name,
     what: W,
-    /// What of the radio's time it is reckoned to take from now on.
+    /// What of the radio's time it is reckoned to take from now on, and how long by the radio's pace.
     reckoned: Nanos,
+    takes: Nanos,
     since: Nanos,
-    /// When it has been out for twice the time that was reckoned for it and for all before it, since the radio got it or
-    /// since one before it that took longer was told of.
-    overdue: Nanos,
+    /// Since when the radio may be at it: since it was given it, or was done with the one before.
+    begun: Nanos,
     state: State,
 }
 
@@ -62,9 +62,14 @@ enum State {
 }
 
 impl<W> Given<W> {
+    /// When the radio has been at it for twice the reckoned time, where none before it is out.
+    fn overdue(&self) -> Nanos {
+        self.begun.saturating_add(2 * self.takes)
+    }
+
     /// Whether the radio has it for so long that it must have let newer ones go before it.
     fn was_overtaken(&self, now: Nanos) -> bool {
-        self.state != State::Done && self.overdue.max(self.since + 2 * MOST_AT_ONCE) < now
+        self.overdue().max(self.since + 2 * MOST_AT_ONCE) < now
     }
 }
 
@@ -95,7 +100,7 @@ impl<W> Flight<W> {
 
     /// Whether a frame that is reckoned to take so long may be given to it now.
     pub fn has_room(&self, reckoned: Nanos, now: Nanos) -> bool {
-        match self.frames.front() {
+        match self.oldest() {
             None => true,
             Some(oldest) if oldest.was_overtaken(now) => false,
             Some(_) => self.by_clock(self.reckoned + reckoned) <= MOST_AT_ONCE,
@@ -107,6 +112,11 @@ impl<W> Flight<W> {
         self.by_clock(self.reckoned) > BUSY
     }
 
+    /// The first frame that the radio may still have.
+    fn oldest(&self) -> Option<&Given<W>> {
+        self.frames.iter().find(|given| given.state != State::Done)
+    }
+
     /// How long the radio takes for what is reckoned to take so long, by its pace.
     fn by_clock(&self, reckoned: Nanos) -> Nanos {
         at_pace(self.pace, reckoned)
@@ -115,18 +125,18 @@ impl<W> Flight<W> {
     /// The radio is given a frame.
     pub fn give(&mut self, name: Name, what: W, reckoned: Nanos, now: Nanos) {
         self.reckoned += reckoned;
-        let overdue = now.saturating_add(2 * self.by_clock(self.reckoned).max(self.reckoned));
-        self.frames.push_back(Given { name, what, reckoned, since: now, overdue, state: State::Out });
+        let takes = self.by_clock(reckoned).max(reckoned);
+        self.frames.push_back(Given { name, what, reckoned, takes, since: now, begun: now, state: State::Out });
     }
 
     /// The radio told of a frame at this time, which has taken as long as `took` says of it; answers what was given.
     /// `None` of a frame that it doesn't have.
     pub fn told(&mut self, name: Name, now: Nanos, took: impl FnOnce(&W) -> Nanos) -> Option<W> {
         let found = self.frames.iter().position(|given| given.name == name)?;
-        let Given { what, reckoned, since, overdue, .. } = self.frames.remove(found)?;
+        let Given { what, reckoned, since, .. } = self.frames.remove(found)?;
         self.reckoned -= reckoned;
-        if overdue < now {
-            self.wait_anew(found, name, now);
+        if let Some(next) = self.frames.get_mut(found) {
+            next.begun = next.begun.max(now);
         }
         let step = now.saturating_sub(since.max(self.last_told)).min(MOST_STEP);
         self.last_told = self.last_told.max(now);
@@ -134,17 +144,6 @@ impl<W> Flight<W> {
         self.took = self.took - self.took / PACE_PARTS + took(&what);
         self.pace = (self.spent * PACE_UNIT / self.took.max(1)).max(PACE_UNIT / FASTEST);
         Some(what)
-    }
-
-    /// A frame took longer than was reckoned: those for others that the radio got after it have their time from now on.
-    fn wait_anew(&mut self, from: usize, late: Name, now: Nanos) {
-        let (pace, mut reckoned) = (self.pace, 0);
-        for given in self.frames.iter_mut().skip(from) {
-            reckoned += given.reckoned;
-            if (given.name.place, given.name.receiver) != (late.place, late.receiver) {
-                given.overdue = given.overdue.max(now + 2 * at_pace(pace, reckoned).max(reckoned));
-            }
-        }
     }
 
     /// The radio was never given this frame.
@@ -157,9 +156,8 @@ impl<W> Flight<W> {
     /// Whether the oldest frame that the radio has is for this receiver, and is out for more than twice its reckoned time.
     /// The younger ones may wait for it alone.
     pub fn is_overdue(&self, place: Place, receiver: Address, now: Nanos) -> bool {
-        let oldest = self.frames.iter().find(|given| given.state != State::Done);
-        oldest.map_or(false, |given| {
-            given.overdue < now && given.name.receiver == receiver && given.name.place == place
+        self.oldest().map_or(false, |given| {
+            given.overdue() < now && given.name.receiver == receiver && given.name.place == place
         })
     }
 
@@ -176,7 +174,7 @@ impl<W> Flight<W> {
 
     /// Whether `settle` has something to do at this time.
     pub fn is_doubtful(&self, now: Nanos) -> bool {
-        self.frames.front().map_or(false, |given| given.state == State::Out && given.overdue < now)
+        self.oldest().map_or(false, |given| given.state == State::Out && given.overdue() < now)
     }
 
     /// The radio's socket says that the radio has sent all that it had: what became of that is still to be looked at.
@@ -215,7 +213,7 @@ impl<W> Flight<W> {
 
     /// When its first frame is out for more than twice its reckoned time.
     pub fn overdue(&self) -> Option<Nanos> {
-        self.frames.front().map(|given| given.overdue)
+        self.oldest().map(Given::overdue)
     }
 
     /// When `expire` has something to do.
@@ -316,13 +314,27 @@ mod tests {
     }
 
     #[test]
-    fn a_frame_is_overdue_after_twice_the_time_of_all_before_it() {
+    fn the_oldest_frame_is_overdue_after_twice_its_time() {
         let mut flight = of_two();
         assert!(!flight.is_overdue(0, STATION, 2 * MILLISECOND));
         assert!(flight.is_overdue(0, STATION, 2 * MILLISECOND + 1));
+        assert!(!flight.is_overdue(0, OTHER, MOST_OUT));
         flight.forget(name(1));
-        assert!(!flight.is_overdue(0, OTHER, 4 * MILLISECOND) && flight.is_overdue(0, OTHER, 4 * MILLISECOND + 1));
+        assert!(!flight.is_overdue(0, OTHER, 2 * MILLISECOND) && flight.is_overdue(0, OTHER, 2 * MILLISECOND + 1));
         assert!(!flight.is_overdue(1, OTHER, MOST_OUT));
+    }
+
+    /// Nobody has looked what became of the first two; of the third one knows that the radio is still at it.
+    #[test]
+    fn a_frame_is_overdue_though_outcomes_of_those_before_it_are_unread() {
+        let mut flight = of_two();
+        assert!(flight.is_doubtful(2 * MILLISECOND + 1));
+        flight.settle();
+        assert!(!flight.is_doubtful(MOST_OUT) && flight.has_room(20 * MILLISECOND, 0));
+        flight.give(name(3), (), MILLISECOND, 3 * MILLISECOND);
+        let due = 5 * MILLISECOND;
+        assert!(!flight.is_overdue(0, STATION, due) && flight.is_overdue(0, STATION, due + 1));
+        assert!(flight.is_doubtful(due + 1));
     }
 
     #[test]
@@ -333,8 +345,6 @@ mod tests {
         flight.told(name(1), late, |_| late);
         let due = late + 2 * MILLISECOND;
         assert!(!flight.is_overdue(0, OTHER, due) && flight.is_overdue(0, OTHER, due + 1));
-        flight.forget(Name { receiver: OTHER, ..name(2) });
-        assert!(flight.is_overdue(0, STATION, late));
     }
 
     #[test]

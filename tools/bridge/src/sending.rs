@@ -278,11 +278,6 @@ impl<P: Port> Sender<P> {
         self.air.holds_back()
     }
 
-    /// Whether the radio has sent frames of which nobody looked yet what became of them, and others go meanwhile.
-    pub fn is_unsettled(&self) -> bool {
-        self.air.is_unsettled()
-    }
-
     /// What the radio told so far was looked at.
     pub fn looked(&mut self) {
         self.air.looked();

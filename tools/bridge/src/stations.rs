@@ -184,6 +184,11 @@ impl Stations {
         self.networks[place].stations.get(&address).map_or(true, |station| station.rates.are_sure())
     }
 
+    /// Whether the last unit to a station was lost.
+    pub fn is_in_doubt(&self, place: Place, address: Address) -> bool {
+        self.networks[place].stations.get(&address).map_or(false, |station| station.rates.is_in_doubt())
+    }
+
     /// At which rate the next frame goes to a station, unless it is a sample.
     pub fn expected_rate(&self, place: Place, address: Address, is_unit: bool) -> u8 {
         let station = self.networks[place].stations.get(&address).filter(|_| is_unit && self.is_told());

@@ -384,11 +384,6 @@ impl<P: Port> Transmitter<P> {
         self.flight.len() > 0 && !self.shares.is_empty()
     }
 
-    /// Whether the radio has sent frames of which nobody looked yet what became of them, and others go meanwhile.
-    pub fn is_unsettled(&self) -> bool {
-        self.is_unsettled
-    }
-
     /// What the radio told so far was looked at.
     pub fn looked(&mut self) {
         if std::mem::take(&mut self.is_unsettled) {
@@ -486,15 +481,16 @@ impl<P: Port> Transmitter<P> {
 
     /// Whether what comes next for a station waits for what became of a frame before: of one that takes long, and of one
     /// that may be lost, since a unit is sent once more only where nothing went to its station since. Where many wait, the
-    /// radio has several of them all the same.
+    /// radio has several of them all the same, unless the last one was lost.
     fn awaits(&self, place: Place, address: Address, now: Nanos) -> bool {
         if self.stations.is_sure(place, address) {
             return self.flight.is_overdue(place, address, now);
         }
-        let few_wait = self.shares.waiting(place, Receiver::Station(address)) <= FEW;
+        let goes_alone = self.shares.waiting(place, Receiver::Station(address)) <= FEW
+            || self.stations.is_in_doubt(place, address);
         self.flight.is_overdue(place, address, now)
             || self.flight.is_unknown(place, address)
-            || few_wait && self.flight.has(place, address)
+            || goes_alone && self.flight.has(place, address)
     }
 
     /// Takes the frame that goes next, and gives it to the radio.
@@ -893,14 +889,13 @@ mod tests {
             driver.send(0, unit(OURS, STATION, 8));
             let first = driver.flush();
             driver.told(0, &first[0], 1, true);
-            let numbers_waiting = 9..9 + waiting as u16;
-            numbers_waiting.for_each(|number| driver.send(0, unit(OURS, STATION, number)));
+            (9..9 + waiting as u16).for_each(|number| driver.send(0, unit(OURS, STATION, number)));
             let sent = driver.flush();
             assert_eq!(sent.len(), given);
-            driver.told(0, sent.last().unwrap(), 6, false);
-            let again = driver.flush();
-            assert_eq!((again.len(), again[0].is_again()), (1, true));
-            assert_eq!(again[0].number(), sent.last().unwrap().number());
+            driver.told(0, &sent[0], 6, false);
+            let next = driver.flush();
+            let again = next.first().map(|seen| (seen.number(), seen.is_again()));
+            assert_eq!(again, (given == 1).then_some((9, true)));
         }
     }
 
@@ -1119,13 +1114,13 @@ mod tests {
         let first = driver.flush();
         driver.now += 2 * MILLISECOND;
         driver.send(0, long(OURS, STATION, 10));
-        assert!(!driver.air.is_unsettled());
+        assert!(!driver.air.is_unsettled);
         let second = driver.flush();
         assert_eq!(numbers(&second), [10]);
-        assert!(driver.air.is_unsettled());
+        assert!(driver.air.is_unsettled);
         driver.told(0, &second[0], 0, true);
         driver.air.looked();
-        assert!(!driver.air.is_unsettled());
+        assert!(!driver.air.is_unsettled);
         driver.now += 2 * MILLISECOND;
         driver.send(0, long(OURS, STATION, 11));
         assert_eq!(driver.flush(), []);
