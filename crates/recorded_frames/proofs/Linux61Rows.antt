@@ -1,4 +1,4 @@
--- What the definitions say of the frames of specs/Linux61.antt.
+-- What the definitions say of the frames of specs/Linux61.antt and specs/Linux61Ours.antt.
 use Rattle.std.proofs.Common.{refl}
 use Rattle.elements.specs.Elements.{elements_of, elements_within}
 use Rattle.recorded_frames.specs.Heard.{IsReadSo}
@@ -6,19 +6,18 @@ use Rattle.recorded_frames.proofs.Rows.{◌also◌}
 use Rattle.std.specs.List.{AllByRecursion}
 use Rattle.recorded_frames.specs.Linux61.{probe_request_for_any, probe_request_for_plain}
 use Rattle.recorded_frames.specs.Linux61.{probe_request_of_protected_setup, plain_authentication}
-use Rattle.recorded_frames.specs.Linux61.{plain_association_request, plain_reassociation_request}
-use Rattle.recorded_frames.specs.Linux61.{plain_disassociation, plain_deauthentication, plain_data_to_all}
-use Rattle.recorded_frames.specs.Linux61.{plain_data_to_a_group, plain_data_to_a_host, plain_null_that_dozes}
-use Rattle.recorded_frames.specs.Linux61.{plain_null_that_wakes, plain_poll, ours_authentication}
-use Rattle.recorded_frames.specs.Linux61.{ours_association_request, ours_reassociation_request, ours_disassociation}
-use Rattle.recorded_frames.specs.Linux61.{ours_deauthentication, ours_data_to_all, ours_data_to_a_group}
-use Rattle.recorded_frames.specs.Linux61.{ours_data_to_a_host, ours_null_that_dozes, ours_null_that_wakes, ours_poll}
-use Rattle.recorded_frames.specs.Linux61.{first_fragment, last_fragment, fast_association_request, fast_qos_data}
-use Rattle.recorded_frames.specs.Linux61.{fast_qos_null, action_of_category_3, action_of_category_4}
+use Rattle.recorded_frames.specs.Linux61.{plain_association_request, plain_reassociation_request, plain_disassociation}
+use Rattle.recorded_frames.specs.Linux61.{plain_deauthentication, plain_data_to_all, plain_data_to_a_group}
+use Rattle.recorded_frames.specs.Linux61.{plain_data_to_a_host, plain_null_that_dozes, plain_null_that_wakes}
+use Rattle.recorded_frames.specs.Linux61.{plain_poll, first_fragment, last_fragment, fast_association_request}
+use Rattle.recorded_frames.specs.Linux61.{fast_qos_data, fast_qos_null, action_of_category_3, action_of_category_4}
 use Rattle.recorded_frames.specs.Linux61.{action_of_category_5, action_of_category_10, secret_association_request}
 use Rattle.recorded_frames.specs.Linux61.{secret_key_in_the_clear, secret_data, secret_management, beacon_of_another}
-use Rattle.recorded_frames.specs.Linux61.{unit_to_another, probe_request_at_another}
-use Rattle.recorded_frames.specs.Linux61.{of_linux_6_1}
+use Rattle.recorded_frames.specs.Linux61.{unit_to_another, probe_request_at_another, of_linux_6_1}
+use Rattle.recorded_frames.specs.Linux61Ours.{ours_authentication, ours_association_request, ours_reassociation_request}
+use Rattle.recorded_frames.specs.Linux61Ours.{ours_disassociation, ours_deauthentication, ours_data_to_all}
+use Rattle.recorded_frames.specs.Linux61Ours.{ours_data_to_a_group, ours_data_to_a_host, ours_null_that_dozes}
+use Rattle.recorded_frames.specs.Linux61Ours.{ours_null_that_wakes, ours_poll}
 
 pub probe_request_for_any_is_read : IsReadSo probe_request_for_any
 unfolding elements_of elements_within
