@@ -155,10 +155,10 @@ impl Rates {
         self.at(place)
     }
 
-    /// How a unit is sent once more that was lost at this rate. After the first loss in a row it goes at the slowest
-    /// rate of OFDM where it was lost at a faster one: three times as many tries fit there as at 1 Mb/s.
+    /// How a unit is sent once more that was lost at this rate: a sample at the best one. Of others the first in a row that
+    /// is lost at a rate of OFDM goes at the slowest of these: more tries fit there than at 1 Mb/s.
     pub fn once_more(&self, lost_at: u8) -> Choice {
-        let is_first = self.failures <= 1 && !SPREAD.contains(&lost_at);
+        let is_first = self.failures == 1 && !SPREAD.contains(&lost_at);
         let slowest = self.rates.iter().position(|rate| !SPREAD.contains(&rate.rate) && rate.rate < lost_at);
         match slowest.filter(|_| is_first) {
             Some(place) => self.at(place),
@@ -408,7 +408,9 @@ mod tests {
         rates.told(12, 8, false, false);
         assert_eq!(rates.once_more(108).rate, 2);
         rates.told(2, 1, true, false);
-        assert_eq!(rates.once_more(108).rate, 12);
+        assert_eq!(rates.once_more(108).rate, 2);
+        rates.told(24, 2, false, true);
+        assert_eq!(rates.once_more(24).rate, 2);
         let mut spread = Rates::common(&ALL[..4], &ALL).unwrap();
         spread.told(22, 8, false, false);
         assert_eq!(spread.once_more(22).rate, 2);
