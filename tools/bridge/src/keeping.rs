@@ -10,8 +10,8 @@ use crate::time::{Nanos, SECOND};
 
 /// How many octets of a file are read at most.
 const MOST_OCTETS: u64 = 1 << 28;
-/// So often a state is written at most while something changes, for each so many octets of it, and at least while nothing
-/// does: a state that isn't written any more is old.
+/// So often a state is written at most while something changes, for each so many octets of it, and at least: a state that
+/// isn't written any more is old.
 const EVERY: Nanos = SECOND;
 const OCTETS_OF_EVERY: usize = 1 << 18;
 const AT_LEAST_EVERY: Nanos = 20 * SECOND;
@@ -51,7 +51,7 @@ impl Keeping {
             None => true,
             Some((since, octets, before)) => {
                 let every = EVERY * (1 + octets / OCTETS_OF_EVERY) as Nanos;
-                now >= since + AT_LEAST_EVERY.max(every) || changes != before && now >= since + every
+                now >= since + AT_LEAST_EVERY || changes != before && now >= since + every
             }
         }
     }
@@ -130,6 +130,8 @@ mod tests {
         assert!(!keeping.is_due(5, 21 * SECOND - 1) && keeping.is_due(5, 21 * SECOND));
         keeping.write(&vec![b'x'; 3 << 18], 6, 30 * SECOND);
         assert!(!keeping.is_due(7, 34 * SECOND - 1) && keeping.is_due(7, 34 * SECOND));
+        keeping.write(&vec![b'x'; 60 << 18], 7, 40 * SECOND);
+        assert!(!keeping.is_due(8, 60 * SECOND - 1) && keeping.is_due(8, 60 * SECOND));
         paths.iter().for_each(|path| std::fs::remove_file(path).unwrap());
     }
 

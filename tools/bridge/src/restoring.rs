@@ -909,7 +909,11 @@ mod tests {
     fn the_built_program_has_all_as_before() {
         let program = match program() {
             Some(program) => program,
-            None => return println!("not run: build/apctl isn't there"),
+            None => {
+                // Past what the test's runner keeps back, so that whoever counts the tests can leave this one out.
+                let told = std::io::Write::write_all(&mut std::io::stderr(), b"not run: build/apctl isn't there\n");
+                return told.unwrap();
+            }
         };
         let mut random = Seeded(2016);
         let path = std::env::temp_dir().join(format!("restoring-{}.toml", std::process::id()));
