@@ -447,7 +447,7 @@ impl<P: OfSocket> Bridge<P> {
             _ => return Ok(()),
         };
         let unread = running.sender.sent_on_air() - running.sent_before;
-        if unread >= UNREAD_ACKNOWLEDGED || unread > 0 && running.sender.holds_back() {
+        if unread >= UNREAD_ACKNOWLEDGED || unread > 0 && running.sender.wants_outcomes() {
             running.receive(Token::Acknowledged, &mut self.batch, self.time)?;
             running.sender.looked();
             self.send()?;

@@ -41,12 +41,12 @@ pub struct Name {
 struct Given<W> {
     name: Name,
     what: W,
-    /// What of the radio's time it is reckoned to take from now on, and how long by the radio's pace.
+    /// What of the radio's time it is reckoned to take from now on.
     reckoned: Nanos,
-    takes: Nanos,
     since: Nanos,
-    /// Since when the radio may be at it: since it was given it, or was done with the one before.
-    begun: Nanos,
+    /// When it has been out for twice the time in which the radio was reckoned to be done with it, since the radio got it or
+    /// since one before it that took longer was told of.
+    overdue: Nanos,
     state: State,
 }
 
@@ -62,14 +62,9 @@ enum State {
 }
 
 impl<W> Given<W> {
-    /// When the radio has been at it for twice the reckoned time, where none before it is out.
-    fn overdue(&self) -> Nanos {
-        self.begun.saturating_add(2 * self.takes)
-    }
-
     /// Whether the radio has it for so long that it must have let newer ones go before it.
     fn was_overtaken(&self, now: Nanos) -> bool {
-        self.overdue().max(self.since + 2 * MOST_AT_ONCE) < now
+        self.overdue.max(self.since + 2 * MOST_AT_ONCE) < now
     }
 }
 
@@ -83,6 +78,8 @@ fn at_pace(pace: u64, reckoned: Nanos) -> Nanos {
 pub struct Flight<W> {
     frames: VecDeque<Given<W>>,
     reckoned: Nanos,
+    /// When the radio is reckoned to be done with all of them, though nobody has looked yet what became of some.
+    done: Nanos,
     /// The clock's time and the reckoned time of the last outcomes, the latest counting most.
     spent: Nanos,
     took: Nanos,
@@ -95,7 +92,7 @@ impl<W> Flight<W> {
     /// The radio has nothing, and is taken to be as fast as is reckoned.
     pub fn new() -> Flight<W> {
         let took = PACE_PARTS * MILLISECOND;
-        Flight { frames: VecDeque::new(), reckoned: 0, spent: took, took, pace: PACE_UNIT, last_told: 0 }
+        Flight { frames: VecDeque::new(), reckoned: 0, done: 0, spent: took, took, pace: PACE_UNIT, last_told: 0 }
     }
 
     /// Whether a frame that is reckoned to take so long may be given to it now.
@@ -122,21 +119,28 @@ impl<W> Flight<W> {
         at_pace(self.pace, reckoned)
     }
 
+    /// The same of a radio that isn't faster than is reckoned.
+    fn takes(&self, reckoned: Nanos) -> Nanos {
+        self.by_clock(reckoned).max(reckoned)
+    }
+
     /// The radio is given a frame.
     pub fn give(&mut self, name: Name, what: W, reckoned: Nanos, now: Nanos) {
         self.reckoned += reckoned;
-        let takes = self.by_clock(reckoned).max(reckoned);
-        self.frames.push_back(Given { name, what, reckoned, takes, since: now, begun: now, state: State::Out });
+        let behind_those_before = self.done.max(now) + self.takes(reckoned);
+        self.done = behind_those_before.min(now + self.takes(self.reckoned));
+        let overdue = now + 2 * (self.done - now);
+        self.frames.push_back(Given { name, what, reckoned, since: now, overdue, state: State::Out });
     }
 
     /// The radio told of a frame at this time, which has taken as long as `took` says of it; answers what was given.
     /// `None` of a frame that it doesn't have.
     pub fn told(&mut self, name: Name, now: Nanos, took: impl FnOnce(&W) -> Nanos) -> Option<W> {
         let found = self.frames.iter().position(|given| given.name == name)?;
-        let Given { what, reckoned, since, .. } = self.frames.remove(found)?;
+        let Given { what, reckoned, since, overdue, .. } = self.frames.remove(found)?;
         self.reckoned -= reckoned;
-        if let Some(next) = self.frames.get_mut(found) {
-            next.begun = next.begun.max(now);
+        if overdue < now {
+            self.wait_anew(found, name, now);
         }
         let step = now.saturating_sub(since.max(self.last_told)).min(MOST_STEP);
         self.last_told = self.last_told.max(now);
@@ -144,6 +148,18 @@ impl<W> Flight<W> {
         self.took = self.took - self.took / PACE_PARTS + took(&what);
         self.pace = (self.spent * PACE_UNIT / self.took.max(1)).max(PACE_UNIT / FASTEST);
         Some(what)
+    }
+
+    /// A frame took longer than was reckoned: those for others that the radio got after it have their time from now on.
+    fn wait_anew(&mut self, from: usize, late: Name, now: Nanos) {
+        let (pace, mut reckoned) = (self.pace, 0);
+        for given in self.frames.iter_mut().skip(from) {
+            reckoned += given.reckoned;
+            if (given.name.place, given.name.receiver) != (late.place, late.receiver) {
+                given.overdue = given.overdue.max(now + 2 * at_pace(pace, reckoned).max(reckoned));
+            }
+        }
+        self.done = self.done.max(now + self.takes(reckoned));
     }
 
     /// The radio was never given this frame.
@@ -156,9 +172,8 @@ impl<W> Flight<W> {
     /// Whether the oldest frame that the radio has is for this receiver, and is out for more than twice its reckoned time.
     /// The younger ones may wait for it alone.
     pub fn is_overdue(&self, place: Place, receiver: Address, now: Nanos) -> bool {
-        self.oldest().map_or(false, |given| {
-            given.overdue() < now && given.name.receiver == receiver && given.name.place == place
-        })
+        self.oldest()
+            .map_or(false, |given| given.overdue < now && given.name.receiver == receiver && given.name.place == place)
     }
 
     /// Whether the radio has sent a frame for this receiver, and it isn't known what became of that.
@@ -174,12 +189,12 @@ impl<W> Flight<W> {
 
     /// Whether `settle` has something to do at this time.
     pub fn is_doubtful(&self, now: Nanos) -> bool {
-        self.oldest().map_or(false, |given| given.state == State::Out && given.overdue() < now)
+        self.oldest().map_or(false, |given| given.state == State::Out && given.overdue < now)
     }
 
     /// The radio's socket says that the radio has sent all that it had: what became of that is still to be looked at.
     pub fn settle(&mut self) {
-        self.reckoned = 0;
+        (self.reckoned, self.done) = (0, 0);
         for given in &mut self.frames {
             given.reckoned = 0;
             if given.state == State::Out {
@@ -207,13 +222,13 @@ impl<W> Flight<W> {
 
     /// The radio has nothing any more: answers what it had.
     pub fn clear(&mut self) -> Vec<Name> {
-        self.reckoned = 0;
+        (self.reckoned, self.done) = (0, 0);
         self.frames.drain(..).map(|given| given.name).collect()
     }
 
     /// When its first frame is out for more than twice its reckoned time.
     pub fn overdue(&self) -> Option<Nanos> {
-        self.oldest().map(Given::overdue)
+        self.oldest().map(|given| given.overdue)
     }
 
     /// When `expire` has something to do.
@@ -314,27 +329,28 @@ mod tests {
     }
 
     #[test]
-    fn the_oldest_frame_is_overdue_after_twice_its_time() {
+    fn a_frame_is_overdue_after_twice_the_time_of_all_before_it() {
         let mut flight = of_two();
         assert!(!flight.is_overdue(0, STATION, 2 * MILLISECOND));
         assert!(flight.is_overdue(0, STATION, 2 * MILLISECOND + 1));
-        assert!(!flight.is_overdue(0, OTHER, MOST_OUT));
         flight.forget(name(1));
-        assert!(!flight.is_overdue(0, OTHER, 2 * MILLISECOND) && flight.is_overdue(0, OTHER, 2 * MILLISECOND + 1));
+        assert!(!flight.is_overdue(0, OTHER, 4 * MILLISECOND) && flight.is_overdue(0, OTHER, 4 * MILLISECOND + 1));
         assert!(!flight.is_overdue(1, OTHER, MOST_OUT));
     }
 
-    /// Nobody has looked what became of the first two; of the third one knows that the radio is still at it.
+    /// Nobody has looked yet what became of frames that the radio must have sent: a newer one doesn't wait for these.
     #[test]
-    fn a_frame_is_overdue_though_outcomes_of_those_before_it_are_unread() {
-        let mut flight = of_two();
-        assert!(flight.is_doubtful(2 * MILLISECOND + 1));
-        flight.settle();
-        assert!(!flight.is_doubtful(MOST_OUT) && flight.has_room(20 * MILLISECOND, 0));
-        flight.give(name(3), (), MILLISECOND, 3 * MILLISECOND);
-        let due = 5 * MILLISECOND;
+    fn a_frame_is_overdue_though_what_became_of_older_ones_is_unread() {
+        let mut flight = flight();
+        (0..8).for_each(|number| flight.give(name(number), (), MILLISECOND, 2 * MILLISECOND * u64::from(number)));
+        (0..7).for_each(|number| flight.forget(name(number)));
+        let due = 16 * MILLISECOND;
         assert!(!flight.is_overdue(0, STATION, due) && flight.is_overdue(0, STATION, due + 1));
         assert!(flight.is_doubtful(due + 1));
+        flight.settle();
+        assert!(!flight.is_doubtful(MOST_OUT) && flight.has_room(20 * MILLISECOND, due));
+        flight.give(name(8), (), MILLISECOND, 20 * MILLISECOND);
+        assert!(!flight.is_doubtful(22 * MILLISECOND) && flight.is_doubtful(22 * MILLISECOND + 1));
     }
 
     #[test]

@@ -273,9 +273,9 @@ impl<P: Port> Sender<P> {
         self.air.awaits_outcomes()
     }
 
-    /// Whether frames wait that may go once it is known what became of those that the radio has.
-    pub fn holds_back(&self) -> bool {
-        self.air.holds_back()
+    /// Whether what the radio tells of frames that it has is to be looked at now.
+    pub fn wants_outcomes(&self) -> bool {
+        self.air.wants_outcomes()
     }
 
     /// What the radio told so far was looked at.

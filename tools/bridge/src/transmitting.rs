@@ -200,6 +200,8 @@ pub struct Transmitter<P> {
     busy_until: Nanos,
     /// Whether the radio has sent frames of which nobody looked yet what became of them.
     is_unsettled: bool,
+    /// Whether the radio is late with a frame, unless it has told of that one and nobody looked yet.
+    is_late: bool,
     /// When the radio's socket is looked at, while frames wait for the radio.
     look_due: Option<Nanos>,
     /// Whether the radio is given all that waits.
@@ -223,6 +225,7 @@ impl<P: Port> Transmitter<P> {
             is_full: false,
             busy_until: 0,
             is_unsettled: false,
+            is_late: false,
             look_due: None,
             is_ending: false,
             sent: 0,
@@ -380,12 +383,18 @@ impl<P: Port> Transmitter<P> {
     }
 
     /// Whether frames wait that may go once it is known what became of those that the radio has.
-    pub fn holds_back(&self) -> bool {
+    fn holds_back(&self) -> bool {
         self.flight.len() > 0 && !self.shares.is_empty()
+    }
+
+    /// Whether what the radio tells of frames that it has is to be looked at now.
+    pub fn wants_outcomes(&self) -> bool {
+        self.holds_back() || self.is_late
     }
 
     /// What the radio told so far was looked at.
     pub fn looked(&mut self) {
+        self.is_late = false;
         if std::mem::take(&mut self.is_unsettled) {
             self.flight.looked();
         }
@@ -442,10 +451,14 @@ impl<P: Port> Transmitter<P> {
     /// those that aren't needn't be known before others go.
     fn settle(&mut self, now: Nanos) {
         let may_be_done = self.flight.is_doubtful(now) && self.chosen.is_empty() && self.shares.has_ready();
-        if may_be_done && matches!(self.gate.port.unsent(), Ok(0)) {
-            self.flight.settle();
-            self.is_full = false;
-            self.is_unsettled = true;
+        match may_be_done.then(|| self.gate.port.unsent()) {
+            None => {}
+            Some(Ok(0)) => {
+                self.flight.settle();
+                self.is_full = false;
+                self.is_unsettled = true;
+            }
+            Some(_) => self.is_late = true,
         }
     }
 
@@ -486,8 +499,8 @@ impl<P: Port> Transmitter<P> {
         if self.stations.is_sure(place, address) {
             return self.flight.is_overdue(place, address, now);
         }
-        let goes_alone = self.shares.waiting(place, Receiver::Station(address)) <= FEW
-            || self.stations.is_in_doubt(place, address);
+        let goes_alone =
+            self.shares.waiting(place, Receiver::Station(address)) <= FEW || self.stations.is_in_doubt(place, address);
         self.flight.is_overdue(place, address, now)
             || self.flight.is_unknown(place, address)
             || goes_alone && self.flight.has(place, address)
