@@ -62,10 +62,11 @@ FILES = [
     (["play", "my.toml"] + ["my.trace"] * 65, "fault sources", ["65 traces", "1 to 64"]),
 ]
 # What is told of a fault for which the program isn't run.
-TOLD = [("fault memory", "may not have the memory"), ("fault output", "can't be written"),
+TOLD = [("fault memory", "use `live`"), ("fault output", "can't be written"),
         ("fault thread", "a thread for each trace"), ("fault F3", "a mistake of the program"),
         ("fault clock line 7 network 02:00:00:00:00:01", "start the program again"),
-        ("fault memory line 7 network 02:00:00:00:00:01", "may not have the memory")]
+        ("fault memory line 7 network 02:00:00:00:00:01", "a smaller `quota`"),
+        ("fault memory record 7 network 02:00:00:00:00:01", "a smaller `quota`")]
 
 
 def octets_of(text):
@@ -313,7 +314,17 @@ class Mistakes(ToolTest):
             status, found = self.run_tool(*program, said, "run", "my.toml", "my.trace")
             self.assertEqual(found.split("\n")[0], said)
             self.assertIn(says, found)
+            self.assertEqual("use `live`" in found, said == "fault memory")
+        self.assertNotIn("use `live`", self.run_tool(*program, "fault memory", "live", "my.toml")[1])
         self.assertEqual(whole.explain_config(self.path("wrong.toml"), "fault C1")[0], "fault C1")
+
+    def test_a_network_refuses_a_line(self):
+        """Memory that ran out for a line or record is told with the network that refused it, and else is no fault."""
+        for what in ("memory", "clock"):
+            for said in (f"fault {what} line 7", f"fault {what} record 7", f"fault {what} network {LAB}"):
+                self.assertIsNone(read_fault(said))
+            found = read_fault(f"fault {what} record 7 network {LAB}")
+            self.assertEqual((found.code, found.line), (what, 7))
 
     def test_blanks_that_are_none_in_a_trace(self):
         """A no-break space after `A` is shown and named, and one that isn't seen is named too."""

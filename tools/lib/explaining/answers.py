@@ -13,7 +13,8 @@ PROGRAM = os.path.join(ROOT, "build", "apctl")
 FAULT = re.compile(r"fault (?:(?P<code>[CLF]\d+|sources|words|memory|thread|output|clock)"
                    r"(?: trace (?P<trace>\d+))?(?: (?:line|record) (?P<line>\d+))?(?: network (?P<network>\S+))?"
                    r"|file (?P<file>.*))", re.DOTALL)
-
+# What a network may refuse: the line of such a fault has the network beside the line or record, or neither.
+REFUSED = ("memory", "clock")
 DESCRIPTOR = re.compile(r"/(?:dev|proc/self)/fd/([0-9]{1,6})")
 
 
@@ -47,7 +48,7 @@ class Answer:
 def read_fault(said: str) -> Fault | None:
     """The fault of a line that the program wrote."""
     match = FAULT.fullmatch(said)
-    if not match:
+    if not match or match["code"] in REFUSED and (match["line"] is None) != (match["network"] is None):
         return None
     if match["file"] is not None:
         return Fault(said, "file", file=match["file"])

@@ -150,10 +150,19 @@ def of_sources(fault: Fault, words: list[str]) -> list[Finding]:
 
 
 def of_memory(fault: Fault, words: list[str]) -> list[Finding]:
-    """Memory that isn't there."""
-    return [Finding("the process may not have the memory that this run takes: until the report is written `run` keeps "
-                    "all frames that the networks send, `play` and the form without words keep all events besides", None,
-                    "`ulimit -v` shows what it may have; cut the trace, or use `live`, which keeps neither")]
+    """Memory that isn't there: for what a line would have one network of `live` keep or send, for `live` to begin, or for
+    a run."""
+    if fault.line is not None:
+        return [Finding("the process may not have the memory for what this network would keep or send: the network has "
+                        "not changed, and others may have taken what came", None,
+                        "`ulimit -v` shows what it may have; give it more, or the networks a smaller `quota`")]
+    if words[:1] == ["live"]:
+        return [Finding("the process may not have the memory that `live` takes before its first answer", None,
+                        "`ulimit -v` shows what it may have")]
+    return [Finding("the process may not have the memory that this run takes: until the report is written it "
+                    "keeps all frames that the networks send, `play` its traces' lines besides, and the form without "
+                    "words all events besides", None,
+                    "`ulimit -v` shows what it may have; cut the trace, or use `live`, which keeps none of these")]
 
 
 def of_output(fault: Fault, words: list[str]) -> list[Finding]:
