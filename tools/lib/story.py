@@ -312,6 +312,12 @@ class Story:
         self.wires.append((self.line, octets))
         self.mark("wired", sender=unit.source)
 
+    def without(self, lines):
+        """Forgets what was heard and sent by the lines of these numbers, but for the states that came of it."""
+        for name in ("marks", "heard", "frames", "wires"):
+            setattr(self, name, [found for found in getattr(self, name) if found[0] not in lines])
+        return self
+
     def note_state(self, station):
         """Where a request has changed the state of its station, ends the span of that and begins a new one."""
         link, before = self.links.get(station), self.open.get(station)

@@ -151,6 +151,15 @@ class PictureTest(ToolTest):
         """The shapes of the example of three networks."""
         return self.of_example("three_networks_over_some_intervals", *words)
 
+    def restored(self):
+        """The example of three networks as a record in which the phone had joined before: the file's path."""
+        config, _, trace = input_of(THREE)[0].partition("\n---\n")
+        lines = trace.split("\n")
+        told = ["# restored: of the lines from here on the answers were not sent", *lines[:4], "# restored: up to here"]
+        with open(self.path("restored"), "w", encoding="ascii") as file:
+            file.write("\n".join([config, "---", *told, *lines[4:]]))
+        return self.path("restored")
+
     def long_run(self, count):
         """The files of a long run: its configuration and trace, and its report."""
         text = f"{long_run.config()}---\n{long_run.trace(count)}"
@@ -391,6 +400,16 @@ class Choices(PictureTest):
         self.assertGreaterEqual(end - first, 45)
         self.assertTrue({"⋯ 4.6 s", f"{end - first + 1} lines"} & shapes.words(), shapes.words())
 
+    def test_what_a_new_program_was_told_is_left_out(self):
+        """Nobody sent it. The states that came of it stay, and a station that is there by it alone can be chosen."""
+        words = self.restored(), os.path.join(THREE, "stdout")
+        shapes = self.shapes(*words)
+        self.assertEqual(min(int(group.get("data-lines")) for group in shapes.marks()), 7)
+        self.assertEqual(len(shapes.of(row=PHONE, what="associated", span="4-39")), 1)
+        self.assertEqual(shapes.of(row=PHONE, what="authenticated") + shapes.of(row=PHONE, what="answered"), [])
+        self.assertNotIn("02aa00000001 020000000101 0000 0000", read_text(self.drawn(*words, name="made.html")))
+        self.assertEqual(len(self.shapes(*words, "--station", "02:aa:00:00:00:01", "--to", "8").of(what="associated")), 1)
+
     def test_times(self):
         """Times are those of the beacon clock, or the capture's own where the trace tells them."""
         words = self.of_three().words()
@@ -474,6 +493,16 @@ class Overviews(PictureTest):
             ends = tuple(map(int, group.get("data-stretch").split("-")))
             found.setdefault(group.get("data-overview"), {})[ends] = counts
         return found
+
+    def test_what_a_new_program_was_told_is_not_counted(self):
+        """Two requests of the phone and their answers are not among what its network heard and sent."""
+        report = os.path.join(THREE, "stdout")
+        sums = []
+        for trace in (os.path.join(THREE, "input"), self.restored()):
+            found = self.stretches(self.shapes(trace, report, "--overview"))[GUEST.hex()].values()
+            sums.append({row: sum((Counter(counts[row]) for counts in found), Counter()) for row in ("heard", "sent")})
+        self.assertEqual(sums[0]["heard"] - sums[1]["heard"], Counter({"requests": 2}))
+        self.assertEqual(sums[0]["sent"] - sums[1]["sent"], Counter({"answers": 2}))
 
     def test_stretches(self):
         """They are of the same time, or of the same number of lines where one would have more than a fourth of all, and
