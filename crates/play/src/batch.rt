@@ -1,15 +1,14 @@
 //! Lines of a source that are given together.
 
-ghost use Rattle.std.specs.Prelude.{◌≡◌, ◌<◌, ◌≤◌, ◌+◌, ◌^◌, IfOk, Some, None, length, vec_len};
+ghost use Rattle.std.specs.Prelude.{◌≡◌, ◌<◌, ◌≤◌, ◌+◌, ◌^◌, Some, None, length, vec_len};
 ghost use Rattle.std.specs.Prelude.{if◌then◌else◌};
 ghost use Rattle.events.specs.LentEvents.{event_of, line_of};
 ghost use Rattle.events.specs.Lines.{event_for, event_of_line};
 ghost use Rattle.network.specs.ReceivedEvents.{event_received};
 ghost use Rattle.play.specs.Lines.{StandFrom, lines_of};
-ghost use Rattle.play.specs.Sources.{lists_of};
 
 use crate::name::PlayName;
-use crate::sources::{Source, Sources};
+use crate::sources::Source;
 use events::{Audience, LentLine};
 use mac_frame::{MacAddr, NoMemory};
 use network::ReceivedEvent;
@@ -95,7 +94,10 @@ impl<'a, N: PlayName> Batch<'a, N> {
         requires order { first ≤ end }
         requires within { end ≤ length (lines_of N.play.sources source.now.number) }
     {
-        let lines = read_lines(alloc, source.all, source.number, first, end)?;
+        let mut lines = Vec::with_capacity(alloc, end - first)?;
+        for number in first..end {
+            lines.push(ReadLine::of(source.all.line(source.number, number)))?;
+        }
         Ok(Batch {
             source: source.number,
             first,
@@ -103,24 +105,4 @@ impl<'a, N: PlayName> Batch<'a, N> {
             of: PhantomData,
         })
     }
-}
-
-/// Lines of a source from a number on, below another.
-fn read_lines<'a>(
-    alloc: Global,
-    all: Sources<'a>,
-    source: usize,
-    first: usize,
-    end: usize,
-) -> Result<Vec<ReadLine<'a>>, NoMemory>
-    requires order { first ≤ end }
-    requires within { end ≤ length (lines_of (lists_of all) source) }
-    ensures stand { IfOk result (λ read. StandFrom (lines_of (lists_of all.entry) source) first read.items) }
-    ensures count { IfOk result (λ read. first + vec_len read ≡ end) }
-{
-    let mut read = Vec::with_capacity(alloc, end - first)?;
-    for number in first..end {
-        read.push(ReadLine::of(all.line(source, number)))?;
-    }
-    Ok(read)
 }

@@ -67,7 +67,8 @@ impl<'a> Parts<'a> {
         if let Some(fault) = config.check() {
             return Err(PlayFault::Config(fault));
         }
-        if !fit(sources.len()) {
+        let count = sources.len();
+        if !(1..=MAX_CALLERS as usize).contains(&count) {
             return Err(PlayFault::Sources);
         }
         let networks = config.networks.as_slice().len();
@@ -81,11 +82,4 @@ impl<'a> Parts<'a> {
             keeps,
         })
     }
-}
-
-/// Whether there may be this many sources.
-fn fit(count: usize) -> bool
-    ensures { result ≡ callers_fit count }
-{
-    (1..=MAX_CALLERS as usize).contains(&count)
 }

@@ -74,18 +74,6 @@ pub(crate) struct Source<'a, N: PlayName> {
 }
 
 impl<'a, N: PlayName> Source<'a, N> {
-    /// The source of this number.
-    pub(crate) fn new(number: usize, all: Sources<'a>) -> Source<'a, N>
-        requires known { number < length N.play.sources }
-        requires own { lists_of all ≡ N.play.sources }
-    {
-        Source {
-            number,
-            all,
-            of: PhantomData,
-        }
-    }
-
     /// How many lines it has.
     pub(crate) fn len(&self) -> usize
         ensures { result ≡ length (lines_of N.play.sources self.now.number) }
@@ -103,7 +91,11 @@ pub(crate) fn sources_of<'a, N: PlayName>(
 {
     let mut sources = Vec::with_capacity(alloc, all.len())?;
     for number in 0..all.len() {
-        sources.push(Source::new(number, all))?;
+        sources.push(Source {
+            number,
+            all,
+            of: PhantomData,
+        })?;
     }
     Ok(sources)
 }
