@@ -3,6 +3,7 @@ use Rattle.std.specs.Prelude.{ℕ, ◌≡◌, ◌<◌, ◌≤◌, ◌+◌, ◌^�
 use Rattle.networks.specs.WithFrames.{after_events}
 use Rattle.networks.specs.declared.network_with_frames.NetworkWithFrames.{NetworkWithFrames}
 use Rattle.ap_config.specs.Places.{network_at, setting_at}
+use Rattle.events.specs.Items.{items_of}
 use Rattle.events.specs.Lines.{event_of_line, heard}
 use Rattle.events.specs.Lists.{IsPrefix}
 use Rattle.events.specs.declared.air_item.AirItem.{AirItem}
@@ -12,7 +13,6 @@ use Rattle.events.specs.declared.section.Section.{Section}
 use Rattle.network.specs.Network.{counts_of, table_of}
 use Rattle.network.specs.NetworkView.{NetworkState}
 use Rattle.play.specs.Played.{heard_from}
-use Rattle.play.specs.Leaving.{HaveLeft}
 use Rattle.play.specs.Lines.{line_at, lines_of}
 use Rattle.play.specs.Plays.{PlayView}
 use Rattle.play.specs.declared.kept.Given.{Given}
@@ -61,7 +61,7 @@ pub record IsKeptAt (play : PlayView) (place : ℕ) (hears : ℕ → List Event)
 -- what left of a number of networks: for each the frames, and all of them in order where the play keeps it
 pub record IsLeft (networks : ℕ) (keeps : Bool) (items : List AirItem) (logs : List (List (List ℕ)))
     (kept : List AirItem) : Type 0 where
-  pub each : HaveLeft items logs
+  pub each : (place : ℕ) → place < length logs → slice_index_or logs place [] ≡ items_of place items
   pub told : keeps ≡ true → kept ≡ items
   pub placed : All (λ item. item.place < networks) items
 
@@ -76,17 +76,14 @@ abbrev pub IsWholeAt : PlayView → ℕ → List (List ℕ) → PlayedNetwork �
 IsWholeAt play place air n =
     IsKeptAt play place (heard_from play.config place play.sources) (log_with air n) n.given.items
 
--- each network, in order of place
-abbrev pub AreWhole : PlayView → List (List (List ℕ)) → List PlayedNetwork → Type 0
-AreWhole play airs networks =
-    (place : ℕ) (n : PlayedNetwork) → slice_get networks place ≡ Some n → IsWholeAt play place (slice_index_or airs place []) n
-
--- all networks, and what left
+-- all networks, in order of place, and what left
 pub record IsEnd (play : PlayView) (networks : List PlayedNetwork) (airs : List (List (List ℕ))) (kept : List AirItem)
     : Type 0 where
   pub count : length networks ≡ length play.config.networks
   pub logs : length airs ≡ length play.config.networks
-  pub each : AreWhole play airs networks
+  pub each :
+      (place : ℕ) (n : PlayedNetwork) → slice_get networks place ≡ Some n
+      → IsWholeAt play place (slice_index_or airs place []) n
   pub left : (items : List AirItem) × IsLeft (length play.config.networks) play.keeps items airs kept
 
 -- ---- sections

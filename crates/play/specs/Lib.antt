@@ -6,5 +6,4 @@ pub mod Givers
 pub mod Played
 pub mod Faults
 pub mod Plays
-pub mod Leaving
 pub mod Kept

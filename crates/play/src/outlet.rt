@@ -1,10 +1,10 @@
 //! By what frames leave the air queue while sources give their lines.
 
-ghost use Rattle.std.specs.Prelude.{◌≡◌, ◌<◌, ◌++◌, ◌∷◌, ℕ, [], List, IfOk, OnOk, length, slice_index_or, vec_len};
+ghost use Rattle.std.specs.Prelude.{◌≡◌, ◌<◌, ◌++◌, ◌∷◌, ℕ, [], List, IfOk, OnOk, Some, length, slice_index_or, vec_len};
+ghost use Rattle.std.specs.FinMap as finite;
 ghost use Rattle.air_queue.specs.Passes.{AllThere, fresh_pass, fresh_radio};
 ghost use Rattle.events.specs.declared.air_item.AirItem.{AirItem};
 ghost use Rattle.play.specs.Kept.{IsLeft};
-ghost use Rattle.play.specs.Leaving.{HavePushed};
 
 use crate::name::PlayName;
 use crate::spares::Spares;
@@ -197,7 +197,8 @@ fn empty<R: Wait>(
     requires count { queue.networks ≡ vec_len left.logs }
     requires left { IsLeft queue.networks left.keeps queue.left left.logs.items left.items.items }
     ensures count { IfOk result (λ all. vec_len all.logs ≡ vec_len left.logs) }
-    ensures pushed { IfOk result (λ all. HavePushed queue.taken_in all.logs.items) }
+    ensures pushed { IfOk result (λ all. (place : ℕ) (pushed : List (List ℕ)) → place < length all.logs.items
+        → finite.get queue.taken_in place ≡ Some pushed → slice_index_or all.logs.items place [] ≡ pushed) }
     ensures left { IfOk result (λ all. (items : List AirItem)
         × IsLeft queue.networks left.keeps items all.logs.items all.items.items) }
 {
