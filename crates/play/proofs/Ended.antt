@@ -22,7 +22,7 @@ use Rattle.play.specs.Sections.{IsSectionAt}
 use Rattle.play.specs.Played.{IsPlayed, IsPlayOf, heard_from}
 use Rattle.play.specs.Givers.{histories_of, dealt}
 use Rattle.play.specs.Kept.{IsEnd, IsGivenAt, IsWholeAt, event_given, given_by, log_with, section_told}
-use Rattle.play.specs.Plays.{IsPlayWithFrames, PlayView, networks_after}
+use Rattle.play.specs.Plays.{PlayView, networks_after}
 use Rattle.play.specs.declared.kept.Given.{Given}
 use Rattle.play.specs.declared.kept.PlayedNetwork.{PlayedNetwork}
 use Rattle.play.proofs.Leaves.{one-more}
@@ -223,9 +223,3 @@ play-of play networks airs kept sections givers end all count =
       };
       played = λ place section there i. played-at play airs sections givers place section i (all.each place section there);
     }
-
-pub logged-play : (play : PlayView) (networks : List PlayedNetwork) (airs : List (List (List ℕ))) (kept : List AirItem)
-    (logs : List NetworkWithFrames) → IsEnd play networks airs kept → (all : AreLogged play airs logs)
-    → length all.sections ≡ length networks → IsPlayWithFrames play.config play.sources logs
-logged-play play networks airs kept logs end all count =
-    (_, play-of play networks airs kept all.sections all.givers end all.ended count, all.are)

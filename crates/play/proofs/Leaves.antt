@@ -140,10 +140,3 @@ pub all-ready : (config : RadioConfig) (queue : QueueName)
 all-ready config queue =
     ready-from config queue 0 config.networks (omega arith)
     (λ i lt. let at : i ≡ 0 + i = omega arith in ap (network_at config) at)
-
--- where no pass is left, no network is
-pub none-second : (config : RadioConfig) (queue : QueueName) (logs : List NetworkWithFrames) (passes : List NetPassView)
-    → AllZip (IsReady config queue) logs passes → length passes ≡ 0 → length logs ≡ 0
-none-second config queue [] passes ready none = refl
-none-second config queue (l ∷ ls) [] ready none = absurd ready
-none-second config queue (l ∷ ls) (p ∷ ps) ready none = absurd (omega (arith, none))

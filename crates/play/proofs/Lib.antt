@@ -1,5 +1,4 @@
 pub mod Ended
-pub mod Hearing
 pub mod Leaves
 pub mod Seats
 pub mod Steps

@@ -1,9 +1,10 @@
 -- A network takes one line more of a source.
-use Rattle.std.proofs.Common.{◌≡◌, ◌≢◌, ◌⊎◌, ℕ, ◌+◌, ◌<◌, ◌≤◌, Bool, true, List, [], ◌∷◌, ◌++◌, length, map, inl, inr, refl, sym, ap, ◌∙◌, arith, append_assoc}
-use Rattle.std.specs.Prelude.{if◌then◌else◌, ◌==◌}
+use Rattle.std.proofs.Common.{◌≡◌, ◌≢◌, ◌⊎◌, ℕ, ◌+◌, ◌<◌, ◌≤◌, Bool, true, false, List, [], ◌∷◌, ◌++◌, length, map, Some, None, inl, inr, refl, sym, ap, ◌∙◌, arith, append_assoc}
+use Rattle.std.specs.Prelude.{if◌then◌else◌, ◌==◌, option_to_list}
 use Rattle.std.proofs.lemmas.Bool.{cases_eq, cases_lt, eq-eqb, ne_eqb, lt-ltb, le-ltb}
 use Rattle.std.proofs.lemmas.List.{append-nil, length-map, length_push, map-append}
 use Rattle.std.proofs.lemmas.List.Elements.{All-append, All-nil, All-cons, filter-append}
+use Rattle.mac_frame.specs.Hearing.{is_heard}
 use Rattle.networks.specs.WithFrames.{after_events}
 use Rattle.networks.specs.declared.network_with_frames.NetworkWithFrames.{NetworkWithFrames}
 use Rattle.ap_config.specs.Places.{network_at, setting_at}
@@ -11,20 +12,27 @@ use Rattle.ap_config.specs.declared.config.NetConfig.{NetConfig}
 use Rattle.ap_config.specs.declared.config.RadioConfig.{RadioConfig}
 use Rattle.events.specs.Lines.{event_of_line, heard_of, taken_of}
 use Rattle.events.specs.declared.event.Event.{Event}
+use Rattle.events.specs.declared.event.Event.TheVariants as event
 use Rattle.events.specs.declared.line.Line.{Line}
+use Rattle.events.specs.declared.line.Line.TheVariants.{Air, Wire, Tick}
 use Rattle.play.specs.Kept.{IsKeptAt, IsTaken, event_given, given_by}
 use Rattle.play.specs.Lines.{line_at, lines_of}
 use Rattle.play.specs.Plays.{PlayView}
 use Rattle.play.specs.declared.kept.Given.{Given}
-use Rattle.play.proofs.Hearing.{heard-one}
 
--- ---- what one source gave, of one event more
+-- ---- what is heard and taken of it
 
-given-push : (i : ℕ) (by : List Given) (b : Given)
-    → given_by i (by ++ b ∷ []) ≡ given_by i by ++ (if b.source == i then b ∷ [] else [])
-given-push i by b = filter-append (λ (g : Given). g.source == i) by (b ∷ [])
+heard-if : (b : Bool) (e : Event)
+    → (option_to_list (if b then Some e else None) ≡ []) ⊎ (option_to_list (if b then Some e else None) ≡ e ∷ [])
+heard-if true e = inr refl
+heard-if false e = inl refl
 
--- ---- what is taken of it
+-- a network hears a line as its one event, or not at all
+heard-one : (place : ℕ) (bss : List ℕ) (line : Line)
+    → (heard_of place bss line ≡ []) ⊎ (heard_of place bss line ≡ event_of_line line ∷ [])
+heard-one place bss (Air x) = heard-if (is_heard bss x) (event.Air x)
+heard-one place bss (Wire named x) = heard-if (named == place) (event.Wire x)
+heard-one place bss Tick = inr refl
 
 -- what is heard more is nothing, or the network is full
 taken-more : (limit count : ℕ) (given old new more : List Event) → new ≡ old ++ more
@@ -161,13 +169,13 @@ kept-more play place i k line old new n m given after adds there is kept takes t
                   taken-all limit (length (kept.by ++ b ∷ [])) (map event (given_by j (kept.by ++ b ∷ []))) (new j)
                   (elim (cases_eq j i) [
                     | inl same ↦
-                        ap (map event) (given-push j kept.by b
+                        ap (map event) (filter-append (λ (g : Given). g.source == j) kept.by (b ∷ [])
                         ∙ ap (λ (t : Bool). given_by j kept.by ++ (if t then b ∷ [] else [])) (eq-eqb i j (sym same)))
                         ∙ map-append event (given_by j kept.by) (b ∷ [])
                         ∙ (λ x. whole j x ++ sym (some.1 ∙ one) x)
                         ∙ sym (adds.here j same)
                     | inr other ↦
-                        ap (map event) (given-push j kept.by b
+                        ap (map event) (filter-append (λ (g : Given). g.source == j) kept.by (b ∷ [])
                         ∙ ap (λ (t : Bool). given_by j kept.by ++ (if t then b ∷ [] else []))
                         (ne_eqb i j (λ same. other (sym same)))
                         ∙ append-nil (given_by j kept.by))

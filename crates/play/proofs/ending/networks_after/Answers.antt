@@ -6,7 +6,7 @@ use Rattle.std.proofs.lemmas.Option.{slice_get_within, get_or_from_slice_get}
 use Rattle.networks.specs.declared.network_with_frames.NetworkWithFrames.{NetworkWithFrames}
 use Rattle.play.specs.Kept.{log_with}
 use Rattle.play.specs.declared.kept.PlayedNetwork.{PlayedNetwork}
-use Rattle.play.proofs.Ended.{AreLogged, logged-play, logged-push, next-at}
+use Rattle.play.proofs.Ended.{AreLogged, logged-push, next-at, play-of}
 use Rattle.play.proofs.ending.networks_after.Goals as goal
 
 pub loop-played-init : goal.loop-played-init
@@ -71,5 +71,9 @@ returns g c =
       | inr h ↦ omega (arith, right.rest.ok, h.1.0, ap length i.airs, length-drop (length logs) airs, several, many)
     ] in
     let count = i.count in
-    let long = i.logged.long in
-    logged-play g.N.PlayName.play networks airs c.args.left.items.items logs end i.logged (omega (arith, all, count, long))
+    let long = i.logged.long in (
+      _,
+      play-of g.N.PlayName.play networks airs c.args.left.items.items i.logged.sections i.logged.givers end i.logged.ended
+          (omega (arith, all, count, long)),
+      i.logged.are,
+    )

@@ -2,13 +2,14 @@ use Rattle.std.proofs.Common.{◌≡◌, [], List, length, map, inl, inr, sym, a
 use Rattle.std.specs.List.{AllZip}
 use Rattle.std.specs.Vec.Iter.{into_iter_items}
 use Rattle.std.proofs.lemmas.List.{length-map}
+use Rattle.std.proofs.lemmas.Slice.Zip.{AllZip-long}
 use Rattle.networks.specs.WithFrames.{after_events}
 use Rattle.networks.specs.declared.network_with_frames.NetworkWithFrames.{NetworkWithFrames}
 use Rattle.air_queue.specs.Passes.{NetPassView, fresh_passes}
 use Rattle.ap_config.specs.Places.{setting_in}
 use Rattle.ap_config.specs.declared.config.NetConfig.{NetConfig}
 use Rattle.ap_config.specs.declared.config.RadioConfig.{RadioConfig}
-use Rattle.play.proofs.Leaves.{IsReady, all-ready, none-second}
+use Rattle.play.proofs.Leaves.{IsReady, all-ready}
 use Rattle.play.proofs.locked_networks.seat_networks.Goals as goal
 
 pub loop-network-init : goal.loop-network-init
@@ -37,11 +38,11 @@ returns g c =
     let i = c.loop-network.invariant in
     let left = c.loop-network.network-iterator.a in
     let right = c.loop-network.network-iterator.b in
+    let same = AllZip-long (IsReady g.N.PlayName.play.config g.N.PlayName.play.queue) (into_iter_items left) (into_iter_items right)
+    i.ready in
     let none : length (into_iter_items left) ≡ 0 = elim c.in-None.ensures.steps [
       | inl h ↦ omega (arith, left.rest.ok, h.1.0)
-      | inr h ↦
-          none-second g.N.PlayName.play.config g.N.PlayName.play.queue (into_iter_items left) (into_iter_items right) i.ready
-          (omega (arith, right.rest.ok, h.1.0))
+      | inr h ↦ omega (arith, right.rest.ok, h.1.0, same)
     ] in
     let count = i.count in
     omega (arith, none, count)
