@@ -1,9 +1,10 @@
 -- The end of an access point, network by network.
 use Rattle.std.proofs.Common.{◌≡◌, ℕ, zero, suc, ◌+◌, ◌<◌, ◌≤◌, List, [], ◌∷◌, ◌++◌, length, map, drop, get_or, Some, refl, sym, ap, ◌∙◌, subst, arith}
-use Rattle.std.specs.Prelude.{All, slice_get}
+use Rattle.std.specs.Prelude.{All, filter, slice_get, ◌==◌}
 use Rattle.std.specs.List.{AllByRecursion, AllZip, enumerate_from, range_with_len}
-use Rattle.std.proofs.lemmas.List.{append-nil, length-map, map-append}
-use Rattle.std.proofs.lemmas.List.Elements.{All-append, All-nil}
+use Rattle.std.proofs.lemmas.Bool.{eq-eqb, ne_eqb}
+use Rattle.std.proofs.lemmas.List.{append-nil, length-map, map-append, map-id}
+use Rattle.std.proofs.lemmas.List.Elements.{All-append, All-nil, All-cons, filter-append}
 use Rattle.std.proofs.lemmas.List.FromFn.{length-range_with_len, map-range_with_len_more}
 use Rattle.std.proofs.lemmas.Slice.Zip.{AllZip-long}
 use Rattle.air_queue.specs.Passes.{QueueName, NetPassView}
@@ -18,11 +19,32 @@ use Rattle.events.specs.declared.event.Event.{Event}
 use Rattle.events.specs.declared.section.Section.{Section}
 use Rattle.ap_config.specs.declared.setting.Setting.{Setting}
 use Rattle.events.specs.declared.air_item.AirItem.{AirItem}
-use Rattle.workers.specs.Receipts.{histories, limits}
+use Rattle.workers.specs.Receipts.{histories, limits, limits_of}
 use Rattle.workers.specs.Ending.{AreSeated, IsSent, AreSent, items_at, sections_from, waiting_from}
-use Rattle.workers.specs.Receipts.{limits_of}
 use Rattle.workers.specs.Seats.{IsSeated}
-use Rattle.workers.proofs.Frames.{items_of-append, items_of-items_at, items_of-elsewhere, placed-at}
+
+-- ---- frames of one network among items
+
+items_of-append : (place : ℕ) (xs ys : List AirItem) → items_of place (xs ++ ys) ≡ items_of place xs ++ items_of place ys
+items_of-append place xs ys =
+    ap (map (λ (item : AirItem). item.octets)) (filter-append (λ (item : AirItem). item.place == place) xs ys)
+    ∙ map-append (λ (item : AirItem). item.octets) (filter (λ (item : AirItem). item.place == place) xs) (filter (λ (item : AirItem). item.place == place) ys)
+
+-- all of a network's frames are its own
+items_of-items_at : (place : ℕ) (frames : List (List ℕ)) → items_of place (items_at place frames) ≡ frames
+items_of-items_at place [] = refl
+items_of-items_at place (f ∷ fs) = rw (eq-eqb place place refl) (ap (λ xs. f ∷ xs) (items_of-items_at place fs))
+
+-- and none another's
+items_of-elsewhere : (other place : ℕ) (frames : List (List ℕ)) → (place ≡ other → ⊥) → items_of other (items_at place frames) ≡ []
+items_of-elsewhere other place [] ne = refl
+items_of-elsewhere other place (f ∷ fs) ne = rw (ne_eqb place other ne) (items_of-elsewhere other place fs ne)
+
+-- the frames of a network that is there are of a network that is there
+placed-at : (networks place : ℕ) (frames : List (List ℕ)) → place < networks → All (λ item. item.place < networks) (items_at place frames)
+placed-at networks place [] within = All-nil (λ (item : AirItem). item.place < networks)
+placed-at networks place (f ∷ fs) within =
+    All-cons (λ (item : AirItem). item.place < networks) _ _ within (placed-at networks place fs within)
 
 -- ---- seats, in order of place
 
@@ -39,15 +61,11 @@ placed-push ps ps' p count is here placed =
     ∙ map-append (λ (pass : NetPassView). pass.place) ps (p ∷ [])
     ∙ (λ i. placed i ++ here i ∷ []) ∙ sym (range-more count)
   where
-    range-same : (from n : ℕ) → map (λ (k : ℕ). k) (range_with_len from n) ≡ range_with_len from n
-    range-same from zero = refl
-    range-same from (suc n) = ap (λ ks. from ∷ ks) (range-same (from + 1) n)
-
     range-more : (n : ℕ) → range_with_len 0 (n + 1) ≡ range_with_len 0 n ++ n ∷ []
     range-more n =
         let at : 0 + n ≡ n = omega arith in
-        sym (range-same 0 (n + 1)) ∙ map-range_with_len_more (λ (k : ℕ). k) 0 n n at
-        ∙ ap (λ ks. ks ++ n ∷ []) (range-same 0 n)
+        sym (map-id (range_with_len 0 (n + 1))) ∙ map-range_with_len_more (λ (k : ℕ). k) 0 n n at
+        ∙ ap (λ ks. ks ++ n ∷ []) (map-id (range_with_len 0 n))
 
 sent-from : (config : RadioConfig) (queue : QueueName) (left : List AirItem) (place : ℕ) (bs : List BssView) (ps : List NetPassView) → AllZip (IsSeated config queue) bs ps → map (λ pass. pass.place) ps ≡ range_with_len place (length ps) → AllByRecursion (λ pass. items_of pass.place left ≡ pass.pushed) ps → AllByRecursion (λ n. IsSent config left n.0 n.1) (enumerate_from place bs)
 sent-from config queue left place [] ps all placed whole = tt

@@ -83,15 +83,10 @@ pub record Offered (config : RadioConfig) (line : Line) (copies : List (Option C
   pub heard : (k : ℕ) → k < place → (get_or outcomes k NotHeard ≡ NotHeard) ↔ (heard_at config line k ≡ [])
   pub kept : entries ≡ before ++ entries_of (event_of_line line) (take place outcomes)
 
-at-place : (config : RadioConfig) (line : Line) (copies : List (Option Copies)) (place : ℕ) → AreCopies config line copies → place < most_networks → get_or copies place None ≡ copies_at config line place
-at-place config line copies place is within =
-    let at : 0 + place ≡ place = omega arith in
-    ap (λ xs. get_or xs place None) is
-    ∙ get_or-map-range_with_len (copies_at config line) 0 most_networks place place None within at
-
 pub none-offered : (config : RadioConfig) (line : Line) (copies : List (Option Copies)) (outcomes : List Outcome) (before : List Entry) → AreCopies config line copies → Offered config line copies outcomes before before 0
 none-offered config line copies outcomes before are = record {
-  rest = λ k le within. at-place config line copies k are within;
+  rest = λ k le within. ap (λ xs. get_or xs k None) are
+      ∙ get_or-map-range_with_len (copies_at config line) 0 most_networks k k None within (let at : 0 + k ≡ k = omega arith in at);
   heard = λ k lt. absurd (omega (arith, lt));
   kept = sym (append-nil before);
 }

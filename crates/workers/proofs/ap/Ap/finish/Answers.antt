@@ -7,9 +7,8 @@ use Rattle.events.specs.declared.section.Section.{Section}
 use Rattle.events.specs.declared.air_item.AirItem.{AirItem}
 use Rattle.network.specs.BssView.{BssView}
 use Rattle.play.specs.Givers.{AreGivers, histories_of}
-use Rattle.workers.specs.Receipts.{histories, limits}
+use Rattle.workers.specs.Receipts.{histories, limits, limits_of, AreFullLast, AreReceipts}
 use Rattle.workers.specs.Ending.{sections_from, waiting_from}
-use Rattle.workers.specs.Receipts.{limits_of, AreFullLast, AreReceipts}
 use Rattle.workers.specs.declared.caller.Entry.{Entry}
 use Rattle.workers.proofs.Endings.{seats-count, all-sent, count-from, ended-at, histories-from, limits-from, placed-from}
 use Rattle.workers.proofs.ap.Ap.finish.Goals as goal
