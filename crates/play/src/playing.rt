@@ -51,7 +51,7 @@ pub fn play_with_frames<R: Threads + Wait + Sync>(
     ensures sources { (result ≡ Err PlayFault.Sources) ↔
         ((fault_of config ≡ None) × (callers_fit (length sources.now) ≡ false)) }
 
-    // That memory ran out is never told as a fault of finishing.
+    // The fault F1 of finishing, that memory ran out, is never answered.
     ensures memory { result ≢ Err (PlayFault.Finish ends.NoMemory) }
 
     // The one fault of finishing is that a network was not given all lines of each source, or that a frame of it waits.
@@ -80,7 +80,7 @@ pub fn play_finished<G: Gate + Sync, R: Threads + Wait + Sync>(
     ensures sources { (result ≡ Err PlayFault.Sources) ↔
         ((fault_of config ≡ None) × (callers_fit (length sources.now) ≡ false)) }
 
-    // That memory ran out is never told as a fault of finishing.
+    // The fault F1 of finishing, that memory ran out, is never answered.
     ensures memory { result ≢ Err (PlayFault.Finish ends.NoMemory) }
 
     // The one fault of finishing is that a network was not given all lines of each source, or that a frame of it waits.

@@ -197,6 +197,28 @@ fn a_line_is_given_once_the_gate_let_it(rt: HostRuntime) -> Result<(), Fail> {
     Ok(())
 }
 
+/// The networks of the frames that left, where one source gives two networks a tick, the first of them a request, and both
+/// a tick again.
+fn places_of_left<R: Threads + Wait + Sync>(rt: &R, alloc: Global) -> Result<Vec<usize>, Fail> {
+    let source = asking(alloc, AUTHENTICATION_REQUEST)?;
+    let sources = vec![in alloc; source]?;
+    let config = radio(alloc, 64, &[100, 100])?;
+    let end = play(rt, alloc, config, sources, &Order::until(0))?;
+    let mut places = Vec::new(alloc);
+    for item in end.left.as_slice() {
+        places.push(item.place)?;
+    }
+    Ok(places)
+}
+
+/// Frames of different networks leave in the order in which they were handed.
+#[test]
+fn frames_of_two_networks_leave_in_their_order(rt: HostRuntime) -> Result<(), Fail> {
+    let places = places_of_left(&rt, rt.alloc())?;
+    assert!(rt; places.as_slice() == [0, 1, 0, 0, 1].as_slice());
+    Ok(())
+}
+
 /// Counts how often it is asked, and before which lines of source 0, by a bit for each.
 #[derive(Drop)]
 struct Asked {
