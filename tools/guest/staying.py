@@ -377,8 +377,9 @@ class Stays(Part):
                 path = f"/run/waltigon/{self.cases.phy}.state.{number}"
                 with open(path, "rb") as file:
                     text = file.read()
+                # one that a turn before has damaged, and that wasn't written since, stays as it is
                 with open(path, "wb") as file:
-                    file.write(change(text) if text else text)
+                    file.write(change(text) if b"\nsum " in text else text)
             self.start = self.start.anew()
             self.start.begin()
             self.start.has_told(f"isn't used, since {says}")
