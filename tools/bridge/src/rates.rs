@@ -3,9 +3,10 @@
 //! It is Minstrel's rule, as Linux has it (`net/mac80211/rc80211_minstrel_ht.c`), without a clock of its own, and for a
 //! radio that can be asked for one rate a frame. Of each rate the share of tries is kept that was acknowledged, newer
 //! ones counting more; units go at the rate that brings the most octets through, share by time on the air; now and then
-//! one goes at a faster rate, as a sample, with two tries. A unit that nobody acknowledged lets the next one go at the
-//! slowest rate, until an acknowledgement comes, and what was known of the rates above the middle is forgotten, so that
-//! a station that went away is found within a few units. Where rates are untried, each unit samples the middle one of
+//! one goes at a faster rate, as a sample, with two tries. A unit that nobody acknowledged goes once more at the slowest
+//! rate of OFDM, a sample at the best one. It lets the next one go at the slowest rate of all, until an acknowledgement
+//! comes, and what was known of the rates above the middle is forgotten, so that a station that went away is found within
+//! a few units. Where rates are untried, each unit samples the middle one of
 //! them: a faster rate is not expected to be heard where a slower one isn't.
 //!
 //! Nothing is sent, heard or timed here: what to do is asked, and what came of it is told.
