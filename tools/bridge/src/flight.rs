@@ -47,6 +47,8 @@ struct Given<W> {
     /// When it has been out for twice the time in which the radio was reckoned to be done with it, since the radio got it or
     /// since one before it that took longer was told of.
     overdue: Nanos,
+    /// The same, where what the radio got later for others and let go before it makes that time longer.
+    awaited: Nanos,
     state: State,
 }
 
@@ -130,7 +132,7 @@ impl<W> Flight<W> {
         let behind_those_before = self.done.max(now) + self.takes(reckoned);
         self.done = behind_those_before.min(now + self.takes(self.reckoned));
         let overdue = now + 2 * (self.done - now);
-        self.frames.push_back(Given { name, what, reckoned, since: now, overdue, state: State::Out });
+        self.frames.push_back(Given { name, what, reckoned, since: now, overdue, awaited: overdue, state: State::Out });
     }
 
     /// The radio told of a frame at this time, which has taken as long as `took` says of it; answers what was given.
@@ -144,8 +146,10 @@ impl<W> Flight<W> {
         }
         let step = now.saturating_sub(since.max(self.last_told)).min(MOST_STEP);
         self.last_told = self.last_told.max(now);
+        let took = took(&what);
+        self.overtake(found, name, took);
         self.spent = self.spent - self.spent / PACE_PARTS + step;
-        self.took = self.took - self.took / PACE_PARTS + took(&what);
+        self.took = self.took - self.took / PACE_PARTS + took;
         self.pace = (self.spent * PACE_UNIT / self.took.max(1)).max(PACE_UNIT / FASTEST);
         Some(what)
     }
@@ -157,9 +161,20 @@ impl<W> Flight<W> {
             reckoned += given.reckoned;
             if (given.name.place, given.name.receiver) != (late.place, late.receiver) {
                 given.overdue = given.overdue.max(now + 2 * at_pace(pace, reckoned).max(reckoned));
+                given.awaited = given.awaited.max(given.overdue);
             }
         }
         self.done = self.done.max(now + self.takes(reckoned));
+    }
+
+    /// The radio sent a frame before those up to here that it got earlier for others: these are awaited for longer.
+    fn overtake(&mut self, until: usize, sent: Name, took: Nanos) {
+        let longer = 2 * self.takes(took);
+        for given in self.frames.iter_mut().take(until) {
+            if (given.name.place, given.name.receiver) != (sent.place, sent.receiver) {
+                given.awaited += longer;
+            }
+        }
     }
 
     /// The radio was never given this frame.
@@ -169,11 +184,11 @@ impl<W> Flight<W> {
         }
     }
 
-    /// Whether the oldest frame that the radio has is for this receiver, and is out for more than twice its reckoned time.
-    /// The younger ones may wait for it alone.
+    /// Whether the oldest frame that the radio has is for this receiver, and is out for more than twice its reckoned time,
+    /// what overtook it counted. The younger ones may wait for it alone.
     pub fn is_overdue(&self, place: Place, receiver: Address, now: Nanos) -> bool {
         self.oldest()
-            .map_or(false, |given| given.overdue < now && given.name.receiver == receiver && given.name.place == place)
+            .map_or(false, |given| given.awaited < now && given.name.receiver == receiver && given.name.place == place)
     }
 
     /// Whether the radio has sent a frame for this receiver, and it isn't known what became of that.
@@ -336,6 +351,24 @@ mod tests {
         flight.forget(name(1));
         assert!(!flight.is_overdue(0, OTHER, 4 * MILLISECOND) && flight.is_overdue(0, OTHER, 4 * MILLISECOND + 1));
         assert!(!flight.is_overdue(1, OTHER, MOST_OUT));
+    }
+
+    /// A radio that serves by turns lets newer frames for others go first: by that alone none is overdue.
+    #[test]
+    fn a_frame_is_awaited_for_longer_where_newer_ones_for_others_went_before_it() {
+        let mut flight = flight();
+        let other = |number| Name { receiver: OTHER, ..name(number) };
+        flight.give(name(0), (), MILLISECOND, 0);
+        (1..4).for_each(|number| flight.give(other(number), (), MILLISECOND, 0));
+        assert!(flight.is_overdue(0, STATION, 2 * MILLISECOND + 1));
+        flight.told(other(1), MILLISECOND, |_| MILLISECOND);
+        flight.told(other(2), 2 * MILLISECOND, |_| MILLISECOND);
+        assert!(!flight.is_overdue(0, STATION, 6 * MILLISECOND) && flight.is_overdue(0, STATION, 6 * MILLISECOND + 1));
+        assert_eq!(flight.overdue(), Some(2 * MILLISECOND));
+        // one for the same receiver, or one that went in its turn, changes nothing
+        flight.give(name(4), (), MILLISECOND, 2 * MILLISECOND);
+        flight.told(name(4), 3 * MILLISECOND, |_| MILLISECOND);
+        assert!(flight.is_overdue(0, STATION, 6 * MILLISECOND + 1));
     }
 
     /// Nobody has looked yet what became of frames that the radio must have sent: a newer one doesn't wait for these.

@@ -65,6 +65,7 @@ mod frames;
 mod gathering;
 mod keeping;
 mod lanes;
+mod lateness;
 mod log;
 mod meaning;
 #[cfg(test)]

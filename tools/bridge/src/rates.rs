@@ -25,6 +25,8 @@ const BITS: f64 = 8.0 * 1200.0;
 const WEIGHT: f64 = 1.0 / 8.0;
 /// Where so large a share of tries is acknowledged, a unit that all of its tries lose is one in millions.
 const SURE_SHARE: f64 = 0.9;
+/// The weight of one try in the share of all tries: more of the past is in it, so that a row of luck is no good air.
+const WEIGHT_OF_ALL: f64 = 1.0 / 32.0;
 /// A share below this is none: the rate is sampled, and not used.
 const LEAST_SHARE: f64 = 0.05;
 /// How often a sample is sent again where no acknowledgement comes, and a unit to a station that seems to be gone.
@@ -72,9 +74,19 @@ impl Known {
         let fails = i32::from(tries) - i32::from(is_acknowledged);
         Known::Share(match self {
             _ if !is_acknowledged => 0.0,
-            Known::Share(share) if share >= LEAST_SHARE => share * (1.0 - WEIGHT).powi(fails) * (1.0 - WEIGHT) + WEIGHT,
+            Known::Share(share) if share >= LEAST_SHARE => with_more(share, WEIGHT, fails, true),
             _ => 1.0 / f64::from(tries.max(1)),
         })
+    }
+}
+
+/// A share after so many tries that were lost, and one more that wasn't, if there is one: each has this weight.
+fn with_more(share: f64, weight: f64, lost: i32, is_acknowledged: bool) -> f64 {
+    let share = share * (1.0 - weight).powi(lost);
+    if is_acknowledged {
+        share * (1.0 - weight) + weight
+    } else {
+        share
     }
 }
 
@@ -115,6 +127,8 @@ pub struct Rates {
     rates: Vec<Rate>,
     /// The one that brings the most through; the slowest where none brings anything.
     best: usize,
+    /// The share of tries at whatever rate that was acknowledged, samples not counted.
+    of_all: f64,
     /// Units in a row that nobody acknowledged, samples not counted.
     failures: u32,
     /// Units since the last sample, and when that was.
@@ -132,7 +146,7 @@ impl Rates {
         let common = BAND.iter().copied().filter(|rate| has(station, *rate) && has(network, *rate));
         let mut rates: Vec<Rate> = common.map(Rate::untried).collect();
         rates.first_mut()?.known = Known::Share(1.0);
-        Some(Rates { rates, best: 0, failures: 0, since_sample: 0, sampled: 0, turn: 0 })
+        Some(Rates { rates, best: 0, of_all: 1.0, failures: 0, since_sample: 0, sampled: 0, turn: 0 })
     }
 
     /// How the next unit is to be sent, at this time since any fixed moment, where the radio is busy or isn't.
@@ -180,7 +194,7 @@ impl Rates {
 
     /// Whether units come through as good as surely: what became of one needn't be known before the next one goes.
     pub fn are_sure(&self) -> bool {
-        self.failures == 0 && self.rates[self.best].known.share() >= SURE_SHARE
+        self.failures == 0 && self.of_all >= SURE_SHARE && self.rates[self.best].known.share() >= SURE_SHARE
     }
 
     /// What became of a unit that was sent at a rate: so many tries, the last of which was acknowledged, or none.
@@ -191,6 +205,10 @@ impl Rates {
         };
         let before = self.rates[place].known;
         self.rates[place].known = before.after(tries, is_acknowledged);
+        if !is_sample {
+            let lost = i32::from(tries) - i32::from(is_acknowledged);
+            self.of_all = with_more(self.of_all, WEIGHT_OF_ALL, lost, is_acknowledged);
+        }
         match (is_acknowledged, is_sample) {
             (true, _) => {
                 self.failures = 0;
@@ -429,6 +447,17 @@ mod tests {
         assert!(rates.are_sure());
         rates.told(2, 7, false, false);
         assert!(!rates.are_sure());
+    }
+
+    /// Half of the tries are lost: some in a row that all come through don't make the air a good one.
+    #[test]
+    fn a_row_of_luck_on_an_air_that_loses_much_is_not_taken_for_sure() {
+        let mut rates = Rates::common(&ALL, &ALL).unwrap();
+        (0..30).for_each(|_| rates.told(2, 2, true, false));
+        (0..20).for_each(|_| rates.told(2, 1, true, false));
+        assert!(!rates.are_sure());
+        (0..40).for_each(|_| rates.told(2, 1, true, false));
+        assert!(rates.are_sure());
     }
 
     #[test]

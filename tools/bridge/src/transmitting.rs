@@ -14,6 +14,7 @@ use crate::airtime::{Cost, Size};
 use crate::faults::{reason, tell};
 use crate::flight::{Flight, Name};
 use crate::frames::{Address, Frame, FrameType};
+use crate::lateness::Lateness;
 use crate::own_frames::is_null_of_network;
 use crate::radiotap::{sending_header, Outcome, SENDING_LEN};
 use crate::rates::Choice;
@@ -110,8 +111,9 @@ impl Kind {
         }
     }
 
-    /// How long it is worth sending: stations that ask for all networks listen for some 20 ms, and those that join ask
-    /// again after some 200 ms. What is for groups comes at once behind a DTIM beacon, and may last to the next beacon.
+    /// How long it is worth sending, and of a unit when it is late: stations that ask for all networks listen for some 20
+    /// ms, and those that join ask again after some 200 ms. What is for groups comes at once behind a DTIM beacon, and may
+    /// last to the next beacon.
     fn lifetime(self) -> Nanos {
         match self {
             Kind::Unit | Kind::Again => LONGEST,
@@ -123,8 +125,8 @@ impl Kind {
     }
 }
 
-/// A unit that waited for what became of one before is worth so much longer.
-const MOST_LIFETIME: Nanos = 200 * MILLISECOND;
+/// A unit is worth nothing after so long, whatever it waited for.
+const MOST_LIFETIME: Nanos = 400 * MILLISECOND;
 
 /// A frame that waits for the air.
 #[derive(Debug)]
@@ -188,6 +190,7 @@ pub struct Transmitter<P> {
     beacons: VecDeque<Vec<u8>>,
     shares: Shares<Receiver, Waiting>,
     stations: Stations,
+    lateness: Lateness,
     flight: Flight<Sent>,
     /// Frames that are the radio's turn, and for which its socket has no room yet.
     chosen: VecDeque<(Name, Vec<u8>)>,
@@ -218,6 +221,7 @@ impl<P: Port> Transmitter<P> {
             beacons: VecDeque::new(),
             shares: Shares::new(networks.iter().map(|network| network.weight)),
             stations: Stations::new(networks),
+            lateness: Lateness::default(),
             flight: Flight::new(),
             chosen: VecDeque::new(),
             spare: Vec::new(),
@@ -355,15 +359,17 @@ impl<P: Port> Transmitter<P> {
         }
     }
 
-    /// Whether a frame has waited for longer than it is worth sending. A unit's time counts since its station could be
-    /// sent to.
-    fn is_late(&self, place: Place, frame: &Waiting, now: Nanos) -> bool {
+    /// Whether the frame that waits first is worth nothing any more. A unit's time counts since its station could be sent
+    /// to, and late ones go for a while (`lateness`).
+    fn is_worthless(stations: &Stations, lateness: &mut Lateness, place: Place, frame: &Waiting, now: Nanos) -> bool {
         let waited = now.saturating_sub(frame.since);
-        if waited <= frame.kind.lifetime() || frame.kind != Kind::Unit {
-            return waited > frame.kind.lifetime();
+        let is_late = waited > frame.kind.lifetime();
+        if !matches!(frame.kind, Kind::Unit | Kind::Again) {
+            return is_late;
         }
-        let could_go = now.saturating_sub(self.stations.goes_since(place, frame.address).max(frame.since));
-        could_go > frame.kind.lifetime() || waited > MOST_LIFETIME
+        let could_go = || now.saturating_sub(stations.goes_since(place, frame.address).max(frame.since));
+        let is_late = is_late && could_go() > frame.kind.lifetime();
+        lateness.look(place, frame.address, is_late, now) || waited > MOST_LIFETIME
     }
 
     /// Whether a frame waits that may go now.
@@ -472,7 +478,7 @@ impl<P: Port> Transmitter<P> {
     fn choose(&mut self, now: Nanos) -> bool {
         while let Some((place, receiver, frame)) = self.shares.first() {
             let address = frame.address;
-            if self.is_late(place, frame, now) {
+            if Self::is_worthless(&self.stations, &mut self.lateness, place, frame, now) {
                 self.drop_first(place, receiver, Unsent::Late);
             } else if matches!(receiver, Receiver::Station(_)) && self.awaits(place, address, now) {
                 self.shares.hold(place, receiver);
@@ -1218,7 +1224,7 @@ mod tests {
         assert_eq!(driver.flush(), []);
         assert!(driver.air.gate().is_blocked() && !driver.air.has_room());
         driver.send(0, unit(OURS, STATION, 4));
-        driver.now += LONGEST + 1;
+        driver.now += MOST_LIFETIME + 1;
         driver.send(0, unit(OURS, STATION, 5));
         driver.air.gate().port.room = None;
         driver.air.gate().unblock();
@@ -1226,6 +1232,24 @@ mod tests {
         let numbers = numbers(&sent);
         assert!(numbers.contains(&3) && numbers.contains(&5) && !numbers.contains(&4), "{numbers:?}");
         assert_eq!(driver.unsent(0, Unsent::Late), 1);
+    }
+
+    /// While others take the air for less than 300 ms nothing is lost; then what could have gone for 50 ms is dropped.
+    #[test]
+    fn units_that_are_late_for_a_while_go_all_the_same() {
+        let mut driver = driver([1, 1]);
+        driver.at_54();
+        let mut goes_after = |wait: u64| {
+            driver.send(0, unit(OURS, STATION, 1));
+            driver.now += wait * MILLISECOND;
+            let sent = driver.flush();
+            sent.iter().for_each(|seen| driver.told(0, seen, 0, true));
+            !sent.is_empty()
+        };
+        let going = (0..8).map(|_| goes_after(60)).collect::<Vec<_>>();
+        assert_eq!(going, [true, true, true, true, true, false, false, false]);
+        assert!((0..31).all(|_| goes_after(10)) && goes_after(60));
+        assert_eq!(driver.unsent(0, Unsent::Late), 3);
     }
 
     #[test]
