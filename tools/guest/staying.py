@@ -14,6 +14,8 @@ from parts import Part, join
 from stage import RESTORED_FROM, RESTORED_TO, COMPILED, Net, Start, process_of, processes_of, read_answers
 from stations import Failed, Station, run, wait_for
 
+HERE = os.path.dirname(os.path.realpath(__file__))
+
 GUESTS, OFFICE, DEVICES = (f"02:00:00:00:01:0{number}" for number in (1, 2, 3))
 FIRST_STAYING = 121
 OF_NETWORKS = (10, 6, 4)  # how many stations each network has
@@ -248,8 +250,7 @@ class Stays(Part):
         flow = self.flows[1]
         flow.end()
         address = station.hardware_address()
-        station.run("iw", "dev", station.interface, "set", "power_save", "on")
-        wait_for("the station dozes", 30, lambda: " doze " in self.start.station(GUESTS, address))
+        self.go_to_doze(station, address)
         told = self.told_of_stations()
         for executable in (self.start.program, COMPILED):
             wait_for("the station dozes", 30, lambda: " doze " in self.start.station(GUESTS, address))
@@ -262,6 +263,12 @@ class Stays(Part):
             raise Failed("a station joined or left")
         self.flows[1] = Flow(station, host.address, OTHERS_EVERY, flow.log)
         return "16 pings, the program and the bridge killed"
+
+    def go_to_doze(self, station: Station, address: str) -> None:
+        """Lets a station doze by Null frames, also one that another part has let doze by polls."""
+        station.run("iw", "dev", station.interface, "set", "power_save", "off")
+        station.run(os.path.join(HERE, "doze-by-polls"), "--timeout", "100", station.interface)
+        wait_for("the station dozes", 30, lambda: " doze " in self.start.station(GUESTS, address))
 
     def gaps(self) -> str:
         """Those with the first, the third and the fourth identifier of a network leave."""
