@@ -1,6 +1,6 @@
 //! A network that keeps no history, whose frames on the air wait to be handed on.
 
-ghost use Rattle.std.specs.Prelude.{◌≡◌, ◌++◌, List, [], ℕ, IfOk, OnOk, option_to_list};
+ghost use Rattle.std.specs.Prelude.{◌≡◌, ◌++◌, List, [], ℕ, OnOk, option_to_list};
 ghost use Rattle.ap_config.specs.declared.setting.Setting.{Setting};
 ghost use Rattle.events.specs.declared.event.Event.{Event};
 ghost use Rattle.network.specs.ReceivedEvents.{event_received};
@@ -43,23 +43,6 @@ impl SendingNetwork {
             waiting: VecDeque::new(alloc),
             wire,
         }
-    }
-
-    /// The network with the frames that it sent, of which these were handed on. Those that wait come after them.
-    /// `NoMemory` where memory ran out.
-    pub fn into_network_with_frames(self, air: SentFrames) -> Result<NetworkWithFrames, NoMemory>
-        ensures { IfOk result (λ network. network ≡ sent_after air self) }
-    {
-        let SendingNetwork {
-            network,
-            waiting,
-            wire,
-        } = self;
-        let mut air = air;
-        for frame in waiting {
-            air.push(frame.as_slice())?;
-        }
-        Ok(NetworkWithFrames { network, air, wire })
     }
 
     /// Takes an event, unless it took as many as its history might have. The frames that it sends on the air wait; the
