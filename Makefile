@@ -1,6 +1,6 @@
-# The targets of this repository. All but `help` and `documents` need the Rattle toolchain's command `rt` on the path,
-# GNU make, bash, coreutils, diffutils, grep and sed; `wrong`, `bench`, `bench-limits`, `stress`, `fuzz`, `documents`
-# and the gate need python3 too. What stands after `##` is what `make help` says of a target.
+# The targets of this repository. All but `help` and `documents` need the Rattle toolchain's command `rt` on the path;
+# all need GNU make, bash, coreutils, diffutils, grep and sed, and all but `help` need python3. What stands after `##` is
+# what `make help` says of a target.
 
 TARGETS = help run try try-check test wrong refused bench bench-limits stress fuzz apctl bridge documents library \
     test-tools test-live picture captures install uninstall deb
