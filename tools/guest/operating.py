@@ -9,6 +9,7 @@ import shutil
 import signal
 import socket
 import subprocess
+import threading
 import time
 
 from frames import BROADCAST, DATA, DEAUTHENTICATION, DISASSOCIATION, NULL, Frame, address_of
@@ -210,8 +211,7 @@ class Flood(Part):
                 time.sleep(0.001)
             ended = time.monotonic()
             refused = self.network()["refusals"].get("1", 0)
-            wait_for("a newcomer finds room", 60, lambda: self.finds_room(sending), EVERY)
-        seconds = time.monotonic() - ended
+            seconds = self.found_room(sending) - ended
         if not refused or seconds > ROOM_SECONDS:
             raise Failed(f"{refused} were refused by the end of the flood, and a newcomer for {seconds:.1f} seconds "
                          "after it")
@@ -225,10 +225,27 @@ class Flood(Part):
         return (f"sent within {ended - begun:.0f} seconds, {refused} refused by then; room after {seconds:.1f} "
                 f"seconds, and the beacons {self.lateness()}")
 
-    def finds_room(self, sending: socket.socket) -> bool:
-        """Whether one that asks to authenticate is known then."""
-        sending.send(authentication(address_of(NEWCOMER)))
-        return any(station["address"] == NEWCOMER for station in self.network()["stations"])
+    def found_room(self, sending: socket.socket) -> float:
+        """When one was known that asks again and again to authenticate: asking for the status takes a second here."""
+        found, ends = [], threading.Event()
+
+        def ask_again() -> None:
+            while not ends.wait(EVERY):
+                sending.send(authentication(address_of(NEWCOMER)))
+
+        def is_known() -> bool:
+            stations, now = self.network()["stations"], time.monotonic()
+            found.extend(now - station["since"] for station in stations if station["address"] == NEWCOMER)
+            return bool(found)
+
+        asking = threading.Thread(target=ask_again, daemon=True)
+        asking.start()
+        try:
+            wait_for("a newcomer finds room", 60, is_known, EVERY)
+        finally:
+            ends.set()
+            asking.join()
+        return found[0]
 
     @staticmethod
     def network() -> dict:
