@@ -1,22 +1,21 @@
 -- An index is told the place that each slot of it has in a row, which is where its entry stands once no slot is a hole.
 use Rattle.std.proofs.Common.{◌≡◌, ℕ, zero, suc, ◌+◌, ◌<◌, ◌≤◌, Bool, true, false, List, [], ◌∷◌, ◌++◌, length, take, drop, map, get_or, filter, slice_get, Result, Ok, Err, Option, Some, None, is_some, option_map, refl, sym, ap, subst, ◌∙◌, arith, inl, inr, nat_cmp}
 use Rattle.std.specs.Prelude.{nat_eq, IfSome, MatchResult}
-use Rattle.std.specs.List.{AllByRecursion, IsDistinct, range_with_len}
+use Rattle.std.specs.List.{IsDistinct, range_with_len}
 use Rattle.std.specs.List.Sorted.{IsBinarySearchResult}
 use Rattle.std.specs.Map.{lookup, keys_of, values_of}
 use Rattle.std.specs.Str.{bytes_eq}
 use Rattle.indexmap.specs.IndexMap.{set_value_at}
-use Rattle.std.proofs.lemmas.Bool.{cases_lt, eq-eqb, eqb-true}
-use Rattle.std.proofs.lemmas.List.{get_or_default}
+use Rattle.std.proofs.lemmas.Bool.{cases_lt, cond_both, eq-eqb, eqb-true, ne_eqb}
 use Rattle.std.proofs.lemmas.List.Sorted.{searched}
-use Rattle.std.proofs.lemmas.Map.Keys.{IsDistinct-head, IsDistinct-tail}
+use Rattle.std.proofs.lemmas.Map.Entries.{lookup_from_place}
+use Rattle.std.proofs.lemmas.Cmp.{nat_list_eq_equiv}
 use Rattle.std.proofs.lemmas.Map.Made.{lookup-map_values}
-use Rattle.std.proofs.lemmas.Option.{slice_get_read, slice_get_within, get_or_from_slice_get}
+use Rattle.std.proofs.lemmas.Option.{slice_get-get_or, slice_get_within, get_or_from_slice_get}
 use Rattle.address_map.specs.Entries.{value_of, AreApart}
 use Rattle.address_map.specs.Slots.{Slots, entries_in, slot_of, AreFound, slot_at, listed, holes_from, Rises, place_in, AreIn, with_places, IsListed}
-use Rattle.address_map.proofs.ChangedEntries.{other_way}
-use Rattle.address_map.proofs.FoundSlots.{equal_addr, slot_of-at, slot_of-none, unknown-where}
-use Rattle.address_map.proofs.SlotOrder.{one_slot, slot_at-get, slot_at-some, slot_of-here, listed-get, place-of, holes-count, order-all, rises-from, rises-order}
+use Rattle.address_map.proofs.FoundSlots.{slot_of-at, slot_of-none, unknown-where}
+use Rattle.address_map.proofs.SlotOrder.{no-holes, one_slot, slot_at-get, slot_at-some, slot_of-here, listed-get, place-of, order-all, rises-from, rises-order}
 
 -- ---- a place in a row
 
@@ -25,37 +24,19 @@ rises-above n [] k x h at = absurd (cc)
 rises-above n (y ∷ xs) zero x h at = let same : y ≡ x = cc in omega (arith, h.0, same)
 rises-above n (y ∷ xs) (suc k) x h at = let rest = rises-above (suc y) xs k x h.1 at in omega (arith, rest, h.0)
 
-lower-eqb : (a b : ℕ) → a < b → nat_eq a b ≡ false
-lower-eqb a b h = by (nat_eq a b) refl
-  where
-    by : (r : Bool) → nat_eq a b ≡ r → nat_eq a b ≡ false
-    by false e = e
-    by true e = let same : a ≡ b = eqb-true a b e in absurd (omega (arith, same, h))
-
 -- of numbers that rise each has one place
 pub place-is : (n : ℕ) (xs : List ℕ) (k x : ℕ) → Rises n xs → slice_get xs k ≡ Some x → k ≡ place_in xs x
 place-is n [] k x h at = absurd (cc)
-place-is n (y ∷ xs) zero x h at =
-    let is : y ≡ x = cc in
-    let same : nat_eq y x ≡ true = eq-eqb y x is in
-    rw same refl
+place-is n (y ∷ xs) zero x h at = let same : nat_eq y x ≡ true = eq-eqb y x cc in rw same refl
 place-is n (y ∷ xs) (suc k) x h at =
-    let above : suc y ≤ x = rises-above (suc y) xs k x h.1 at in
-    let other : nat_eq y x ≡ false = lower-eqb y x (omega (arith, above)) in
+    let other : nat_eq y x ≡ false = ne_eqb y x (λ same. omega (arith, same, rises-above (suc y) xs k x h.1 at)) in
     rw other (ap (λ m. suc m) (place-is (suc y) xs k x h.1 at))
 
 -- what stands in a row stands at its place
 pub place-there : (xs : List ℕ) (k x : ℕ) → slice_get xs k ≡ Some x → slice_get xs (place_in xs x) ≡ Some x
 place-there [] k x at = absurd (cc)
-place-there (y ∷ xs) zero x at =
-    let is : y ≡ x = cc in
-    let same : nat_eq y x ≡ true = eq-eqb y x is in
-    rw same (ap (λ n. Some n) is)
-place-there (y ∷ xs) (suc k) x at = by (nat_eq y x) refl (place-there xs k x at)
-  where
-    by : (r : Bool) → nat_eq y x ≡ r → slice_get xs (place_in xs x) ≡ Some x → slice_get (y ∷ xs) (place_in (y ∷ xs) x) ≡ Some x
-    by true same rest = rw same (ap (λ n. Some n) (eqb-true y x same))
-    by false other rest = rw other rest
+place-there (y ∷ xs) zero x at = let same : nat_eq y x ≡ true = eq-eqb y x cc in rw same cc
+place-there (y ∷ xs) (suc k) x at = grind (arith, place-there xs k x at, eqb-true y x)
 
 -- ---- entries of an index
 
@@ -64,20 +45,8 @@ value-at [] i v h = absurd (cc)
 value-at (e ∷ es) zero v h = let is : e.1 ≡ v = cc in (e.0, ap (λ n. Some (e.0, n)) is)
 value-at (e ∷ es) (suc i) v h = value-at es i v h
 
-key-apart : (k : List ℕ) (es : List (List ℕ × ℕ)) (i : ℕ) (e : List ℕ × ℕ) → AllByRecursion (λ y. bytes_eq k y ≡ false) (keys_of es) → slice_get es i ≡ Some e → bytes_eq k e.0 ≡ false
-key-apart k [] i e h at = absurd (cc)
-key-apart k (x ∷ es) zero e h at = let same : x ≡ e = cc in ap (λ (y : List ℕ × ℕ). bytes_eq k y.0) (sym same) ∙ h.0
-key-apart k (x ∷ es) (suc i) e h at = key-apart k es i e h.1 at
-
 pub lookup-own : (es : List (List ℕ × ℕ)) (i : ℕ) (e : List ℕ × ℕ) → IsDistinct bytes_eq (keys_of es) → slice_get es i ≡ Some e → lookup (bytes_eq e.0) es ≡ Some e.1
-lookup-own [] i e h at = absurd (cc)
-lookup-own (x ∷ es) zero e h at =
-    let same : x ≡ e = cc in
-    let here : bytes_eq e.0 x.0 ≡ true = ap (λ (y : List ℕ × ℕ). bytes_eq e.0 y.0) same ∙ equal_addr e.0 in
-    rw here (ap (λ (y : List ℕ × ℕ). Some y.1) same)
-lookup-own (x ∷ es) (suc i) e h at =
-    let other : bytes_eq e.0 x.0 ≡ false = other_way x.0 e.0 (key-apart x.0 es i e (IsDistinct-head bytes_eq x.0 (keys_of es) h) at) in
-    rw other (lookup-own es i e (IsDistinct-tail bytes_eq x.0 (keys_of es) h) at)
+lookup-own es i e h at = lookup_from_place nat_list_eq_equiv es i e.0 e.1 h at
 
 -- ---- so many entries have their places
 
@@ -100,34 +69,21 @@ module _ {V : Type 0} where
   full-is n (None ∷ slots) h = absurd (cc)
   full-is n (Some e ∷ slots) h = ap (λ (s : Slots V). Some e ∷ s) (full-is (suc n) slots h)
 
-  no-holes : (slots : Slots V) → length (entries_in slots) ≡ length slots → holes_from 0 slots ≡ []
-  no-holes slots full = empty (holes_from 0 slots) (let count = holes-count 0 slots in omega (arith, count, full))
-    where
-      empty : (places : List ℕ) → length places ≡ 0 → places ≡ []
-      empty [] h = refl
-      empty (p ∷ places) h = absurd (omega (arith, h))
-
   same_row : (n : ℕ) (a b : List ℕ) (slots : Slots V) → AreApart (entries_in slots) → holes_from n (listed a slots) ≡ [] → listed a slots ≡ listed b slots → a ≡ b
   same_row n [] [] slots apart full same = refl
   same_row n [] (y ∷ b) slots apart full same = absurd (cc)
   same_row n (x ∷ a) [] slots apart full same = absurd (cc)
-  same_row n (x ∷ a) (y ∷ b) slots apart full same = by (slot_at slots x) refl full (λ rest tails. same_row (suc n) a b slots apart rest tails)
+  same_row n (x ∷ a) (y ∷ b) slots apart full same = by (slot_at slots x) refl full (same_row (suc n) a b slots apart)
     where
       by : (o : Option (List ℕ × V)) → slot_at slots x ≡ o → holes_from n (o ∷ listed a slots) ≡ [] → (holes_from (suc n) (listed a slots) ≡ [] → listed a slots ≡ listed b slots → a ≡ b) → x ∷ a ≡ y ∷ b
       by None here none later = absurd (cc)
-      by (Some e) here none later =
-          let heads : slot_at slots x ≡ slot_at slots y = cc in
-          let tails : listed a slots ≡ listed b slots = cc in
-          let equal : y ≡ x = one_slot slots x y e e.1 apart (slot_at-some slots x e here) (sym heads ∙ here) in
-          ap (λ k. k ∷ a) (sym equal) ∙ ap (λ (r : List ℕ). y ∷ r) (later none tails)
+      by (Some e) here none later = cc (one_slot slots x y e e.1 apart (slot_at-some slots x e here) cc, later none cc)
 
 rises-filter : (n : ℕ) (p : ℕ → Bool) (xs : List ℕ) → Rises n xs → Rises n (filter p xs)
 rises-filter n p [] h = tt
-rises-filter n p (x ∷ xs) h = by (p x) refl (rises-filter (suc x) p xs h.1)
-  where
-    by : (b : Bool) → p x ≡ b → Rises (suc x) (filter p xs) → Rises n (filter p (x ∷ xs))
-    by true is rest = rw is (h.0, rest)
-    by false is rest = rw is (rises-from n (suc x) (filter p xs) (omega (arith, h.0)) rest)
+rises-filter n p (x ∷ xs) h =
+    let rest = rises-filter (suc x) p xs h.1 in
+    cond_both (p x) _ _ (Rises n) (λ _. (h.0, rest)) (λ _. rises-from n (suc x) (filter p xs) (omega (arith, h.0)) rest)
 
 rises-range : (a m : ℕ) → Rises a (range_with_len a m)
 rises-range a zero = tt
@@ -140,12 +96,12 @@ module _ {V : Type 0} where
       let p : ℕ → Bool = λ i. is_some (slot_at slots i) in
       let all : List ℕ = filter p (range_with_len 0 (length slots)) in
       let a = order-all slots in
-      let equal : listed row slots ≡ listed all slots = full-is 0 (listed row slots) (sym l.places) ∙ ap (map (λ (s : List ℕ × V). Some s)) (l.entries ∙ sym a.entries) ∙ sym (full-is 0 (listed all slots) (sym a.places)) in
-      subst (Rises 0) (sym (same_row 0 row all slots apart (sym l.places) equal)) (rises-filter 0 p (range_with_len 0 (length slots)) (rises-range 0 (length slots)))
+      let equal : listed row slots ≡ listed all slots = cc (full-is 0 (listed row slots) (sym l.places), full-is 0 (listed all slots) (sym a.places)) in
+      rw (same_row 0 row all slots apart (sym l.places) equal) (rises-filter 0 p (range_with_len 0 (length slots)) (rises-range 0 (length slots)))
 
   -- each slot of the index stands in it
   pub slots-in : (index : List (List ℕ × ℕ)) (row : List ℕ) (slots : Slots V) → AreApart (entries_in slots) → AreFound index slots → IsListed row [] slots → AreIn row index
-  slots-in index row slots apart found l addr = subst (λ (o : Option ℕ). IfSome o (λ i. slice_get row (place_in row i) ≡ Some i)) (sym (found addr)) (by (slot_of addr slots) refl)
+  slots-in index row slots apart found l addr = rw (found addr) (by (slot_of addr slots) refl)
     where
       by : (o : Option ℕ) → slot_of addr slots ≡ o → IfSome o (λ i. slice_get row (place_in row i) ≡ Some i)
       by None is = tt
@@ -160,16 +116,15 @@ module _ {V : Type 0} where
       lookup-map_values (place_in row) (bytes_eq addr) index ∙ ap (option_map (place_in row)) (found addr) ∙ by (slot_of addr before) refl
     where
       moved : listed row before ≡ after
-      moved = full-is 0 (listed row before) (sym l.places) ∙ ap (map (λ (s : List ℕ × V). Some s)) (l.entries ∙ sym same) ∙ sym (full-is 0 after (no-holes after full))
+      moved = cc (full-is 0 (listed row before) (sym l.places), full-is 0 after (no-holes after full))
 
       by : (o : Option ℕ) → slot_of addr before ≡ o → option_map (place_in row) o ≡ slot_of addr after
       by None is = sym (slot_of-none addr after (ap (value_of addr) same ∙ unknown-where addr before is))
       by (Some i) is =
           let at = slot_of-at addr before i is in
           let q = place-of row before i (addr, at.0) apart l.entries at.1.slot in
-          let there : slice_get (listed row before) (place_in row i) ≡ Some (Some (addr, at.0)) = listed-get row before (place_in row i) i (place-there row q.0 i q.1) ∙ ap (λ (y : Option (List ℕ × V)). Some y) (slot_at-get before i (Some (addr, at.0)) at.1.slot) in
-          let here : slice_get after (place_in row i) ≡ Some (Some (addr, at.0)) = ap (λ (s : Slots V). slice_get s (place_in row i)) (sym moved) ∙ there in
-          sym (slot_of-here after (place_in row i) (addr, at.0) (subst AreApart (sym same) apart) here)
+          let there : slice_get (listed row before) (place_in row i) ≡ Some (Some (addr, at.0)) = cc (listed-get row before (place_in row i) i (place-there row q.0 i q.1), slot_at-get before i (Some (addr, at.0)) at.1.slot) in
+          sym (slot_of-here after (place_in row i) (addr, at.0) (rw same apart) (rw moved at there))
 
 -- ---- a search by halves
 
@@ -181,10 +136,5 @@ found-there row k x r rise h at = by r (searched row x r h (λ i j le low. rises
     there = get_or_from_slice_get row k x 0 at
 
     by : (r : Result ℕ ℕ) → MatchResult r (λ i. (i < length row) × (get_or row i 0 ≡ x)) (λ i. (i ≤ length row) × ((j : ℕ) → j < i → get_or row j 0 < x) × ((j : ℕ) → i ≤ j → j < length row → x < get_or row j 0)) → r ≡ Ok (place_in row x)
-    by (Ok i) s =
-        let read : slice_get row i ≡ Some x = slice_get_read row (length row) i x refl s.0 (sym s.1 ∙ get_or_default row i 0 x s.0) in
-        ap (λ n. Ok n) (place-is 0 row i x rise read)
-    by (Err i) s = elim (cases_lt k i) [
-      | inl low ↦ absurd (omega (arith, s.1 k low, there))
-      | inr high ↦ absurd (omega (arith, s.2 k high (slice_get_within row k x at), there))
-    ]
+    by (Ok i) s = ap (λ n. Ok n) (place-is 0 row i x rise (slice_get-get_or row i 0 s.0 ∙ ap (λ n. Some n) s.1))
+    by (Err i) s = elim (cases_lt k i) [ inl low ↦ absurd (omega (arith, s.1 k low, there)) | inr high ↦ absurd (omega (arith, s.2 k high (slice_get_within row k x at), there)) ]

@@ -1,41 +1,32 @@
 -- The order of the slots: which entries a row of them has, which places are gone, and what becomes of both.
-use Rattle.std.proofs.Common.{◌≡◌, ◌⊎◌, ℕ, zero, suc, ◌+◌, ◌-◌, ◌<◌, ◌≤◌, Bool, true, false, List, [], ◌∷◌, ◌++◌, length, get_or, set, take, drop, min, filter, slice_get, Option, Some, None, is_some, refl, sym, ap, subst, ◌∙◌, arith, inl, inr, cond}
+use Rattle.std.proofs.Common.{◌≡◌, ℕ, zero, suc, ◌+◌, ◌-◌, ◌<◌, ◌≤◌, Bool, true, false, List, [], ◌∷◌, ◌++◌, length, get_or, set, take, drop, min, filter, slice_get, Option, Some, None, is_some, refl, sym, ap, subst, ◌∙◌, arith, inl, inr, cond}
 use Rattle.std.specs.Prelude.{nat_lt}
 use Rattle.std.specs.List.{AllByRecursion, insert, range_with_len}
 use Rattle.std.specs.List.Sorted.{IsPartitionPoint}
-use Rattle.std.specs.Map.{lookup, set_value, remove_entry}
+use Rattle.std.specs.Map.{lookup, remove_entry}
 use Rattle.std.specs.Str.{bytes_eq}
-use Rattle.std.proofs.lemmas.Bool.{both_ways, cases_lt, le-ltb, lt-ltb}
-use Rattle.std.proofs.lemmas.List.{append_cancel_right, length-append, length-set, length-take, append-nil, get_or-drop, drop-drop, take_all, take_more}
-use Rattle.std.proofs.lemmas.List.Elements.{filter-append}
-use Rattle.std.proofs.lemmas.Option.{slice_get_within, get_or_from_slice_get}
+use Rattle.std.proofs.lemmas.Bool.{cases_eq, cond_both, le-ltb, lt-ltb}
+use Rattle.std.proofs.lemmas.List.{append_cancel_right, get_or-set_same, get_or-set_other, get_or_append_left, get_or_past, get_or_push, nil_from_length, set_at, length-append, length-set, length_push, length-take, append-nil, get_or-drop, take_all, take_more}
+use Rattle.std.proofs.lemmas.Option.{slice_get_within, slice_get-get_or, get_or_from_slice_get}
 use Rattle.std.proofs.Math.Seq.{take-append_seam}
-use Rattle.address_map.specs.Entries.{Entries, value_of, AreApart}
+use Rattle.address_map.specs.Entries.{value_of, AreApart}
 use Rattle.address_map.specs.Slots.{Slots, entries_in, slot_of, IsAt, slot_at, listed, holes_from, past, with_place, Rises, EndsWith, IsListed, MayList, TakesOut, IsAddressMap}
-use Rattle.address_map.proofs.ChangedEntries.{with_entry-unknown, apart-set, apart-removed, not-here}
+use Rattle.address_map.proofs.ChangedEntries.{with_entry-unknown, apart-set, apart-removed}
 use Rattle.address_map.proofs.FoundSlots.{equal_addr, slot_of-known, slot_of-none, slot_of-at, known-at, entries-set, entries-with_entry, entries-out, found-set, found-out, found-hole, found-last, first-at, taken-at, unknown-where, entries-last, entries-kept, entries-append}
 
 -- ---- one slot
 
-same_or_not : (i j : ℕ) → (i ≡ j) ⊎ (i ≡ j → ⊥)
-same_or_not i j = elim (cases_lt i j) [
-  | inl below ↦ inr (λ e. omega (arith, below, e))
-  | inr behind ↦ elim (cases_lt j i) [
-    | inl above ↦ inr (λ e. omega (arith, above, e))
-    | inr within ↦ inl (omega (arith, behind, within))
-  ]
-]
-
 module _ {V : Type 0} where
+  slot_at-is : (slots : Slots V) (i : ℕ) → slot_at slots i ≡ get_or slots i None
+  slot_at-is [] i = refl
+  slot_at-is (y ∷ slots) zero = refl
+  slot_at-is (y ∷ slots) (suc i) = slot_at-is slots i
+
   pub slot_at-get : (slots : Slots V) (i : ℕ) (x : Option (List ℕ × V)) → slice_get slots i ≡ Some x → slot_at slots i ≡ x
-  slot_at-get [] i x h = absurd (cc)
-  slot_at-get (y ∷ slots) zero x h = cc
-  slot_at-get (y ∷ slots) (suc i) x h = slot_at-get slots i x h
+  slot_at-get slots i x h = slot_at-is slots i ∙ get_or_from_slice_get slots i x None h
 
   pub slot_at-beyond : (slots : Slots V) (i : ℕ) → length slots ≤ i → slot_at slots i ≡ None
-  slot_at-beyond [] i h = refl
-  slot_at-beyond (y ∷ slots) zero h = absurd (omega (arith, h))
-  slot_at-beyond (y ∷ slots) (suc i) h = slot_at-beyond slots i (omega (arith, h))
+  slot_at-beyond slots i h = slot_at-is slots i ∙ get_or_past slots i None h
 
   pub slot_at-some : (slots : Slots V) (i : ℕ) (entry : List ℕ × V) → slot_at slots i ≡ Some entry → slice_get slots i ≡ Some (Some entry)
   slot_at-some [] i entry h = absurd (cc)
@@ -43,25 +34,16 @@ module _ {V : Type 0} where
   slot_at-some (y ∷ slots) (suc i) entry h = slot_at-some slots i entry h
 
   slot_at-set : (slots : Slots V) (i : ℕ) (x : Option (List ℕ × V)) → i < length slots → slot_at (set slots i x) i ≡ x
-  slot_at-set [] i x h = absurd (omega (arith, h))
-  slot_at-set (y ∷ slots) zero x h = refl
-  slot_at-set (y ∷ slots) (suc i) x h = slot_at-set slots i x (omega (arith, h))
+  slot_at-set slots i x h = slot_at-is (set slots i x) i ∙ get_or-set_same slots i x None h
 
   slot_at-set-other : (slots : Slots V) (i j : ℕ) (x : Option (List ℕ × V)) → (i ≡ j → ⊥) → slot_at (set slots i x) j ≡ slot_at slots j
-  slot_at-set-other [] i j x h = refl
-  slot_at-set-other (y ∷ slots) zero zero x h = absurd (h refl)
-  slot_at-set-other (y ∷ slots) zero (suc j) x h = refl
-  slot_at-set-other (y ∷ slots) (suc i) zero x h = refl
-  slot_at-set-other (y ∷ slots) (suc i) (suc j) x h = slot_at-set-other slots i j x (λ e. h (ap (λ n. suc n) e))
+  slot_at-set-other slots i j x h = slot_at-is (set slots i x) j ∙ get_or-set_other slots i j x None (λ e. h (sym e)) ∙ sym (slot_at-is slots j)
 
   slot_at-before : (slots more : Slots V) (i : ℕ) → i < length slots → slot_at (slots ++ more) i ≡ slot_at slots i
-  slot_at-before [] more i h = absurd (omega (arith, h))
-  slot_at-before (y ∷ slots) more zero h = refl
-  slot_at-before (y ∷ slots) more (suc i) h = slot_at-before slots more i (omega (arith, h))
+  slot_at-before slots more i h = slot_at-is (slots ++ more) i ∙ get_or_append_left slots more None i h ∙ sym (slot_at-is slots i)
 
   slot_at-last : (slots : Slots V) (x : Option (List ℕ × V)) → slot_at (slots ++ x ∷ []) (length slots) ≡ x
-  slot_at-last [] x = refl
-  slot_at-last (y ∷ slots) x = slot_at-last slots x
+  slot_at-last slots x = slot_at-is (slots ++ x ∷ []) (length slots) ∙ get_or_push slots x None (length slots) refl
 
   -- ---- an entry stands in one slot
 
@@ -70,32 +52,28 @@ module _ {V : Type 0} where
   apart-rest (Some e) slots h = h.1
 
   unknown-rest : (addr : List ℕ) (x : Option (List ℕ × V)) (slots : Slots V) → value_of addr (entries_in (x ∷ slots)) ≡ None → value_of addr (entries_in slots) ≡ None
-  unknown-rest addr None slots h = h
-  unknown-rest addr (Some e) slots h = (not-here (bytes_eq addr e.0) e.1 (value_of addr (entries_in slots)) h).1
+  unknown-rest addr x slots h = grind (arith, h)
 
   known-first : (entry : List ℕ × V) (slots : Slots V) → is_some (value_of entry.0 (entries_in (Some entry ∷ slots))) ≡ true
-  known-first entry slots = let here : bytes_eq entry.0 entry.0 ≡ true = equal_addr entry.0 in rw here refl
+  known-first entry slots = rw (equal_addr entry.0)
 
   pub one_slot : (slots : Slots V) (m n : ℕ) (entry : List ℕ × V) (value : V) → AreApart (entries_in slots) → slice_get slots m ≡ Some (Some entry) → slot_at slots n ≡ Some (entry.0, value) → n ≡ m
   one_slot [] m n entry value apart at other = absurd (cc)
   one_slot (x ∷ slots) zero zero entry value apart at other = refl
   one_slot (x ∷ slots) zero (suc n) entry value apart at other =
       let first : x ≡ Some entry = cc in
-      let none : value_of entry.0 (entries_in slots) ≡ None = (subst (λ (y : Option (List ℕ × V)). AreApart (entries_in (y ∷ slots))) first apart).0 in
-      absurd (both_ways (is_some (value_of entry.0 (entries_in slots))) (ap is_some none) (known-at slots n (entry.0, value) (slot_at-some slots n (entry.0, value) other)))
-  one_slot (x ∷ slots) (suc m) zero entry value apart at other =
-      let none : value_of entry.0 (entries_in slots) ≡ None = (subst (λ (y : Option (List ℕ × V)). AreApart (entries_in (y ∷ slots))) other apart).0 in
-      absurd (both_ways (is_some (value_of entry.0 (entries_in slots))) (ap is_some none) (known-at slots m entry at))
+      absurd (cc ((rw first at apart).0, known-at slots n (entry.0, value) (slot_at-some slots n (entry.0, value) other)))
+  one_slot (x ∷ slots) (suc m) zero entry value apart at other = absurd (cc ((rw other at apart).0, known-at slots m entry at))
   one_slot (x ∷ slots) (suc m) (suc n) entry value apart at other = ap (λ k. suc k) (one_slot slots m n entry value (apart-rest x slots apart) at other)
 
   pub slot_of-here : (slots : Slots V) (i : ℕ) (entry : List ℕ × V) → AreApart (entries_in slots) → slice_get slots i ≡ Some (Some entry) → slot_of entry.0 slots ≡ Some i
   slot_of-here slots i entry apart h = by (slot_of entry.0 slots) refl
     where
       by : (o : Option ℕ) → slot_of entry.0 slots ≡ o → slot_of entry.0 slots ≡ Some i
-      by None is = absurd (both_ways (is_some (slot_of entry.0 slots)) (ap is_some is) (slot_of-known entry.0 slots ∙ known-at slots i entry h))
+      by None is = absurd (cc (slot_of-known entry.0 slots, known-at slots i entry h))
       by (Some j) is =
           let found = slot_of-at entry.0 slots j is in
-          is ∙ ap (λ n. Some n) (one_slot slots i j entry found.0 apart h (slot_at-get slots j (Some (entry.0, found.0)) found.1.slot))
+          cc (one_slot slots i j entry found.0 apart h (slot_at-get slots j (Some (entry.0, found.0)) found.1.slot))
 
   -- ---- a row
 
@@ -120,79 +98,55 @@ module _ {V : Type 0} where
   -- a slot that the row doesn't have
   listed-away : (row : List ℕ) (slots : Slots V) (i : ℕ) (x : Option (List ℕ × V)) (entry : List ℕ × V) → slice_get slots i ≡ Some (Some entry) → value_of entry.0 (entries_in (listed row slots)) ≡ None → listed row (set slots i x) ≡ listed row slots
   listed-away [] slots i x entry at none = refl
-  listed-away (r ∷ row) slots i x entry at none = elim (same_or_not i r) [
+  listed-away (r ∷ row) slots i x entry at none = elim (cases_eq i r) [
     | inl same ↦
-        let here : slot_at slots r ≡ Some entry = ap (slot_at slots) (sym same) ∙ slot_at-get slots i (Some entry) at in
-        let gone : value_of entry.0 (entries_in (Some entry ∷ listed row slots)) ≡ None = ap (λ (y : Option (List ℕ × V)). value_of entry.0 (entries_in (y ∷ listed row slots))) (sym here) ∙ none in
-        absurd (both_ways (is_some (value_of entry.0 (entries_in (Some entry ∷ listed row slots)))) (ap is_some gone) (known-first entry (listed row slots)))
-    | inr other ↦
-        let first : slot_at (set slots i x) r ≡ slot_at slots r = slot_at-set-other slots i r x other in
-        let rest : listed row (set slots i x) ≡ listed row slots = listed-away row slots i x entry at (unknown-rest entry.0 (slot_at slots r) (listed row slots) none) in
-        ap (λ (y : Option (List ℕ × V)). y ∷ listed row (set slots i x)) first ∙ ap (λ (s : Slots V). slot_at slots r ∷ s) rest
+        let here : slot_at slots r ≡ Some entry = cc (slot_at-get slots i (Some entry) at) in
+        absurd (cc (rw here at none, known-first entry (listed row slots)))
+    | inr other ↦ cc (slot_at-set-other slots i r x other, listed-away row slots i x entry at (unknown-rest entry.0 (slot_at slots r) (listed row slots) none))
   ]
 
   -- a slot that it has at a place
   pub listed-set : (row : List ℕ) (slots : Slots V) (q i : ℕ) (x : Option (List ℕ × V)) (entry : List ℕ × V) → AreApart (entries_in (listed row slots)) → slice_get row q ≡ Some i → slice_get slots i ≡ Some (Some entry) → listed row (set slots i x) ≡ set (listed row slots) q x
   listed-set [] slots q i x entry apart at slot = absurd (cc)
   listed-set (r ∷ row) slots zero i x entry apart at slot =
-      let same : i ≡ r = cc in
-      let here : slot_at slots r ≡ Some entry = ap (slot_at slots) (sym same) ∙ slot_at-get slots i (Some entry) slot in
-      let none : value_of entry.0 (entries_in (listed row slots)) ≡ None = (subst (λ (y : Option (List ℕ × V)). AreApart (entries_in (y ∷ listed row slots))) here apart).0 in
-      let first : slot_at (set slots i x) r ≡ x = ap (slot_at (set slots i x)) (sym same) ∙ slot_at-set slots i x (slice_get_within slots i (Some entry) slot) in
-      ap (λ (y : Option (List ℕ × V)). y ∷ listed row (set slots i x)) first ∙ ap (λ (s : Slots V). x ∷ s) (listed-away row slots i x entry slot none)
-  listed-set (r ∷ row) slots (suc q) i x entry apart at slot = elim (same_or_not i r) [
+      let here : slot_at slots r ≡ Some entry = cc (slot_at-get slots i (Some entry) slot) in
+      cc (slot_at-set slots i x (slice_get_within slots i (Some entry) slot), listed-away row slots i x entry slot (rw here at apart).0)
+  listed-set (r ∷ row) slots (suc q) i x entry apart at slot = elim (cases_eq i r) [
     | inl same ↦
-        let here : slot_at slots r ≡ Some entry = ap (slot_at slots) (sym same) ∙ slot_at-get slots i (Some entry) slot in
-        let none : value_of entry.0 (entries_in (listed row slots)) ≡ None = (subst (λ (y : Option (List ℕ × V)). AreApart (entries_in (y ∷ listed row slots))) here apart).0 in
-        let again : slice_get (listed row slots) q ≡ Some (Some entry) = listed-get row slots q i at ∙ ap (λ (y : Option (List ℕ × V)). Some y) (slot_at-get slots i (Some entry) slot) in
-        absurd (both_ways (is_some (value_of entry.0 (entries_in (listed row slots)))) (ap is_some none) (known-at (listed row slots) q entry again))
-    | inr other ↦
-        let first : slot_at (set slots i x) r ≡ slot_at slots r = slot_at-set-other slots i r x other in
-        let rest : listed row (set slots i x) ≡ set (listed row slots) q x = listed-set row slots q i x entry (apart-rest (slot_at slots r) (listed row slots) apart) at slot in
-        ap (λ (y : Option (List ℕ × V)). y ∷ listed row (set slots i x)) first ∙ ap (λ (s : Slots V). slot_at slots r ∷ s) rest
+        let here : slot_at slots r ≡ Some entry = cc (slot_at-get slots i (Some entry) slot) in
+        let again : slice_get (listed row slots) q ≡ Some (Some entry) = cc (listed-get row slots q i at) in
+        absurd (cc ((rw here at apart).0, known-at (listed row slots) q entry again))
+    | inr other ↦ cc (slot_at-set-other slots i r x other, listed-set row slots q i x entry (apart-rest (slot_at slots r) (listed row slots) apart) at slot)
   ]
 
   -- each slot that has an entry is in the row
   pub place-of : (row : List ℕ) (slots : Slots V) (i : ℕ) (entry : List ℕ × V) → AreApart (entries_in slots) → entries_in (listed row slots) ≡ entries_in slots → slice_get slots i ≡ Some (Some entry) → (q : ℕ) × (slice_get row q ≡ Some i)
   place-of row slots i entry apart same at = by (slot_of entry.0 (listed row slots)) refl
     where
-      known : is_some (slot_of entry.0 (listed row slots)) ≡ true
-      known = slot_of-known entry.0 (listed row slots) ∙ ap (λ (t : Entries V). is_some (value_of entry.0 t)) same ∙ known-at slots i entry at
-
       by : (o : Option ℕ) → slot_of entry.0 (listed row slots) ≡ o → (q : ℕ) × (slice_get row q ≡ Some i)
-      by None is = absurd (both_ways (is_some (slot_of entry.0 (listed row slots))) (ap is_some is) known)
+      by None is = absurd (cc (slot_of-known entry.0 (listed row slots), known-at slots i entry at))
       by (Some q) is =
           let found = slot_of-at entry.0 (listed row slots) q is in
           let there = listed-at row slots q (entry.0, found.0) found.1.slot in
-          let one : slot_of entry.0 slots ≡ Some there.0 = slot_of-here slots there.0 (entry.0, found.0) apart (slot_at-some slots there.0 (entry.0, found.0) there.2) in
-          let two : slot_of entry.0 slots ≡ Some i = slot_of-here slots i entry apart at in
-          let equal : there.0 ≡ i = cc in
-          (q, there.1 ∙ ap (λ n. Some n) equal)
+          (q, cc (one_slot slots i there.0 entry found.0 apart at there.2))
 
   pub listed-append : (row : List ℕ) (slots : Slots V) (x : Option (List ℕ × V)) → AllByRecursion (λ i. i < length slots) row → listed (row ++ length slots ∷ []) (slots ++ x ∷ []) ≡ listed row slots ++ x ∷ []
   listed-append [] slots x h = ap (λ (y : Option (List ℕ × V)). y ∷ []) (slot_at-last slots x)
-  listed-append (r ∷ row) slots x h =
-      ap (λ (y : Option (List ℕ × V)). y ∷ listed (row ++ length slots ∷ []) (slots ++ x ∷ [])) (slot_at-before slots (x ∷ []) r h.0)
-      ∙ ap (λ (s : Slots V). slot_at slots r ∷ s) (listed-append row slots x h.1)
+  listed-append (r ∷ row) slots x h = cc (slot_at-before slots (x ∷ []) r h.0, listed-append row slots x h.1)
 
   pub listed-filter : (row : List ℕ) (slots : Slots V) → listed (filter (λ i. is_some (slot_at slots i)) row) slots ≡ filter is_some (listed row slots)
   listed-filter [] slots = refl
-  listed-filter (r ∷ row) slots = by (slot_at slots r) refl (listed-filter row slots)
-    where
-      by : (x : Option (List ℕ × V)) → slot_at slots r ≡ x → listed (filter (λ i. is_some (slot_at slots i)) row) slots ≡ filter is_some (listed row slots)
-          → listed (filter (λ i. is_some (slot_at slots i)) (r ∷ row)) slots ≡ filter is_some (listed (r ∷ row) slots)
-      by None is rest = rw is rest
-      by (Some e) is rest = rw is (ap (λ (y : Option (List ℕ × V)). y ∷ listed (filter (λ i. is_some (slot_at slots i)) row) slots) is ∙ ap (λ (s : Slots V). Some e ∷ s) rest)
+  listed-filter (r ∷ row) slots = grind (arith, listed-filter row slots)
 
   listed-behind : (n m : ℕ) (x : Option (List ℕ × V)) (slots : Slots V) → listed (range_with_len (suc n) m) (x ∷ slots) ≡ listed (range_with_len n m) slots
   listed-behind n zero x slots = refl
   listed-behind n (suc m) x slots =
       let next : suc n + 1 ≡ suc (n + 1) = omega arith in
-      ap (λ (s : Slots V). slot_at slots n ∷ s) (ap (λ k. listed (range_with_len k m) (x ∷ slots)) next ∙ listed-behind (n + 1) m x slots)
+      cc (listed-behind (n + 1) m x slots)
 
   pub listed-all : (slots : Slots V) → listed (range_with_len 0 (length slots)) slots ≡ slots
   listed-all [] = refl
-  listed-all (x ∷ slots) = ap (λ (s : Slots V). x ∷ s) (listed-behind 0 (length slots) x slots ∙ listed-all slots)
+  listed-all (x ∷ slots) = cc (listed-behind 0 (length slots) x slots, listed-all slots)
 
 -- ---- the numbers of slots
 
@@ -206,11 +160,7 @@ within-front (r ∷ row) i n h = (h.0, within-front row i n h.1)
 
 pub within-filter : (p : ℕ → Bool) (row : List ℕ) (n : ℕ) → AllByRecursion (λ i. i < n) row → AllByRecursion (λ i. i < n) (filter p row)
 within-filter p [] n h = tt
-within-filter p (r ∷ row) n h = by (p r) refl (within-filter p row n h.1)
-  where
-    by : (b : Bool) → p r ≡ b → AllByRecursion (λ i. i < n) (filter p row) → AllByRecursion (λ i. i < n) (filter p (r ∷ row))
-    by true is rest = rw is (h.0, rest)
-    by false is rest = rw is rest
+within-filter p (r ∷ row) n h = cond_both (p r) _ _ (AllByRecursion (λ i. i < n)) (λ _. (h.0, within-filter p row n h.1)) (λ _. within-filter p row n h.1)
 
 pub within-range : (a m n : ℕ) → a + m ≤ n → AllByRecursion (λ i. i < n) (range_with_len a m)
 within-range a zero n h = tt
@@ -233,10 +183,10 @@ module _ {V : Type 0} where
       rw before (ap (λ (places : List ℕ). n ∷ places) (holes-out (suc n) q slots entry h ∙ ap (λ k. with_place k (holes_from (suc n) slots)) same))
   holes-out n zero (Some e ∷ slots) entry h =
       let here : n + 0 ≡ n = omega arith in
-      sym (ap (λ k. with_place k (holes_from (suc n) slots)) here ∙ holes-behind n (suc n) slots (omega arith) n (omega arith))
+      cc (holes-behind n (suc n) slots (omega arith) n (omega arith))
   holes-out n (suc q) (Some e ∷ slots) entry h =
       let same : suc n + q ≡ n + suc q = omega arith in
-      holes-out (suc n) q slots entry h ∙ ap (λ k. with_place k (holes_from (suc n) slots)) same
+      cc (holes-out (suc n) q slots entry h)
 
   pub holes-set : (n q : ℕ) (slots : Slots V) (entry new : List ℕ × V) → slice_get slots q ≡ Some (Some entry) → holes_from n (set slots q (Some new)) ≡ holes_from n slots
   holes-set n q [] entry new h = absurd (cc)
@@ -273,15 +223,15 @@ module _ {V : Type 0} where
       let rest = past-at (suc n) i slots in
       let start : suc (n + i) ≡ suc n + i = omega arith in
       let end : suc n + rest.0 ≡ n + suc rest.0 = omega arith in
-      (suc rest.0, rw behind (ap (past (holes_from (suc n) slots)) start ∙ rest.1 ∙ end), rest.2)
+      (suc rest.0, rw behind (cc rest.1), rest.2)
   past-at n zero (Some e ∷ slots) =
       let here : n + 0 ≡ n = omega arith in
-      (0, ap (past (holes_from (suc n) slots)) here ∙ past-behind n (suc n) slots (omega arith) ∙ sym here, refl)
+      (0, cc (past-behind n (suc n) slots (omega arith)), refl)
   past-at n (suc i) (Some e ∷ slots) =
       let rest = past-at (suc n) i slots in
       let start : n + suc i ≡ suc n + i = omega arith in
       let end : suc n + rest.0 ≡ n + suc rest.0 = omega arith in
-      (suc rest.0, ap (past (holes_from (suc n) slots)) start ∙ rest.1 ∙ end, rest.2)
+      (suc rest.0, cc rest.1, rest.2)
 
   -- ---- how many there are
 
@@ -304,94 +254,68 @@ module _ {V : Type 0} where
   pub order-set : (row gone : List ℕ) (slots : Slots V) (i : ℕ) (addr : List ℕ) (before value : V) → AreApart (entries_in slots) → IsAt addr slots i before → IsListed row gone slots → IsListed row gone (set slots i (Some (addr, value)))
   order-set row gone slots i addr before value apart at l =
       let place = place-of row slots i (addr, before) apart l.entries at.slot in
-      let q : ℕ = place.0 in
-      let there : slice_get (listed row slots) q ≡ Some (Some (addr, before)) = listed-get row slots q i place.1 ∙ ap (λ (y : Option (List ℕ × V)). Some y) (slot_at-get slots i (Some (addr, before)) at.slot) in
-      let apart' : AreApart (entries_in (listed row slots)) = subst AreApart (sym l.entries) apart in
-      let same : listed row (set slots i (Some (addr, value))) ≡ set (listed row slots) q (Some (addr, value)) = listed-set row slots q i (Some (addr, value)) (addr, before) apart' place.1 at.slot in
+      let there : slice_get (listed row slots) place.0 ≡ Some (Some (addr, before)) = cc (listed-get row slots place.0 i place.1, slot_at-get slots i (Some (addr, before)) at.slot) in
+      let apart' : AreApart (entries_in (listed row slots)) = rw l.entries apart in
+      let same = listed-set row slots place.0 i (Some (addr, value)) (addr, before) apart' place.1 at.slot in
       record {
-        within = subst (λ n. AllByRecursion (λ k. k < n) row) (sym (length-set slots i (Some (addr, value)))) l.within;
-        entries = ap entries_in same ∙ entries-set addr value (listed row slots) q (slot_of-here (listed row slots) q (addr, before) apart' there)
-            ∙ ap (λ (t : Entries V). set_value (bytes_eq addr) t value) l.entries ∙ sym (entries-set addr value slots i at.place);
-        places = l.places ∙ sym (holes-set 0 q (listed row slots) (addr, before) (addr, value) there) ∙ ap (holes_from 0) (sym same);
+        within = rw (length-set slots i (Some (addr, value))) l.within;
+        entries = cc (same, entries-set addr value (listed row slots) place.0 (slot_of-here (listed row slots) place.0 (addr, before) apart' there), entries-set addr value slots i at.place);
+        places = cc (same, holes-set 0 place.0 (listed row slots) (addr, before) (addr, value) there);
       }
 
   -- the slot of an entry that left is a hole, at this place of the row
   pub order-hole : (row gone : List ℕ) (before after : Slots V) (q i : ℕ) → slice_get row q ≡ Some i → (t : TakesOut i before after) → IsListed row gone before
       → (listed row after ≡ set (listed row before) q None) × (entries_in (listed row after) ≡ entries_in after) × (slice_get (listed row before) q ≡ Some (Some t.entry))
   order-hole row gone before after q i at t l =
-      let there : slice_get (listed row before) q ≡ Some (Some t.entry) = listed-get row before q i at ∙ ap (λ (y : Option (List ℕ × V)). Some y) (slot_at-get before i (Some t.entry) t.slot) in
-      let apart : AreApart (entries_in (listed row before)) = subst AreApart (sym l.entries) t.apart in
-      let same : listed row after ≡ set (listed row before) q None = ap (listed row) t.hole ∙ listed-set row before q i None t.entry apart at t.slot in (
-        same,
-        ap entries_in same ∙ entries-out t.entry.0 (listed row before) q (slot_of-here (listed row before) q t.entry apart there) ∙ ap (remove_entry (bytes_eq t.entry.0)) l.entries
-            ∙ sym (entries-out t.entry.0 before i (slot_of-here before i t.entry t.apart t.slot)) ∙ ap entries_in (sym t.hole),
-        there,
-      )
+      let there : slice_get (listed row before) q ≡ Some (Some t.entry) = cc (listed-get row before q i at, slot_at-get before i (Some t.entry) t.slot) in
+      let apart : AreApart (entries_in (listed row before)) = rw l.entries t.apart in
+      let same : listed row after ≡ set (listed row before) q None = cc (listed-set row before q i None t.entry apart at t.slot) in
+      (same, cc (entries-out t.entry.0 (listed row before) q (slot_of-here (listed row before) q t.entry apart there), entries-out t.entry.0 before i (slot_of-here before i t.entry t.apart t.slot)), there)
 
   within-after : (row : List ℕ) (i : ℕ) (before after : Slots V) → TakesOut i before after → AllByRecursion (λ k. k < length before) row → AllByRecursion (λ k. k < length after) row
-  within-after row i before after t h = subst (λ n. AllByRecursion (λ k. k < n) row) (sym (ap length t.hole ∙ length-set before i None)) h
+  within-after row i before after t h = rw (t.hole, length-set before i None) h
 
   pub order-noted : (row gone new : List ℕ) (before after : Slots V) (q i : ℕ) → slice_get row q ≡ Some i → new ≡ with_place q gone → TakesOut i before after → IsListed row gone before → IsListed row new after
   order-noted row gone new before after q i at noted t l =
       let h = order-hole row gone before after q i at t l in
       let first : 0 + q ≡ q = omega arith in
-      record {
-        within = within-after row i before after t l.within;
-        entries = h.1;
-        places = noted ∙ ap (with_place q) l.places ∙ ap (λ k. with_place k (holes_from 0 (listed row before))) (sym first) ∙ sym (holes-out 0 q (listed row before) t.entry h.2) ∙ ap (holes_from 0) (sym h.0);
-      }
-
-  pub order-cleared : (row gone rows none : List ℕ) (before after : Slots V) (i : ℕ) → rows ≡ filter (λ k. is_some (slot_at after k)) row → none ≡ [] → TakesOut i before after → IsListed row gone before → IsListed rows none after
-  order-cleared row gone rows none before after i kept cleared t l =
-      let place = place-of row before i t.entry t.apart l.entries t.slot in
-      let h = order-hole row gone before after place.0 i place.1 t l in
-      let same : listed rows after ≡ filter is_some (listed row after) = ap (λ (r : List ℕ). listed r after) kept ∙ listed-filter row after in
-      record {
-        within = subst (AllByRecursion (λ k. k < length after)) (sym kept) (within-filter (λ k. is_some (slot_at after k)) row (length after) (within-after row i before after t l.within));
-        entries = ap entries_in same ∙ (entries-kept (listed row after)).0 ∙ h.1;
-        places = cleared ∙ sym (holes-kept 0 (listed row after)) ∙ ap (holes_from 0) (sym same);
-      }
+      record { within = within-after row i before after t l.within; entries = h.1; places = cc (holes-out 0 q (listed row before) t.entry h.2) }
 
   pub order-last : (row gone : List ℕ) (slots : Slots V) (entry : List ℕ × V) → IsListed row gone slots → IsListed (row ++ length slots ∷ []) gone (slots ++ Some entry ∷ [])
   order-last row gone slots entry l =
       let same = listed-append row slots (Some entry) l.within in
       let more : length (slots ++ Some entry ∷ []) ≡ suc (length slots) = omega (arith, length-append slots (Some entry ∷ [])) in
       record {
-        within = subst (λ n. AllByRecursion (λ k. k < n) (row ++ length slots ∷ [])) (sym more) (within-append row (length slots) l.within);
-        entries = ap entries_in same ∙ entries-append (listed row slots) (Some entry ∷ []) ∙ ap (λ (t : Entries V). t ++ entry ∷ []) l.entries ∙ sym (entries-append slots (Some entry ∷ []));
-        places = l.places ∙ sym (holes-last 0 (listed row slots) entry) ∙ ap (holes_from 0) (sym same);
+        within = rw more (within-append row (length slots) l.within);
+        entries = cc (entries-append (listed row slots) (Some entry ∷ []), entries-append slots (Some entry ∷ []));
+        places = cc (holes-last 0 (listed row slots) entry);
       }
+
+  pub order-range : (slots : Slots V) → IsListed (range_with_len 0 (length slots)) (holes_from 0 slots) slots
+  order-range slots = record {
+    within = within-range 0 (length slots) (length slots) (omega arith);
+    entries = ap entries_in (listed-all slots);
+    places = ap (holes_from 0) (sym (listed-all slots));
+  }
+
+  pub no-holes : (slots : Slots V) → length (entries_in slots) ≡ length slots → holes_from 0 slots ≡ []
+  no-holes slots full = nil_from_length (holes_from 0 slots) (omega (arith, full, holes-count 0 slots))
 
   -- slots without a hole, each at its number
   pub order-numbered : (row gone : List ℕ) (slots : Slots V) → row ≡ range_with_len 0 (length slots) → gone ≡ [] → length (entries_in slots) ≡ length slots → IsListed row gone slots
-  order-numbered row gone slots numbered cleared full =
-      let same : listed row slots ≡ slots = ap (λ (r : List ℕ). listed r slots) numbered ∙ listed-all slots in
-      let none : length (holes_from 0 slots) ≡ 0 = let count = holes-count 0 slots in omega (arith, count, full) in
-      record {
-        within = subst (AllByRecursion (λ k. k < length slots)) (sym numbered) (within-range 0 (length slots) (length slots) (omega arith));
-        entries = ap entries_in same;
-        places = cleared ∙ sym (empty (holes_from 0 slots) none) ∙ ap (holes_from 0) (sym same);
-      }
-    where
-      empty : (places : List ℕ) → length places ≡ 0 → places ≡ []
-      empty [] h = refl
-      empty (p ∷ places) h = absurd (omega (arith, h))
+  order-numbered row gone slots numbered cleared full = rw (numbered, cleared) (rw (no-holes slots full) at (order-range slots))
 
   -- there are no more entries than places in the row
   pub order-few : (row gone : List ℕ) (slots : Slots V) → IsListed row gone slots → length (entries_in slots) + length gone ≡ length row
-  order-few row gone slots l =
-      let count = holes-count 0 (listed row slots) in
-      let some : length (entries_in (listed row slots)) ≡ length (entries_in slots) = ap length l.entries in
-      let places : length gone ≡ length (holes_from 0 (listed row slots)) = ap length l.places in
-      omega (arith, count, some, places, listed-len row slots)
+  order-few row gone slots l = omega (arith, holes-count 0 (listed row slots), ap length l.entries, ap length l.places, listed-len row slots)
 
   -- the entry at a place
   pub order-at : (row gone : List ℕ) (slots : Slots V) (place at : ℕ) → at ≡ past gone place → IsListed row gone slots → slot_at (listed row slots) at ≡ slice_get (entries_in slots) place
   order-at row gone slots place at is l =
       let there = past-at 0 place (listed row slots) in
       let first : place ≡ 0 + place = omega arith in
-      let found : at ≡ there.0 = is ∙ ap (λ (places : List ℕ). past places place) l.places ∙ ap (past (holes_from 0 (listed row slots))) first ∙ there.1 ∙ omega arith in
-      ap (slot_at (listed row slots)) found ∙ there.2 ∙ ap (λ (t : Entries V). slice_get t place) l.entries
+      let same : there.0 ≡ 0 + there.0 = omega arith in
+      cc there.2
 
 -- ---- a row whose gone places are taken out
 
@@ -399,22 +323,7 @@ module _ {V : Type 0} where
 pub same-from : (q : ℕ) (xs ys : List ℕ) → drop q xs ≡ drop q ys → get_or xs q 0 ≡ get_or ys q 0
 same-from q xs ys same =
     let first : q ≡ q + 0 = omega arith in
-    ap (λ k. get_or xs k 0) first ∙ sym (get_or-drop q xs 0 0) ∙ ap (λ (r : List ℕ). get_or r 0 0) same ∙ get_or-drop q ys 0 0 ∙ ap (λ k. get_or ys k 0) (sym first)
-
-pub drop_more-same : (q : ℕ) (xs ys : List ℕ) → drop q xs ≡ drop q ys → drop (q + 1) xs ≡ drop (q + 1) ys
-drop_more-same q xs ys same = sym (drop-drop 1 q xs) ∙ ap (drop 1) same ∙ drop-drop 1 q ys
-
--- one more that is kept
-pub kept-more : (p : ℕ → Bool) (row : List ℕ) (q x : ℕ) → q < length row → x ≡ get_or row q 0 → p x ≡ true → filter p (take q row) ++ x ∷ [] ≡ filter p (take (q + 1) row)
-kept-more p row q x within is some =
-    let one : filter p (x ∷ []) ≡ x ∷ [] = rw some refl in
-    sym (ap (filter p) (take_more row q 0 within ∙ ap (λ k. take q row ++ k ∷ []) (sym is)) ∙ filter-append p (take q row) (x ∷ []) ∙ ap (λ (r : List ℕ). filter p (take q row) ++ r) one)
-
--- and one that isn't
-pub kept-same : (p : ℕ → Bool) (row : List ℕ) (q x : ℕ) → q < length row → x ≡ get_or row q 0 → p x ≡ false → filter p (take q row) ≡ filter p (take (q + 1) row)
-kept-same p row q x within is none =
-    let one : filter p (x ∷ []) ≡ [] = rw none refl in
-    sym (ap (filter p) (take_more row q 0 within ∙ ap (λ k. take q row ++ k ∷ []) (sym is)) ∙ filter-append p (take q row) (x ∷ []) ∙ ap (λ (r : List ℕ). filter p (take q row) ++ r) one ∙ append-nil (filter p (take q row)))
+    cc (get_or-drop q xs 0 0, get_or-drop q ys 0 0)
 
 pub first-of : (places : List ℕ) → 0 < length places → places ≡ get_or places 0 0 ∷ drop 1 places
 first-of [] some = absurd (omega (arith, some))
@@ -426,22 +335,21 @@ module _ {V : Type 0} where
       → filter (λ i. is_some (slot_at slots i)) (take k row) ≡ take k row
   before-first n row slots first rest zero gone is = refl
   before-first n [] slots first rest (suc k) gone is = refl
-  before-first n (r ∷ row) slots first rest (suc k) gone is = by (slot_at slots r) refl gone (λ behind. before-first (suc n) row slots first rest k behind (omega (arith, is)))
-    where
-      by : (x : Option (List ℕ × V)) → slot_at slots r ≡ x → first ∷ rest ≡ holes_from n (x ∷ listed row slots)
-          → (first ∷ rest ≡ holes_from (suc n) (listed row slots) → filter (λ i. is_some (slot_at slots i)) (take k row) ≡ take k row)
-          → filter (λ i. is_some (slot_at slots i)) (take (suc k) (r ∷ row)) ≡ take (suc k) (r ∷ row)
-      by None here gone others = let at : first ≡ n = cc in absurd (omega (arith, at, is))
-      by (Some e) here gone others = rw here (ap (λ (t : List ℕ). r ∷ t) (others gone))
+  before-first n (r ∷ row) slots first rest (suc k) gone is = grind (arith, gone, is, before-first (suc n) row slots first rest k)
 
   pub order-kept : (row gone rows none : List ℕ) (slots : Slots V) → rows ≡ filter (λ k. is_some (slot_at slots k)) row → none ≡ [] → IsListed row gone slots → IsListed rows none slots
   order-kept row gone rows none slots kept cleared l =
-      let same : listed rows slots ≡ filter is_some (listed row slots) = ap (λ (r : List ℕ). listed r slots) kept ∙ listed-filter row slots in
+      let same : listed rows slots ≡ filter is_some (listed row slots) = cc (listed-filter row slots) in
       record {
-        within = subst (AllByRecursion (λ k. k < length slots)) (sym kept) (within-filter (λ k. is_some (slot_at slots k)) row (length slots) l.within);
-        entries = ap entries_in same ∙ (entries-kept (listed row slots)).0 ∙ l.entries;
-        places = cleared ∙ sym (holes-kept 0 (listed row slots)) ∙ ap (holes_from 0) (sym same);
+        within = rw kept (within-filter (λ k. is_some (slot_at slots k)) row (length slots) l.within);
+        entries = cc ((entries-kept (listed row slots)).0);
+        places = cc (holes-kept 0 (listed row slots));
       }
+
+  pub order-cleared : (row gone rows none : List ℕ) (before after : Slots V) (i : ℕ) → rows ≡ filter (λ k. is_some (slot_at after k)) row → none ≡ [] → TakesOut i before after → IsListed row gone before → IsListed rows none after
+  order-cleared row gone rows none before after i kept cleared t l =
+      let place = place-of row before i t.entry t.apart l.entries t.slot in
+      order-kept row (with_place place.0 gone) rows none after kept cleared (order-noted row gone (with_place place.0 gone) before after place.0 i place.1 refl t l)
 
 -- ---- a place that is looked for by halves
 
@@ -463,7 +371,7 @@ rises-at n (x ∷ xs) (suc i) d low h = let rest = rises-at (suc x) xs i d (omeg
 pub rises-order : (n : ℕ) (xs : List ℕ) → Rises n xs → (i j : ℕ) (d : ℕ) → i ≤ j → j < length xs → get_or xs i d ≤ get_or xs j d
 rises-order n [] h i j d le low = absurd (omega (arith, low))
 rises-order n (x ∷ xs) h zero zero d le low = omega arith
-rises-order n (x ∷ xs) h zero (suc j) d le low = let rest = rises-at (suc x) xs j d (omega (arith, low)) h.1 in omega (arith, rest)
+rises-order n (x ∷ xs) h zero (suc j) d le low = omega (arith, rises-at (suc x) xs j d (omega (arith, low)) h.1)
 rises-order n (x ∷ xs) h (suc i) zero d le low = absurd (omega (arith, le))
 rises-order n (x ∷ xs) h (suc i) (suc j) d le low = rises-order (suc x) xs h.1 i j d (omega (arith, le)) (omega (arith, low))
 
@@ -471,14 +379,13 @@ rises-order n (x ∷ xs) h (suc i) (suc j) d le low = rises-order (suc x) xs h.1
 pub with_place-insert : (place : ℕ) (xs : List ℕ) (k : ℕ) → k ≤ length xs → IsPartitionPoint (λ y. nat_lt y place ≡ true) (λ y. nat_lt y place ≡ false) xs k → with_place place xs ≡ insert xs k place
 with_place-insert place [] zero few h = refl
 with_place-insert place [] (suc k) few h = absurd (omega (arith, few))
-with_place-insert place (x ∷ xs) zero few h = let behind : nat_lt x place ≡ false = h.1 0 0 (omega arith) (omega arith) in rw behind refl
+with_place-insert place (x ∷ xs) zero few h = rw (h.1 0 0 (omega arith) (omega arith)) refl
 with_place-insert place (x ∷ xs) (suc k) few h =
-    let before : nat_lt x place ≡ true = h.0 0 0 (omega arith) (omega arith) in
     let rest = with_place-insert place xs k (omega (arith, few)) (
       λ i d low high. h.0 (suc i) d (omega arith) (omega (arith, high)),
       λ i d low high. h.1 (suc i) d (omega (arith, low)) (omega (arith, high)),
     ) in
-    rw before (ap (λ (t : List ℕ). x ∷ t) rest)
+    rw (h.0 0 0 (omega arith) (omega arith)) (ap (λ (t : List ℕ). x ∷ t) rest)
 
 -- past so many places, where the last of them isn't behind what stands there and the next one is
 pub past-is : (n : ℕ) (gone : List ℕ) (place k : ℕ) → Rises n gone → k ≤ length gone → (0 < k → get_or gone (k - 1) 0 < place + k) → (k < length gone → place + k < get_or gone k 0) → past gone place ≡ place + k
@@ -520,26 +427,15 @@ module _ {V : Type 0} where
   pub full-at : (slots : Slots V) (place : ℕ) → length (entries_in slots) ≡ length slots → slot_at slots place ≡ slice_get (entries_in slots) place
   full-at slots place full =
       let there = past-at 0 place slots in
-      let none : holes_from 0 slots ≡ [] = empty (holes_from 0 slots) (let count = holes-count 0 slots in omega (arith, count, full)) in
-      let first : 0 + place ≡ place = omega arith in
-      let at : 0 + place ≡ 0 + there.0 = ap (λ (places : List ℕ). past places (0 + place)) (sym none) ∙ there.1 in
+      let at : 0 + place ≡ 0 + there.0 = ap (λ (places : List ℕ). past places (0 + place)) (sym (no-holes slots full)) ∙ there.1 in
       let here : place ≡ there.0 = omega (arith, at) in
-      ap (slot_at slots) here ∙ there.2
-    where
-      empty : (places : List ℕ) → length places ≡ 0 → places ≡ []
-      empty [] h = refl
-      empty (p ∷ places) h = absurd (omega (arith, h))
+      cc there.2
 
 -- ---- numbers in order
 
 pub range-more : (a n : ℕ) → range_with_len a (suc n) ≡ range_with_len a n ++ (a + n) ∷ []
-range-more a zero = let here : a ≡ a + 0 = omega arith in ap (λ k. k ∷ []) here
-range-more a (suc n) = let there : a + 1 + n ≡ a + suc n = omega arith in ap (λ (r : List ℕ). a ∷ r) (range-more (a + 1) n ∙ ap (λ k. range_with_len (a + 1) n ++ k ∷ []) there)
-
-pub take-set : (row : List ℕ) (k x : ℕ) → k < length row → take (suc k) (set row k x) ≡ take k row ++ x ∷ []
-take-set [] k x h = absurd (omega (arith, h))
-take-set (r ∷ row) zero x h = refl
-take-set (r ∷ row) (suc k) x h = ap (λ (t : List ℕ). r ∷ t) (take-set row k x (omega (arith, h)))
+range-more a zero = let here : a ≡ a + 0 = omega arith in cc
+range-more a (suc n) = let there : a + 1 + n ≡ a + suc n = omega arith in cc (range-more (a + 1) n)
 
 module _ {V : Type 0} where
   -- ---- the last slot goes with its entry
@@ -552,49 +448,44 @@ module _ {V : Type 0} where
 
   listed-hole : (row : List ℕ) (slots : Slots V) → listed row (slots ++ None ∷ []) ≡ listed row slots
   listed-hole [] slots = refl
-  listed-hole (r ∷ row) slots =
-      ap (λ (y : Option (List ℕ × V)). y ∷ listed row (slots ++ None ∷ [])) (slot_at-hole slots r) ∙ ap (λ (s : Slots V). slot_at slots r ∷ s) (listed-hole row slots)
+  listed-hole (r ∷ row) slots = cc (slot_at-hole slots r, listed-hole row slots)
 
   pub entries-hole : (slots : Slots V) → entries_in (slots ++ None ∷ []) ≡ entries_in slots
   entries-hole slots = entries-append slots (None ∷ []) ∙ append-nil (entries_in slots)
 
   pub set-last : (slots : Slots V) (x y : Option (List ℕ × V)) → set (slots ++ x ∷ []) (length slots) y ≡ slots ++ y ∷ []
-  set-last [] x y = refl
-  set-last (z ∷ slots) x y = ap (λ (s : Slots V). z ∷ s) (set-last slots x y)
+  set-last slots x y = set_at slots x [] y (length slots) refl
 
   pub get-last : (slots : Slots V) (x : Option (List ℕ × V)) → slice_get (slots ++ x ∷ []) (length slots) ≡ Some x
-  get-last [] x = refl
-  get-last (y ∷ slots) x = get-last slots x
+  get-last slots x = cc (slice_get-get_or (slots ++ x ∷ []) (length slots) x (omega (arith, length_push slots x)), get_or_push slots x x (length slots) refl)
 
   -- slots of which none is the last one
   within-away : (row : List ℕ) (slots : Slots V) (entry : List ℕ × V) → AllByRecursion (λ i. i < length (slots ++ Some entry ∷ [])) row → value_of entry.0 (entries_in (listed row (slots ++ Some entry ∷ []))) ≡ None → AllByRecursion (λ i. i < length slots) row
   within-away [] slots entry h none = tt
-  within-away (r ∷ row) slots entry h none = elim (same_or_not (length slots) r) [
+  within-away (r ∷ row) slots entry h none = elim (cases_eq (length slots) r) [
     | inl same ↦
-        let here : slot_at (slots ++ Some entry ∷ []) r ≡ Some entry = ap (slot_at (slots ++ Some entry ∷ [])) (sym same) ∙ slot_at-last slots (Some entry) in
-        let gone : value_of entry.0 (entries_in (Some entry ∷ listed row (slots ++ Some entry ∷ []))) ≡ None = ap (λ (y : Option (List ℕ × V)). value_of entry.0 (entries_in (y ∷ listed row (slots ++ Some entry ∷ [])))) (sym here) ∙ none in
-        absurd (both_ways (is_some (value_of entry.0 (entries_in (Some entry ∷ listed row (slots ++ Some entry ∷ []))))) (ap is_some gone) (known-first entry (listed row (slots ++ Some entry ∷ []))))
-    | inr other ↦
-        let more : length (slots ++ Some entry ∷ []) ≡ suc (length slots) = omega (arith, length-append slots (Some entry ∷ [])) in
-        let low : r < length slots = elim (cases_lt r (length slots)) [ inl low ↦ low | inr high ↦ absurd (other (omega (arith, high, h.0, more))) ] in
-        (low, within-away row slots entry h.1 (unknown-rest entry.0 (slot_at (slots ++ Some entry ∷ []) r) (listed row (slots ++ Some entry ∷ [])) none))
+        let here : slot_at (slots ++ Some entry ∷ []) r ≡ Some entry = cc (slot_at-last slots (Some entry)) in
+        absurd (cc (rw here at none, known-first entry (listed row (slots ++ Some entry ∷ []))))
+    | inr other ↦ (
+      omega (arith, h.0, other, length-append slots (Some entry ∷ [])),
+      within-away row slots entry h.1 (unknown-rest entry.0 (slot_at (slots ++ Some entry ∷ []) r) (listed row (slots ++ Some entry ∷ [])) none),
+    )
   ]
 
   -- the row without the last slot, whose entry left
   pub order-popped : (row gone rows : List ℕ) (slots : Slots V) (entry : List ℕ × V) → AreApart (entries_in (slots ++ Some entry ∷ [])) → row ≡ rows ++ length slots ∷ [] → IsListed row gone (slots ++ Some entry ∷ []) → IsListed rows gone slots
   order-popped row gone rows slots entry apart last l =
       let before : Slots V = slots ++ Some entry ∷ [] in
-      let at : slice_get before (length slots) ≡ Some (Some entry) = get-last slots (Some entry) in
-      let split : listed row before ≡ listed rows before ++ Some entry ∷ [] = ap (λ (r : List ℕ). listed r before) last ∙ listed-split rows (length slots) before ∙ ap (λ (y : Option (List ℕ × V)). listed rows before ++ y ∷ []) (slot_at-last slots (Some entry)) in
-      let same : entries_in (listed rows before) ≡ entries_in slots = append_cancel_right (entries_in (listed rows before)) (entries_in slots) (entry ∷ [])
-      (sym (entries-append (listed rows before) (Some entry ∷ [])) ∙ ap entries_in (sym split) ∙ l.entries ∙ entries-append slots (Some entry ∷ [])) in
-      let none : value_of entry.0 (entries_in slots) ≡ None = unknown-where entry.0 slots (ap (slot_of entry.0) (sym (take-append_seam slots (Some entry ∷ []))) ∙ first-at before (length slots) entry apart at) in
-      let away : value_of entry.0 (entries_in (listed rows before)) ≡ None = ap (value_of entry.0) same ∙ none in
-      let alike : listed rows slots ≡ listed rows before = sym (listed-hole rows slots) ∙ ap (listed rows) (sym (set-last slots (Some entry) None)) ∙ listed-away rows before (length slots) None entry at away in
+      let at = get-last slots (Some entry) in
+      let split : listed row before ≡ listed rows before ++ Some entry ∷ [] = cc (listed-split rows (length slots) before, slot_at-last slots (Some entry)) in
+      let same : entries_in (listed rows before) ≡ entries_in slots = append_cancel_right _ _ (entry ∷ []) (cc (entries-append (listed rows before) (Some entry ∷ []), entries-append slots (Some entry ∷ []))) in
+      let none : value_of entry.0 (entries_in slots) ≡ None = unknown-where entry.0 slots (cc (take-append_seam slots (Some entry ∷ []), first-at before (length slots) entry apart at)) in
+      let away : value_of entry.0 (entries_in (listed rows before)) ≡ None = cc in
+      let alike : listed rows slots ≡ listed rows before = cc (listed-hole rows slots, set-last slots (Some entry) None, listed-away rows before (length slots) None entry at away) in
       record {
-        within = within-away rows slots entry (within-front rows (length slots) (length before) (subst (AllByRecursion (λ k. k < length before)) last l.within)) away;
-        entries = ap entries_in alike ∙ same;
-        places = l.places ∙ ap (holes_from 0) split ∙ holes-last 0 (listed rows before) entry ∙ ap (holes_from 0) (sym alike);
+        within = within-away rows slots entry (within-front rows (length slots) (length before) (rw last at l.within)) away;
+        entries = cc;
+        places = cc (holes-last 0 (listed rows before) entry);
       }
 
 -- ---- a row that may be none
@@ -606,13 +497,7 @@ some-filtered p (r ∷ row) h = omega arith
 module _ {V : Type 0} where
   -- all slots that have an entry
   pub order-all : (slots : Slots V) → IsListed (filter (λ i. is_some (slot_at slots i)) (range_with_len 0 (length slots))) [] slots
-  order-all slots =
-      let same : listed (filter (λ i. is_some (slot_at slots i)) (range_with_len 0 (length slots))) slots ≡ filter is_some slots = listed-filter (range_with_len 0 (length slots)) slots ∙ ap (filter is_some) (listed-all slots) in
-      record {
-        within = within-filter (λ i. is_some (slot_at slots i)) (range_with_len 0 (length slots)) (length slots) (within-range 0 (length slots) (length slots) (omega arith));
-        entries = ap entries_in same ∙ (entries-kept slots).0;
-        places = sym (holes-kept 0 slots) ∙ ap (holes_from 0) (sym same);
-      }
+  order-all slots = order-kept (range_with_len 0 (length slots)) (holes_from 0 slots) _ [] slots refl refl (order-range slots)
 
   -- ---- the list after a change
 
@@ -648,25 +533,18 @@ module _ {V : Type 0} where
 -- the last slot that is listed goes with its entry
 row-popped : (row : List ℕ) (i : ℕ) → 0 < length row → slice_get row (length row - 1) ≡ Some i → row ≡ take (length row - 1) row ++ i ∷ []
 row-popped row i some at =
-    let k : ℕ = length row - 1 in
-    let within : k < length row = omega arith in
-    sym (take_all (k + 1) row (omega arith)) ∙ take_more row k 0 within ∙ ap (λ n. take k row ++ n ∷ []) (get_or_from_slice_get row k i 0 at)
+    cc (take_all (length row - 1 + 1) row (omega arith), take_more row (length row - 1) 0 (omega arith), get_or_from_slice_get row (length row - 1) i 0 at)
 
 module _ {V : Type 0} where
   pub may-list-popped : (row gone rows : List ℕ) (slots : Slots V) (entry : List ℕ × V) → AreApart (entries_in (slots ++ Some entry ∷ [])) → EndsWith (length slots) row → rows ≡ take (length row - 1) row → MayList row gone (slots ++ Some entry ∷ []) → MayList rows gone slots
   may-list-popped row gone rows slots entry apart ends is l some =
-      let fewer : length rows ≡ min (length row - 1) (length row) = ap length is ∙ length-take (length row - 1) row in
-      let long : 0 < length row = omega (arith, fewer, some) in
-      order-popped row gone rows slots entry apart (row-popped row (length slots) long (ends long) ∙ ap (λ (r : List ℕ). r ++ length slots ∷ []) (sym is)) (l long)
+      let long : 0 < length row = omega (arith, ap length is, length-take (length row - 1) row, some) in
+      order-popped row gone rows slots entry apart (cc (row-popped row (length slots) long (ends long))) (l long)
 
   -- the entry in the last slot left, and the slot is gone
 
   pub slots-popped : (slots front : Slots V) (i k : ℕ) (x : Option (List ℕ × V)) → slice_get slots i ≡ Some x → i + 1 ≡ length slots → i ≡ k → front ≡ take k slots → (slots ≡ front ++ x ∷ []) × (i ≡ length front)
-  slots-popped slots front i k x at last is cut =
-      let here : front ≡ take i slots = cut ∙ ap (λ n. take n slots) (sym is) in (
-        sym (take_all (i + 1) slots (omega arith)) ∙ taken-at slots i x at ∙ ap (λ (s : Slots V). s ++ x ∷ []) (sym here),
-        omega (arith, ap length here, length-take i slots),
-      )
+  slots-popped slots front i k x at last is cut = (cc (take_all (i + 1) slots (omega arith), taken-at slots i x at), omega (arith, ap length cut, length-take k slots))
 
   out-popped : (slots front : Slots V) (i : ℕ) (x : Option (List ℕ × V)) → slots ≡ front ++ x ∷ [] → i ≡ length front → set slots i None ≡ front ++ None ∷ []
   out-popped slots front i x is last = ap (λ (s : Slots V). set s i None) is ∙ ap (λ n. set (front ++ x ∷ []) n None) last ∙ set-last front x None
@@ -696,22 +574,15 @@ module _ {V : Type 0} where
 
   -- one slot more in a row that has some
   pub may-list-last : (row gone row' gone' : List ℕ) (slots : Slots V) (entry : List ℕ × V) → MayList row gone slots → (0 < length row → row' ≡ row ++ length slots ∷ []) → (length row ≡ 0 → row' ≡ []) → gone' ≡ gone → MayList row' gone' (slots ++ Some entry ∷ [])
-  may-list-last [] gone row' gone' slots entry l more none same some =
-      let empty : length row' ≡ 0 = ap length (none refl) in
-      absurd (omega (arith, empty, some))
+  may-list-last [] gone row' gone' slots entry l more none same some = absurd (omega (arith, ap length (none refl), some))
   may-list-last (r ∷ row) gone row' gone' slots entry l more none same some =
-      let long : 0 < length (r ∷ row) = omega arith in
-      subst (λ (g : List ℕ). IsListed row' g (slots ++ Some entry ∷ [])) (sym same)
-      (subst (λ (k : List ℕ). IsListed k gone (slots ++ Some entry ∷ [])) (sym (more long)) (order-last (r ∷ row) gone slots entry (l long)))
+      rw (same, more (omega arith)) (order-last (r ∷ row) gone slots entry (l (omega arith)))
 
   -- slots without a hole, where no more are listed than before
   pub may-list-numbered : (row gone row' gone' : List ℕ) (before after : Slots V) → MayList row gone before → entries_in after ≡ entries_in before → length (entries_in after) ≡ length after → row' ≡ range_with_len 0 (min (length after) (length row)) → gone' ≡ [] → MayList row' gone' after
   may-list-numbered [] gone row' gone' before after l same full numbered cleared some =
       let none : min (length after) 0 ≡ 0 = omega arith in
-      let empty : length row' ≡ 0 = ap length (numbered ∙ ap (range_with_len 0) none) in
-      absurd (omega (arith, empty, some))
+      absurd (omega (arith, ap length (numbered ∙ ap (range_with_len 0) none), some))
   may-list-numbered (r ∷ row) gone row' gone' before after l same full numbered cleared some =
-      let few = order-few (r ∷ row) gone before (l (omega arith)) in
-      let count : length (entries_in after) ≡ length (entries_in before) = ap length same in
-      let least : min (length after) (length (r ∷ row)) ≡ length after = omega (arith, few, count, full) in
+      let least : min (length after) (length (r ∷ row)) ≡ length after = omega (arith, order-few (r ∷ row) gone before (l (omega arith)), ap length same, full) in
       order-numbered row' gone' after (numbered ∙ ap (range_with_len 0) least) cleared full

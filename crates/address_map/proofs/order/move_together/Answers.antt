@@ -1,9 +1,18 @@
 use Rattle.std.proofs.Common.{◌≡◌, ◌<◌, ◌+◌, ◌++◌, ◌∷◌, [], ℕ, List, Bool, true, false, length, is_some, filter, get_or, take, refl, sym, ap, ◌∙◌, arith}
-use Rattle.std.proofs.lemmas.List.{length-set, take_all, take_min, take_more_set, drop-set-lt}
+use Rattle.std.proofs.lemmas.Grind.{drop_more_same}
+use Rattle.std.proofs.lemmas.List.Elements.{filter_more}
+use Rattle.std.proofs.lemmas.List.{append-nil, length-set, take_all, take_min, take_more_set, drop-set-lt}
 use Rattle.address_map.specs.Slots.{Slots, slot_at}
-use Rattle.address_map.proofs.SlotOrder.{same-from, drop_more-same, kept-more, kept-same}
+use Rattle.address_map.proofs.SlotOrder.{same-from}
 use Rattle.address_map.proofs.order.move_together.Goals as goal
 use Rattle.address_map.proofs.order.move_together.Goals.{then-is_some, else-is_some}
+
+-- one more that is kept, and one that isn't
+kept-more : (p : ℕ → Bool) (row : List ℕ) (q x : ℕ) → q < length row → x ≡ get_or row q 0 → p x ≡ true → filter p (take q row) ++ x ∷ [] ≡ filter p (take (q + 1) row)
+kept-more p row q x within is some = cc (filter_more p row q 0 within)
+
+kept-same : (p : ℕ → Bool) (row : List ℕ) (q x : ℕ) → q < length row → x ≡ get_or row q 0 → p x ≡ false → filter p (take q row) ≡ filter p (take (q + 1) row)
+kept-same p row q x within is none = cc (filter_more p row q 0 within, append-nil (filter p (take q row)))
 
 pub loop-place-init : goal.loop-place-init
 loop-place-init g c =
@@ -16,15 +25,6 @@ loop-place-init g c =
       done = λ same. start ∙ sym same ∙ ap (filter p) (sym start);
       rest = refl;
     }
-
-pub offset_bounds-row-kept : goal.offset_bounds-row-kept
-offset_bounds-row-kept g c = omega (arith, c.loop-place.invariant.len, c.loop-place.invariant.few, c.loop-place-test.true)
-
-pub bounds-row-kept : goal.bounds-row-kept
-bounds-row-kept g c = omega (arith, c.loop-place.invariant.len, c.loop-place.invariant.few, c.loop-place-test.true)
-
-pub overflow_add-kept : goal.overflow_add-kept
-overflow_add-kept g c = omega (arith, c.loop-place.invariant.len, c.loop-place.invariant.few, c.loop-place-test.true)
 
 pub loop-place-preserved : goal.loop-place-preserved
 loop-place-preserved g c =
@@ -45,7 +45,7 @@ loop-place-preserved g c =
             few = omega (arith, c.loop-place.invariant.few);
             done = λ first. take_more_set row k x (omega (arith, c.loop-place.invariant.len, c.loop-place.invariant.few, within))
                 ∙ ap (λ (r : List ℕ). r ++ x ∷ []) (c.loop-place.invariant.done first) ∙ kept-more p old q x within same some;
-            rest = drop-set-lt (q + 1) row k x (omega (arith, c.loop-place.invariant.few)) ∙ drop_more-same q row old c.loop-place.invariant.rest;
+            rest = drop-set-lt (q + 1) row k x (omega (arith, c.loop-place.invariant.few)) ∙ drop_more_same row old q c.loop-place.invariant.rest;
           })
       | else-is_some w ↦
           let none : p x ≡ false = ap is_some (sym c.entry_in.ensures) ∙ sym c.is_some.ensures ∙ w.if-is_some.false in
@@ -53,12 +53,9 @@ loop-place-preserved g c =
             len = c.loop-place.invariant.len;
             few = omega (arith, c.loop-place.invariant.few);
             done = λ first. c.loop-place.invariant.done first ∙ kept-same p old q x within same none;
-            rest = drop_more-same q row old c.loop-place.invariant.rest;
+            rest = drop_more_same row old q c.loop-place.invariant.rest;
           })
     ]
-
-pub returns-clause-few : goal.returns-clause-few
-returns-clause-few g c = omega (arith, c.loop-place.invariant.len, c.loop-place.invariant.few, c.loop-place.auto.place, c.loop-place.auto.place-end)
 
 pub returns-clause-kept : goal.returns-clause-kept
 returns-clause-kept g c first =

@@ -1,7 +1,6 @@
-use Rattle.std.proofs.Common.{◌≡◌, ℕ, suc, ◌+◌, ◌<◌, ◌++◌, ◌∷◌, [], List, length, set, take, sym, ap, ◌∙◌, arith}
-use Rattle.std.specs.List.{range_with_len}
-use Rattle.std.proofs.lemmas.List.{length-set}
-use Rattle.address_map.proofs.SlotOrder.{range-more, take-set}
+use Rattle.std.proofs.Common.{◌≡◌, ℕ, suc, ◌+◌, ◌<◌, List, length, ◌∙◌, arith}
+use Rattle.std.proofs.lemmas.List.{length-set, take_more_set}
+use Rattle.address_map.proofs.SlotOrder.{range-more}
 use Rattle.address_map.proofs.order.number.Goals as goal
 
 pub loop-place-preserved : goal.loop-place-preserved
@@ -13,5 +12,5 @@ loop-place-preserved c =
     let within : k < length row = omega (arith, c.loop-place-test.true, c.loop-place.invariant.len) in
     record {
       len = length-set row k k ∙ c.loop-place.invariant.len;
-      done = ap (λ n. take n (set row k k)) next ∙ take-set row k k within ∙ ap (λ (r : List ℕ). r ++ (k ∷ [])) c.loop-place.invariant.done ∙ ap (λ n. range_with_len 0 k ++ (n ∷ [])) here ∙ sym (range-more 0 k) ∙ ap (range_with_len 0) (sym next);
+      done = cc (take_more_set row k k within, range-more 0 k);
     }

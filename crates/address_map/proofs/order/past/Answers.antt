@@ -10,15 +10,6 @@ loop-low-init c = record {
   above = λ more. absurd (omega (arith, more));
 }
 
-pub offset_bounds-gone-middle : goal.offset_bounds-gone-middle
-offset_bounds-gone-middle c = omega (arith, c.loop-low-test.true, c.loop-low.invariant.within)
-
-pub bounds-gone-middle : goal.bounds-gone-middle
-bounds-gone-middle c = omega (arith, c.loop-low-test.true, c.loop-low.invariant.within)
-
-pub overflow_add-place : goal.overflow_add-place
-overflow_add-place c = omega (arith, c.loop-low-test.true, c.loop-low.invariant.within, c.requires.few)
-
 pub loop-low-preserved-then-gone-middle : goal.loop-low-preserved-then-gone-middle
 loop-low-preserved-then-gone-middle c =
     let middle : ℕ = c.loop-low.low + (c.loop-low.high - c.loop-low.low) / 2 in
@@ -37,9 +28,6 @@ loop-low-preserved c = record {
   below = c.loop-low.invariant.below;
   above = λ more. omega (arith, c.if-gone-middle.false);
 }
-
-pub overflow_add-result : goal.overflow_add-result
-overflow_add-result c = omega (arith, c.loop-low.invariant.order, c.loop-low.invariant.within, c.requires.few)
 
 pub returns : goal.returns
 returns c =
