@@ -1,7 +1,8 @@
 -- One station of a table is changed: what becomes of the identifiers.
-use Rattle.std.proofs.Common.{◌≡◌, ℕ, zero, suc, ◌+◌, ◌-◌, ◌<◌, ◌≤◌, Bool, true, false, not, ◌&&◌, ◌||◌, cond, nat_eq, List, [], ◌∷◌, ◌++◌, length, Option, Some, None, ◌≢◌, ◌↔◌, refl, sym, ap, subst, ◌∙◌, arith, is_some, inl, inr}
-use Rattle.std.specs.Prelude.{nat_lt, IsNone, IfSome, IfNone, if◌then◌else◌}
-use Rattle.std.proofs.lemmas.Bool.{lt-ltb, le-ltb, eq-eqb, ne_eqb, cases_eq, both_ways}
+use Rattle.std.proofs.Common.{◌≡◌, ℕ, ◌+◌, ◌-◌, ◌<◌, ◌≤◌, Bool, true, false, not, ◌&&◌, ◌||◌, nat_eq, List, [], ◌∷◌, ◌++◌, length, Option, Some, None, ◌≢◌, ◌↔◌, refl, sym, ap, subst, ◌∙◌, arith, is_some, inl, inr}
+use Rattle.std.specs.Prelude.{nat_lt, IsNone, IfSome, IfNone}
+use Rattle.std.proofs.lemmas.Bool.{lt-ltb, le-ltb, eq-eqb, ne_eqb, cases_eq, cases_Bool, both_ways, or_parts, or_from}
+use Rattle.std.proofs.lemmas.Bool.Decides.{nat_tests}
 use Rattle.std.proofs.lemmas.List.{length-append, append-nil}
 use Rattle.std.specs.Ordering.{nat_cmp}
 use Rattle.std.specs.Cmp.{nat_cmp_total, unsigned_tied}
@@ -11,7 +12,7 @@ use borrow.Author.Tests.{eqb-true}
 use Rattle.address_map.specs.Entries.{with_entry}
 use Rattle.stations.specs.StationsKept.{AreOut, dozing_count}
 use Rattle.std.specs.Int.{from_bool}
-use Rattle.std.specs.Map.{lookup, set_value}
+use Rattle.std.specs.Map.{set_value}
 use Rattle.std.specs.Str.{bytes_eq}
 use Rattle.aid_pool.specs.LeastFree.{is_among, least_free, IsLeastFree}
 use Rattle.stations.specs.Stations.{Table, state_of, identifier_of, identifiers, aid_with, aid_of, AreIdentifiers, set_state, forget, set_mode, with_mode, dozes, is_dozing, some_station_dozes, changed, IsModeAlone, StationTable, with_table}
@@ -27,19 +28,7 @@ Numbers = FinSet nat_cmp
 
 pub is_among-at : (p q : List ℕ) (i n : ℕ) → is_among (p ++ i ∷ q) n ≡ (nat_eq i n || is_among (p ++ q) n)
 is_among-at [] q i n = refl
-is_among-at (m ∷ p) q i n = rw (is_among-at p q i n) (swapped (nat_eq m n) (nat_eq i n) (is_among (p ++ q) n))
-  where
-    swapped : (a b c : Bool) → (a || (b || c)) ≡ (b || (a || c))
-    swapped true true c = refl
-    swapped true false c = refl
-    swapped false b c = refl
-
-pub neither : (a b : Bool) → (a || b) ≡ false → (a ≡ false) × (b ≡ false)
-neither true b h = absurd (both_ways true h refl)
-neither false b h = (refl, h)
-
-both_false : (a b : Bool) → a ≡ false → b ≡ false → (a || b) ≡ false
-both_false a b h k = rw h k
+is_among-at (m ∷ p) q i n = grind (arith, is_among-at p q i n)
 
 pub eqb-flip : (a b : ℕ) → nat_eq a b ≡ nat_eq b a
 eqb-flip a b = elim (cases_eq a b) [ inl same ↦ rw same refl | inr other ↦ ne_eqb a b other ∙ sym (ne_eqb b a (λ e. other (sym e))) ]
@@ -49,15 +38,15 @@ pub without : (p q : List ℕ) (i : ℕ) → AreIdentifiers (p ++ i ∷ q) → A
 without [] q i h = (h.3, h.2)
 without (m ∷ p) q i h =
     let rest = without p q i h.3 in
-    let other = neither (nat_eq i m) (is_among (p ++ q) m) (sym (is_among-at p q i m) ∙ h.2) in
-    ((h.0, h.1, other.1, rest.0), both_false (nat_eq m i) (is_among (p ++ q) i) (eqb-flip m i ∙ other.0) rest.1)
+    let other = or_parts (nat_eq i m) (is_among (p ++ q) m) (sym (is_among-at p q i m) ∙ h.2) in
+    ((h.0, h.1, other.1, rest.0), or_from (nat_eq m i) (is_among (p ++ q) i) (eqb-flip m i ∙ other.0) rest.1)
 
 -- one number more
 pub within : (p q : List ℕ) (i : ℕ) → 1 ≤ i → i ≤ 2007 → AreIdentifiers (p ++ q) → is_among (p ++ q) i ≡ false → AreIdentifiers (p ++ i ∷ q)
 within [] q i first last h new = (first, last, new, h)
 within (m ∷ p) q i first last h new =
-    let other = neither (nat_eq m i) (is_among (p ++ q) i) new in
-    (h.0, h.1, is_among-at p q i m ∙ both_false (nat_eq i m) (is_among (p ++ q) m) (eqb-flip i m ∙ other.0) h.2, within p q i first last h.3 other.1)
+    let other = or_parts (nat_eq m i) (is_among (p ++ q) i) new in
+    (h.0, h.1, is_among-at p q i m ∙ or_from (nat_eq i m) (is_among (p ++ q) m) (eqb-flip i m ∙ other.0) h.2, within p q i first last h.3 other.1)
 
 -- ---- a known station among the others
 
@@ -76,8 +65,7 @@ pub record IsParted (addr : List ℕ) (state : StationState) (t : Table) (p q : 
   pub removed : identifiers (forget addr t) ≡ p ++ q
 
 parted-here : (addr : List ℕ) (state : StationState) (e : List ℕ × StationState) (t : Table) → bytes_eq addr e.0 ≡ true → e.1 ≡ state → IsParted addr state (e ∷ t) [] (identifiers t)
-parted-here addr state e t same is =
-    record { whole = ap (λ l. identifier_of l ++ identifiers t) is; changed = λ l. rw same refl; removed = rw same refl }
+parted-here addr state e t same is = record { whole = ap (λ l. identifier_of l ++ identifiers t) is; changed = λ l. rw same refl; removed = rw same refl }
 
 parted-later : (addr : List ℕ) (state : StationState) (e : List ℕ × StationState) (t : Table) (p q : List ℕ) → bytes_eq addr e.0 ≡ false → IsParted addr state t p q → IsParted addr state (e ∷ t) (identifier_of e.1 ++ p) q
 parted-later addr state e t p q other r = record {
@@ -86,54 +74,34 @@ parted-later addr state e t p q other r = record {
   removed = rw other (ap (λ ns. identifier_of e.1 ++ ns) r.removed ∙ append_assoc_of e.1 p q);
 }
 
-found-here : (b : Bool) (state other : StationState) (rest : Option StationState) → b ≡ true → cond b (Some other) rest ≡ Some state → other ≡ state
-found-here true state other rest e h = cc
-found-here false state other rest e h = absurd (both_ways false refl e)
-
-found-later : (b : Bool) (state other : StationState) (rest : Option StationState) → b ≡ false → cond b (Some other) rest ≡ Some state → rest ≡ Some state
-found-later true state other rest e h = absurd (both_ways true e refl)
-found-later false state other rest e h = h
-
 pub parted : (addr : List ℕ) (state : StationState) (t : Table) → state_of addr t ≡ Some state → (p : List ℕ) × (q : List ℕ) × IsParted addr state t p q
 parted addr state [] h = absurd (cc)
-parted addr state (e ∷ t) h = by (bytes_eq addr e.0) refl (parted addr state t)
-  where
-    by : (b : Bool) → bytes_eq addr e.0 ≡ b → (state_of addr t ≡ Some state → (p : List ℕ) × (q : List ℕ) × IsParted addr state t p q) → (p : List ℕ) × (q : List ℕ) × IsParted addr state (e ∷ t) p q
-    by true same later = ([], identifiers t, parted-here addr state e t same (found-here _ state e.1 _ same h))
-    by false other later =
-        let rest = later (found-later _ state e.1 _ other h) in
-        (identifier_of e.1 ++ rest.0, rest.1, parted-later addr state e t rest.0 rest.1 other rest.2)
+parted addr state (e ∷ t) h = elim (cases_Bool (bytes_eq addr e.0)) [
+  | inl same ↦ let is : Some e.1 ≡ Some state = rw same at h in ([], identifiers t, parted-here addr state e t same cc)
+  | inr other ↦
+      let rest = parted addr state t (rw other at h) in
+      (identifier_of e.1 ++ rest.0, rest.1, parted-later addr state e t rest.0 rest.1 other rest.2)
+]
 
 -- ---- an unknown station
 
 pub set_state-unknown : (addr : List ℕ) (state : StationState) (t : Table) → state_of addr t ≡ None → set_state addr state t ≡ t ++ (addr, state) ∷ []
 set_state-unknown addr state [] h = refl
-set_state-unknown addr state (e ∷ t) h = by (bytes_eq addr e.0) refl (set_state-unknown addr state t)
-  where
-    by : (b : Bool) → bytes_eq addr e.0 ≡ b → (state_of addr t ≡ None → set_state addr state t ≡ t ++ (addr, state) ∷ []) → set_state addr state (e ∷ t) ≡ e ∷ (t ++ (addr, state) ∷ [])
-    by true same later = let found : Some e.1 ≡ None = sym (rw same refl) ∙ h in absurd (cc)
-    by false other later = let none : lookup (bytes_eq addr) t ≡ None = sym (rw other refl) ∙ h in rw other (ap (λ (s : Table). e ∷ s) (later none))
+set_state-unknown addr state (e ∷ t) h = grind (arith, h, set_state-unknown addr state t)
 
 pub forget-unknown : (addr : List ℕ) (t : Table) → state_of addr t ≡ None → forget addr t ≡ t
 forget-unknown addr [] h = refl
-forget-unknown addr (e ∷ t) h = by (bytes_eq addr e.0) refl (forget-unknown addr t)
-  where
-    by : (b : Bool) → bytes_eq addr e.0 ≡ b → (state_of addr t ≡ None → forget addr t ≡ t) → forget addr (e ∷ t) ≡ e ∷ t
-    by true same later = let found : Some e.1 ≡ None = sym (rw same refl) ∙ h in absurd (cc)
-    by false other later = let none : lookup (bytes_eq addr) t ≡ None = sym (rw other refl) ∙ h in rw other (ap (λ (s : Table). e ∷ s) (later none))
+forget-unknown addr (e ∷ t) h = grind (arith, h, forget-unknown addr t)
 
 -- ---- what the station's identifier says
 
 pub state_of-associated : (addr : List ℕ) (t : Table) (aid : ℕ) → aid_of addr t ≡ Some aid → (state : StationState) × (state_of addr t ≡ Some state) × (identifier_of state ≡ aid ∷ [])
-state_of-associated addr t aid h = by (state_of addr t) refl
+state_of-associated addr t aid h = by (state_of addr t) refl h
   where
-    by : (l : Option StationState) → state_of addr t ≡ l → (state : StationState) × (state_of addr t ≡ Some state) × (identifier_of state ≡ aid ∷ [])
-    by None is = let e : None ≡ Some aid = sym (ap aid_with is) ∙ h in absurd (cc)
-    by (Some Authenticated) is = let e : None ≡ Some aid = sym (ap aid_with is) ∙ h in absurd (cc)
-    by (Some (Associated n listen doze)) is =
-        let e : Some n ≡ Some aid = sym (ap aid_with is) ∙ h in
-        let same : n ≡ aid = cc in
-        (Associated n listen doze, is, ap (λ (m : ℕ). m ∷ []) same)
+    by : (l : Option StationState) → state_of addr t ≡ l → aid_with l ≡ Some aid → (state : StationState) × (state_of addr t ≡ Some state) × (identifier_of state ≡ aid ∷ [])
+    by None is e = absurd (cc)
+    by (Some Authenticated) is e = absurd (cc)
+    by (Some (Associated n listen doze)) is e = (Associated n listen doze, is, cc)
 
 -- the numbers of a table in which an associated station gets another state
 pub numbers-of_associated : (addr : List ℕ) (t : Table) (aid : ℕ) → aid_of addr t ≡ Some aid
@@ -160,15 +128,13 @@ own-among addr t aid h =
 -- ---- a station that is not associated has no number
 
 pub numbers-kept : (addr : List ℕ) (t : Table) → aid_of addr t ≡ None → (identifiers (set_state addr Authenticated t) ≡ identifiers t) × (identifiers (forget addr t) ≡ identifiers t)
-numbers-kept addr t h = by (state_of addr t) refl
+numbers-kept addr t h = by (state_of addr t) refl h
   where
-    by : (l : Option StationState) → state_of addr t ≡ l → (identifiers (set_state addr Authenticated t) ≡ identifiers t) × (identifiers (forget addr t) ≡ identifiers t)
-    by None is =
-        (ap identifiers (set_state-unknown addr Authenticated t is) ∙ identifiers-append t ((addr, Authenticated) ∷ []) ∙ append-nil (identifiers t), ap identifiers (forget-unknown addr t is))
-    by (Some Authenticated) is =
-        let parts = parted addr Authenticated t is in
-        (parts.2.changed Authenticated ∙ sym parts.2.whole, parts.2.removed ∙ sym parts.2.whole)
-    by (Some (Associated n listen doze)) is = let e : Some n ≡ None = sym (ap aid_with is) ∙ h in absurd (cc)
+    by : (l : Option StationState) → state_of addr t ≡ l → aid_with l ≡ None → (identifiers (set_state addr Authenticated t) ≡ identifiers t) × (identifiers (forget addr t) ≡ identifiers t)
+    by None is e =
+        (cc (set_state-unknown addr Authenticated t is, identifiers-append t ((addr, Authenticated) ∷ []), append-nil (identifiers t)), ap identifiers (forget-unknown addr t is))
+    by (Some Authenticated) is e = let parts = parted addr Authenticated t is in (cc (parts.2.changed Authenticated), cc parts.2.removed)
+    by (Some (Associated n listen doze)) is e = absurd (cc)
 
 -- ---- the pool
 
@@ -254,17 +220,11 @@ range-of_associated addr t aid h o = let n = numbers-of_associated addr t aid h 
 
 pub with_entry-is_set_state : (addr : List ℕ) (state : StationState) (t : Table) → with_entry addr state t ≡ set_state addr state t
 with_entry-is_set_state addr state [] = refl
-with_entry-is_set_state addr state (e ∷ t) = ap (λ (s : Table). if bytes_eq addr e.0 then (e.0, state) ∷ t else e ∷ s) (with_entry-is_set_state addr state t)
+with_entry-is_set_state addr state (e ∷ t) = cc (with_entry-is_set_state addr state t)
 
 pub set_value-is_set_state : (addr : List ℕ) (state : StationState) (t : Table) → is_some (state_of addr t) ≡ true → set_value (bytes_eq addr) t state ≡ set_state addr state t
-set_value-is_set_state addr state [] h = absurd (both_ways false refl h)
-set_value-is_set_state addr state (e ∷ t) h = by (bytes_eq addr e.0) refl (set_value-is_set_state addr state t)
-  where
-    by : (b : Bool) → bytes_eq addr e.0 ≡ b → (is_some (state_of addr t) ≡ true → set_value (bytes_eq addr) t state ≡ set_state addr state t) → set_value (bytes_eq addr) (e ∷ t) state ≡ set_state addr state (e ∷ t)
-    by true same later = rw same refl
-    by false other later =
-        let there : is_some (state_of addr t) ≡ true = sym (rw other refl) ∙ h in
-        rw other (ap (λ (s : Table). e ∷ s) (later there))
+set_value-is_set_state addr state [] h = absurd (cc)
+set_value-is_set_state addr state (e ∷ t) h = grind (arith, h, set_value-is_set_state addr state t)
 
 pub no-numbers : (most : ℕ) → AreOut most set.empty []
 no-numbers most = record { numbers = λ n. contains-empty nat_cmp n; count = len-empty nat_cmp; few = omega arith; sound = tt }
@@ -278,20 +238,13 @@ changed_table f most old new s is change = ap (stations most) change ∙ ap (λ 
 
 -- a station that is known and has no number is authenticated
 pub authenticated-where : (addr : List ℕ) (t : Table) → is_some (state_of addr t) ≡ true → aid_of addr t ≡ None → state_of addr t ≡ Some Authenticated
-authenticated-where addr t known none = by (state_of addr t) refl
-  where
-    by : (l : Option StationState) → state_of addr t ≡ l → state_of addr t ≡ Some Authenticated
-    by None is = let e : false ≡ true = sym (ap is_some is) ∙ known in absurd (both_ways false refl e)
-    by (Some Authenticated) is = is
-    by (Some (Associated n listen doze)) is = let e : Some n ≡ None = sym (ap aid_with is) ∙ none in absurd (cc)
+authenticated-where addr t known none = grind (arith, known, none)
 
 -- a number is free exactly where fewer are out than may be
 pub room-where : (most : ℕ) (out : Numbers) (ns : List ℕ) (least : Option ℕ) → (IsNone least ↔ (set.len out ≡ most)) → AreOut most out ns → is_some least ≡ nat_lt (length ns) most
-room-where most out ns None h o =
-    let full : set.len out ≡ most = h.0 refl in
-    sym (le-ltb (length ns) most (omega (arith, full, o.count)))
+room-where most out ns None h o = sym (le-ltb (length ns) most (omega (arith, h.0 refl, o.count)))
 room-where most out ns (Some aid) h o =
-    let some : set.len out ≢ most = λ e. both_ways true (h.1 e) refl in
+    let some : set.len out ≢ most = λ e. absurd (cc (h.1 e)) in
     sym (lt-ltb (length ns) most (omega (arith, some, o.count, o.few)))
 
 -- ---- how many doze
@@ -302,11 +255,7 @@ dozing_at addr t = from_bool (is_dozing addr t)
 
 pub dozing-set : (addr : List ℕ) (state : StationState) (t : Table) → dozing_count (set_state addr state t) + dozing_at addr t ≡ dozing_count t + from_bool (dozes state)
 dozing-set addr state [] = omega arith
-dozing-set addr state (e ∷ t) = by (bytes_eq addr e.0) refl (dozing-set addr state t)
-  where
-    by : (b : Bool) → bytes_eq addr e.0 ≡ b → dozing_count (set_state addr state t) + dozing_at addr t ≡ dozing_count t + from_bool (dozes state) → dozing_count (set_state addr state (e ∷ t)) + dozing_at addr (e ∷ t) ≡ dozing_count (e ∷ t) + from_bool (dozes state)
-    by true same later = rw same (omega arith)
-    by false other later = rw other (omega (arith, later))
+dozing-set addr state (e ∷ t) = grind (arith, dozing-set addr state t)
 
 -- a station that dozes is counted
 pub dozing-at_most : (addr : List ℕ) (t : Table) → dozing_at addr t ≤ dozing_count t
@@ -314,28 +263,16 @@ dozing-at_most addr t = omega (arith, dozing-set addr Authenticated t)
 
 pub dozing-forgotten : (addr : List ℕ) (t : Table) → dozing_count (forget addr t) + dozing_at addr t ≡ dozing_count t
 dozing-forgotten addr [] = refl
-dozing-forgotten addr (e ∷ t) = by (bytes_eq addr e.0) refl (dozing-forgotten addr t)
-  where
-    by : (b : Bool) → bytes_eq addr e.0 ≡ b → dozing_count (forget addr t) + dozing_at addr t ≡ dozing_count t → dozing_count (forget addr (e ∷ t)) + dozing_at addr (e ∷ t) ≡ dozing_count (e ∷ t)
-    by true same later = rw same (omega arith)
-    by false other later = rw other (omega (arith, later))
+dozing-forgotten addr (e ∷ t) = grind (arith, dozing-forgotten addr t)
 
 -- the mode of a known station is set by its state
 pub set_mode-is_set_state : (addr : List ℕ) (doze : Bool) (state : StationState) (t : Table) → state_of addr t ≡ Some state → set_mode addr doze t ≡ set_state addr (with_mode doze state) t
 set_mode-is_set_state addr doze state [] h = absurd (cc)
-set_mode-is_set_state addr doze state (e ∷ t) h = by (bytes_eq addr e.0) refl (set_mode-is_set_state addr doze state t)
-  where
-    by : (b : Bool) → bytes_eq addr e.0 ≡ b → (state_of addr t ≡ Some state → set_mode addr doze t ≡ set_state addr (with_mode doze state) t) → set_mode addr doze (e ∷ t) ≡ set_state addr (with_mode doze state) (e ∷ t)
-    by true same later = let is = found-here _ state e.1 _ same h in rw (same, is) refl
-    by false other later = let rest = later (found-later _ state e.1 _ other h) in rw (other, rest) refl
+set_mode-is_set_state addr doze state (e ∷ t) h = grind (arith, h, set_mode-is_set_state addr doze state t)
 
 pub set_mode-unknown : (addr : List ℕ) (doze : Bool) (t : Table) → state_of addr t ≡ None → set_mode addr doze t ≡ t
 set_mode-unknown addr doze [] h = refl
-set_mode-unknown addr doze (e ∷ t) h = by (bytes_eq addr e.0) refl (set_mode-unknown addr doze t)
-  where
-    by : (b : Bool) → bytes_eq addr e.0 ≡ b → (state_of addr t ≡ None → set_mode addr doze t ≡ t) → set_mode addr doze (e ∷ t) ≡ e ∷ t
-    by true same later = let found : Some e.1 ≡ None = sym (rw same refl) ∙ h in absurd (cc)
-    by false other later = let none : lookup (bytes_eq addr) t ≡ None = sym (rw other refl) ∙ h in rw other (ap (λ (s : Table). e ∷ s) (later none))
+set_mode-unknown addr doze (e ∷ t) h = grind (arith, h, set_mode-unknown addr doze t)
 
 -- the state of a station is what the mode makes of it, where it is known
 pub set_mode-by : (By : StationState → StationState → Type 0) (addr : List ℕ) (doze : Bool) (t new : Table) (known : Option StationState)
@@ -349,37 +286,16 @@ set_mode-by By addr doze t new (Some before) makes is some none =
 -- some station dozes exactly where the count isn't 0
 pub some-dozes : (t : Table) → some_station_dozes t ≡ nat_lt 0 (dozing_count t)
 some-dozes [] = refl
-some-dozes (e ∷ t) = by (dozes e.1) refl (some-dozes t)
-  where
-    by : (b : Bool) → dozes e.1 ≡ b → some_station_dozes t ≡ nat_lt 0 (dozing_count t) → some_station_dozes (e ∷ t) ≡ nat_lt 0 (dozing_count (e ∷ t))
-    by true is later = rw is (sym (lt-ltb 0 (1 + dozing_count t) (omega arith)))
-    by false is later = let count : dozing_count t ≡ 0 + dozing_count t = omega arith in rw is (later ∙ ap (nat_lt 0) count)
+some-dozes (e ∷ t) = grind (arith, some-dozes t, nat_tests)
 
 -- whoever dozes is associated
 pub dozing-few : (t : Table) → dozing_count t ≤ length (identifiers t)
 dozing-few [] = omega arith
-dozing-few (e ∷ t) = by e.1 (dozing-few t)
-  where
-    by : (l : StationState) → dozing_count t ≤ length (identifiers t) → from_bool (dozes l) + dozing_count t ≤ length (identifier_of l ++ identifiers t)
-    by Authenticated later = omega (arith, later)
-    by (Associated aid listen true) later = omega (arith, later)
-    by (Associated aid listen false) later = omega (arith, later)
+dozing-few (e ∷ t) = grind (arith, dozing-few t, length-append (identifier_of e.1) (identifiers t))
 
 pub dozing-moded : (addr : List ℕ) (doze : Bool) (t : Table) → dozing_count (set_mode addr doze t) + dozing_at addr t ≡ dozing_count t + dozing_at addr (set_mode addr doze t)
 dozing-moded addr doze [] = refl
-dozing-moded addr doze (e ∷ t) = by (bytes_eq addr e.0) refl (dozing-moded addr doze t)
-  where
-    by : (b : Bool) → bytes_eq addr e.0 ≡ b → dozing_count (set_mode addr doze t) + dozing_at addr t ≡ dozing_count t + dozing_at addr (set_mode addr doze t) → dozing_count (set_mode addr doze (e ∷ t)) + dozing_at addr (e ∷ t) ≡ dozing_count (e ∷ t) + dozing_at addr (set_mode addr doze (e ∷ t))
-    by true same later =
-        let set : set_mode addr doze (e ∷ t) ≡ (e.0, with_mode doze e.1) ∷ t = rw same refl in
-        let after : dozing_at addr ((e.0, with_mode doze e.1) ∷ t) ≡ from_bool (dozes (with_mode doze e.1)) = rw same refl in
-        let before : dozing_at addr (e ∷ t) ≡ from_bool (dozes e.1) = rw same refl in
-        omega (arith, before, ap dozing_count set, after, ap (dozing_at addr) set)
-    by false other later =
-        let set : set_mode addr doze (e ∷ t) ≡ e ∷ set_mode addr doze t = rw other refl in
-        let after : dozing_at addr (e ∷ set_mode addr doze t) ≡ dozing_at addr (set_mode addr doze t) = rw other refl in
-        let before : dozing_at addr (e ∷ t) ≡ dozing_at addr t = rw other refl in
-        omega (arith, later, before, ap dozing_count set, after, ap (dozing_at addr) set)
+dozing-moded addr doze (e ∷ t) = grind (arith, dozing-moded addr doze t)
 
 -- a change that sets no mode, where no other change is allowed
 pub nothing-changes : (change : Change) (t : Table) → IsModeAlone change → ((a : List ℕ) (doze : Bool) → change ≡ SetMode a doze → ⊥) → changed change t ≡ t
@@ -399,11 +315,6 @@ dozes-some addr t h =
 -- once one is active, another dozes exactly where more dozed than it
 pub other-dozes : (addr : List ℕ) (doze : Bool) (t : Table) → is_dozing addr (set_mode addr doze t) ≡ false → nat_lt (dozing_at addr t) (dozing_count t) ≡ some_station_dozes (set_mode addr doze t)
 other-dozes addr doze t h =
-    let none : dozing_at addr (set_mode addr doze t) ≡ 0 = ap from_bool h in
-    shifted (dozing_at addr t) (dozing_count t) (dozing_count (set_mode addr doze t)) (omega (arith, none, dozing-moded addr doze t)) ∙ sym (some-dozes (set_mode addr doze t))
-  where
-    shifted : (at count rest : ℕ) → rest + at ≡ count → nat_lt at count ≡ nat_lt 0 rest
-    shifted at count zero sum = le-ltb at count (omega (arith, sum))
-    shifted at count (suc rest) sum = lt-ltb at count (omega (arith, sum)) ∙ sym (lt-ltb 0 (suc rest) (omega arith))
+    grind (arith, nat_tests, ap from_bool h, dozing-moded addr doze t, some-dozes (set_mode addr doze t))
 
 -- ---- the identifier of the station at a place

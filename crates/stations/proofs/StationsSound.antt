@@ -1,8 +1,9 @@
 -- The stations of a network stay sound through each change of one of them.
-use Rattle.std.proofs.Common.{◌≡◌, ℕ, ◌+◌, ◌<◌, ◌≤◌, Bool, true, false, cond, ◌||◌, List, [], ◌∷◌, ◌++◌, length, Option, Some, None, is_some, unwrap_or, refl, sym, ap, subst, ◌∙◌, arith}
-use Rattle.std.specs.Prelude.{nat_lt, if◌then◌else◌}
+use Rattle.std.proofs.Common.{◌≡◌, ℕ, ◌+◌, ◌<◌, ◌≤◌, Bool, true, false, List, [], ◌∷◌, ◌++◌, length, Option, Some, None, is_some, refl, sym, ap, subst, arith}
+use Rattle.std.specs.Prelude.{if◌then◌else◌}
 use Rattle.std.specs.Str.{bytes_eq}
 use Rattle.std.proofs.lemmas.List.{length-append}
+use Rattle.std.proofs.lemmas.Bool.{cond_both}
 use borrow.Author.Tests.{ltb-true}
 use Rattle.aid_pool.specs.LeastFree.{IsLeastFree, least_free, is_among}
 use Rattle.stations.specs.Stations.{Table, state_of, aid_of, identifiers, AreIdentifiers, may_associate, next_aid, set_state, authenticate, associate, disassociate, forget, set_mode, with_mode, identifier_of, changed, IsAllowed}
@@ -16,51 +17,27 @@ use Rattle.stations.proofs.StationTables.{with_entry-is_set_state, parted, witho
 
 -- ---- no station stands twice
 
-pub not-here : (b : Bool) (state : StationState) (rest : Option StationState) → cond b (Some state) rest ≡ None → (b ≡ false) × (rest ≡ None)
-not-here true state rest h = absurd (cc)
-not-here false state rest h = (refl, h)
-
 unknown-stays_moded : (k a : List ℕ) (doze : Bool) (t : Table) → state_of k t ≡ None → state_of k (set_mode a doze t) ≡ None
 unknown-stays_moded k a doze [] h = refl
-unknown-stays_moded k a doze (e ∷ t) h = by (bytes_eq a e.0) refl (not-here (bytes_eq k e.0) e.1 (state_of k t) h) (unknown-stays_moded k a doze t)
-  where
-    by : (b : Bool) → bytes_eq a e.0 ≡ b → (bytes_eq k e.0 ≡ false) × (state_of k t ≡ None) → (state_of k t ≡ None → state_of k (set_mode a doze t) ≡ None) → state_of k (set_mode a doze (e ∷ t)) ≡ None
-    by true same parts later = let away = parts.0 in rw (same, away) parts.1
-    by false apart parts later = let away = parts.0 in rw (apart, away) (later parts.1)
+unknown-stays_moded k a doze (e ∷ t) h = grind (arith, h, unknown-stays_moded k a doze t)
 
 apart-moded : (a : List ℕ) (doze : Bool) (t : Table) → AreApart t → AreApart (set_mode a doze t)
 apart-moded a doze [] h = tt
-apart-moded a doze (e ∷ t) h = by (bytes_eq a e.0) refl (apart-moded a doze t)
-  where
-    by : (b : Bool) → bytes_eq a e.0 ≡ b → (AreApart t → AreApart (set_mode a doze t)) → AreApart (set_mode a doze (e ∷ t))
-    by true same later = rw same h
-    by false apart later = rw apart (unknown-stays_moded e.0 a doze t h.0, later h.1)
+apart-moded a doze (e ∷ t) h = cond_both (bytes_eq a e.0) _ _ AreApart (λ _. h) (λ _. (unknown-stays_moded e.0 a doze t h.0, apart-moded a doze t h.1))
 
 -- ---- how many there are
 
 pub length-moded : (a : List ℕ) (doze : Bool) (t : Table) → length (set_mode a doze t) ≡ length t
 length-moded a doze [] = refl
-length-moded a doze (e ∷ t) = by (bytes_eq a e.0) refl (length-moded a doze t)
-  where
-    by : (b : Bool) → bytes_eq a e.0 ≡ b → length (set_mode a doze t) ≡ length t → length (set_mode a doze (e ∷ t)) ≡ length (e ∷ t)
-    by true same later = rw same refl
-    by false apart later = rw (apart, later) refl
+length-moded a doze (e ∷ t) = grind (arith, length-moded a doze t)
 
 pub length-set_state : (a : List ℕ) (l : StationState) (t : Table) → length (set_state a l t) ≡ length t + (if is_some (state_of a t) then 0 else 1)
 length-set_state a l [] = refl
-length-set_state a l (e ∷ t) = by (bytes_eq a e.0) refl (length-set_state a l t)
-  where
-    by : (b : Bool) → bytes_eq a e.0 ≡ b → length (set_state a l t) ≡ length t + (if is_some (state_of a t) then 0 else 1) → length (set_state a l (e ∷ t)) ≡ length (e ∷ t) + (if is_some (state_of a (e ∷ t)) then 0 else 1)
-    by true same later = rw same (omega arith)
-    by false apart later = rw apart (omega (arith, later))
+length-set_state a l (e ∷ t) = grind (arith, length-set_state a l t)
 
 pub length-forgotten : (a : List ℕ) (t : Table) → length (forget a t) ≤ length t
 length-forgotten a [] = omega arith
-length-forgotten a (e ∷ t) = by (bytes_eq a e.0) refl (length-forgotten a t)
-  where
-    by : (b : Bool) → bytes_eq a e.0 ≡ b → length (forget a t) ≤ length t → length (forget a (e ∷ t)) ≤ length (e ∷ t)
-    by true same later = rw same (omega arith)
-    by false apart later = rw apart (omega (arith, later))
+length-forgotten a (e ∷ t) = grind (arith, length-forgotten a t)
 
 -- ---- the identifiers
 
@@ -75,13 +52,11 @@ few-authenticated : (most : ℕ) (a : List ℕ) (t : Table) → AreFew most (ide
 few-authenticated most a t h = by (aid_of a t) refl
   where
     by : (o : Option ℕ) → aid_of a t ≡ o → AreFew most (identifiers (set_state a Authenticated t)) × AreFew most (identifiers (forget a t))
-    by None none =
-        let n = numbers-kept a t none in
-        (subst (AreFew most) (sym n.0) h, subst (AreFew most) (sym n.1) h)
+    by None none = let n = numbers-kept a t none in (rw n.0 h, rw n.1 h)
     by (Some aid) had =
         let n = numbers-of_associated a t aid had in
-        let less = few-less most n.0 n.1 aid (subst (AreFew most) n.2 h) in
-        (subst (AreFew most) (sym (n.3 Authenticated)) less, subst (AreFew most) (sym n.4) less)
+        let less = few-less most n.0 n.1 aid (rw n.2 at h) in
+        (rw (n.3 Authenticated) less, rw n.4 less)
 
 -- fewer numbers than there are leave a least one free
 abbrev LeavesOneFree : Type 0
@@ -91,27 +66,17 @@ few-associated : LeavesOneFree → (most : ℕ) (a : List ℕ) (listen : ℕ) (t
 few-associated leaves most a listen t limit known room h = by (aid_of a t) refl
   where
     by : (o : Option ℕ) → aid_of a t ≡ o → AreFew most (identifiers (associate a listen t))
-    by (Some aid) had =
-        let n = numbers-of_associated a t aid had in
-        let same : next_aid a t ≡ aid = ap (λ (o : Option ℕ). unwrap_or o (least_free (is_among (identifiers t)))) had in
-        subst (λ (m : ℕ). AreFew most (identifiers (set_state a (Associated m listen false) t))) (sym same)
-        (subst (AreFew most) (n.2 ∙ sym (n.3 (Associated aid listen false))) h)
+    by (Some aid) had = let n = numbers-of_associated a t aid had in rw (had, n.3 (Associated aid listen false)) (rw n.2 at h)
     by None none =
-        let few : nat_lt (length (identifiers t)) most ≡ true = sym (ap (λ (o : Option ℕ). is_some o || nat_lt (length (identifiers t)) most) none) ∙ room in
-        let fewer : length (identifiers t) < most = ltb-true (length (identifiers t)) most few in
+        let fewer : length (identifiers t) < most = ltb-true (length (identifiers t)) most (rw none at room) in
         let least = leaves (identifiers t) (omega arith) in
         let parts = parted a Authenticated t (authenticated-where a t known none) in
-        let p = parts.0 in
-        let q = parts.1 in
-        let whole : identifiers t ≡ p ++ q = parts.2.whole in
-        let free : is_among (p ++ q) (least_free (is_among (identifiers t))) ≡ false = ap (λ (ns : List ℕ). is_among ns (least_free (is_among (identifiers t)))) (sym whole) ∙ least.free in
-        let more : AreFew most (p ++ least_free (is_among (identifiers t)) ∷ q) = (
-          omega (arith, fewer, ap length whole, length-append p q, length-append p (least_free (is_among (identifiers t)) ∷ q)),
-          within p q (least_free (is_among (identifiers t))) least.first least.last (subst AreIdentifiers whole h.1) free,
-        ) in
-        let same : next_aid a t ≡ least_free (is_among (identifiers t)) = ap (λ (o : Option ℕ). unwrap_or o (least_free (is_among (identifiers t)))) none in
-        subst (λ (m : ℕ). AreFew most (identifiers (set_state a (Associated m listen false) t))) (sym same)
-        (subst (AreFew most) (sym (parts.2.changed (Associated (least_free (is_among (identifiers t))) listen false))) more)
+        let free : ℕ = least_free (is_among (identifiers t)) in
+        let whole : identifiers t ≡ parts.0 ++ parts.1 = parts.2.whole in
+        rw (none, parts.2.changed (Associated free listen false)) (
+          omega (arith, fewer, ap length whole, length-append parts.0 parts.1, length-append parts.0 (free ∷ parts.1)),
+          within parts.0 parts.1 free least.first least.last (rw whole at h.1) (cc least.free),
+        )
 
 -- a mode is none of an identifier's business
 same-identifier : (doze : Bool) (l : StationState) → identifier_of (with_mode doze l) ≡ identifier_of l
@@ -120,11 +85,7 @@ same-identifier doze (Associated aid listen before) = refl
 
 pub identifiers-moded : (a : List ℕ) (doze : Bool) (t : Table) → identifiers (set_mode a doze t) ≡ identifiers t
 identifiers-moded a doze [] = refl
-identifiers-moded a doze (e ∷ t) = by (bytes_eq a e.0) refl (identifiers-moded a doze t)
-  where
-    by : (b : Bool) → bytes_eq a e.0 ≡ b → identifiers (set_mode a doze t) ≡ identifiers t → identifiers (set_mode a doze (e ∷ t)) ≡ identifiers (e ∷ t)
-    by true same later = rw same (ap (λ ns. ns ++ identifiers t) (same-identifier doze e.1))
-    by false apart later = rw apart (ap (λ ns. identifier_of e.1 ++ ns) later)
+identifiers-moded a doze (e ∷ t) = grind (arith, identifiers-moded a doze t, same-identifier doze e.1)
 
 -- ---- each change
 
@@ -144,11 +105,7 @@ forget-sound apart most a t h =
     record { addresses = apart.removed a t h.addresses; aids = few.1; associated = few.0 }
 
 pub disassociate-sound : StayApart StationState → (most : ℕ) (a : List ℕ) (t : Table) → AreSound most t → AreSound most (disassociate a t)
-disassociate-sound apart most a t h = by (is_some (aid_of a t)) refl
-  where
-    by : (b : Bool) → is_some (aid_of a t) ≡ b → AreSound most (disassociate a t)
-    by true is = rw is (authenticate-sound apart most a t h)
-    by false is = rw is h
+disassociate-sound apart most a t h = cond_both (is_some (aid_of a t)) _ _ (AreSound most) (λ _. authenticate-sound apart most a t h) (λ _. h)
 
 pub associate-sound : StayApart StationState → LeavesOneFree → (most : ℕ) (a : List ℕ) (listen : ℕ) (t : Table) → most ≤ 2007 → is_some (state_of a t) ≡ true → may_associate most a t ≡ true → AreSound most t → AreSound most (associate a listen t)
 associate-sound apart leaves most a listen t limit known room h =
