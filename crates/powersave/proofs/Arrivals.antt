@@ -1,7 +1,8 @@
 -- Units in order of arrival: one more in its place, and what a test leaves of them.
 use Rattle.std.proofs.Common.{◌≡◌, ℕ, ◌<◌, ◌≤◌, ◌⊎◌, inl, inr, Bool, true, false, cond, ltb, List, [], ◌∷◌, ◌++◌, filter, refl, sym, ap, ◌∙◌, arith}
 use Rattle.std.specs.List.{AllByRecursion}
-use Rattle.std.proofs.lemmas.Bool.{ltb-true, ltb-false, lt-ltb, le-ltb, cases_lt}
+use Rattle.std.proofs.lemmas.Bool.{cond_both, ltb-true, ltb-false, lt-ltb, le-ltb}
+use Rattle.std.proofs.lemmas.Bool.Decides.{nat_tests}
 use Rattle.powersave.specs.Keep.{without_first}
 use Rattle.powersave.specs.Queues.{Arrival, put_in_order, IsRising}
 
@@ -33,27 +34,18 @@ AllAbove-from m n (b ∷ bs) lt from = let here = from.0 in (omega arith, AllAbo
 
 AllFrom-put : (n : ℕ) (a : Arrival) (bs : List Arrival) → n ≤ a.0 → AllFrom n bs → AllFrom n (put_in_order a bs)
 AllFrom-put n a [] le from = (le, tt)
-AllFrom-put n a (b ∷ bs) le from = placed (ltb a.0 b.0) (AllFrom-put n a bs le from.1)
-  where
-    placed : (c : Bool) → AllFrom n (put_in_order a bs) → AllFrom n (cond c (a ∷ b ∷ bs) (b ∷ put_in_order a bs))
-    placed true later = (le, from)
-    placed false later = (from.0, later)
+AllFrom-put n a (b ∷ bs) le from = cond_both (ltb a.0 b.0) _ _ (AllFrom n) (λ _. (le, from)) (λ _. (from.0, AllFrom-put n a bs le from.1))
 
 pub AllBelow-put : (n : ℕ) (a : Arrival) (bs : List Arrival) → a.0 < n → AllBelow n bs → AllBelow n (put_in_order a bs)
 AllBelow-put n a [] lt below = (lt, tt)
-AllBelow-put n a (b ∷ bs) lt below = placed (ltb a.0 b.0) (AllBelow-put n a bs lt below.1)
-  where
-    placed : (c : Bool) → AllBelow n (put_in_order a bs) → AllBelow n (cond c (a ∷ b ∷ bs) (b ∷ put_in_order a bs))
-    placed true later = (lt, below)
-    placed false later = (below.0, later)
+AllBelow-put n a (b ∷ bs) lt below = cond_both (ltb a.0 b.0) _ _ (AllBelow n) (λ _. (lt, below)) (λ _. (below.0, AllBelow-put n a bs lt below.1))
 
 pub IsInOrder-put : (a : Arrival) (bs : List Arrival) → IsInOrder bs → IsInOrder (put_in_order a bs)
 IsInOrder-put a [] order = (tt, tt)
-IsInOrder-put a (b ∷ bs) order = placed (ltb a.0 b.0) refl (IsInOrder-put a bs order.1)
-  where
-    placed : (c : Bool) → ltb a.0 b.0 ≡ c → IsInOrder (put_in_order a bs) → IsInOrder (cond c (a ∷ b ∷ bs) (b ∷ put_in_order a bs))
-    placed true e later = let lt = ltb-true a.0 b.0 e in ((omega arith, AllFrom-weaker a.0 b.0 bs (omega arith) order.0), order)
-    placed false e later = (AllFrom-put b.0 a bs (ltb-false a.0 b.0 e) order.0, later)
+IsInOrder-put a (b ∷ bs) order =
+    cond_both (ltb a.0 b.0) _ _ IsInOrder
+    (λ e. let lt = ltb-true a.0 b.0 e in ((omega arith, AllFrom-weaker a.0 b.0 bs (omega arith) order.0), order))
+    (λ e. (AllFrom-put b.0 a bs (ltb-false a.0 b.0 e) order.0, IsInOrder-put a bs order.1))
 
 -- ---- first and last
 
@@ -71,11 +63,7 @@ put_last a (b ∷ bs) below =
 -- one that is not last goes before the last
 pub put_before_last : (a last : Arrival) (bs : List Arrival) → a.0 < last.0 → put_in_order a (bs ++ last ∷ []) ≡ put_in_order a bs ++ last ∷ []
 put_before_last a last [] lt = ap (λ c. cond c (a ∷ last ∷ []) (last ∷ a ∷ [])) (lt-ltb a.0 last.0 lt)
-put_before_last a last (b ∷ bs) lt = placed (ltb a.0 b.0) (put_before_last a last bs lt)
-  where
-    placed : (c : Bool) → put_in_order a (bs ++ last ∷ []) ≡ put_in_order a bs ++ last ∷ [] → cond c (a ∷ b ∷ (bs ++ last ∷ [])) (b ∷ put_in_order a (bs ++ last ∷ [])) ≡ cond c (a ∷ b ∷ bs) (b ∷ put_in_order a bs) ++ last ∷ []
-    placed true later = refl
-    placed false later = ap (λ es. b ∷ es) later
+put_before_last a last (b ∷ bs) lt = grind (arith, put_before_last a last bs lt)
 
 -- ---- numbers that differ
 
@@ -85,11 +73,11 @@ Differ m n = (m < n) ⊎ (n < m)
 -- what holds of all that are in order once one was put
 put-each : (P : Arrival → Type 0) (a : Arrival) (bs : List Arrival) → AllByRecursion P (put_in_order a bs) → P a × AllByRecursion P bs
 put-each P a [] each = (each.0, tt)
-put-each P a (b ∷ bs) each = placed (ltb a.0 b.0) each (put-each P a bs)
-  where
-    placed : (c : Bool) → AllByRecursion P (cond c (a ∷ b ∷ bs) (b ∷ put_in_order a bs)) → (AllByRecursion P (put_in_order a bs) → P a × AllByRecursion P bs) → P a × AllByRecursion P (b ∷ bs)
-    placed true all later = (all.0, all.1)
-    placed false all later = let rest = later all.1 in (rest.0, (all.0, rest.1))
+put-each P a (b ∷ bs) each =
+    cond_both (ltb a.0 b.0) (a ∷ b ∷ bs) (b ∷ put_in_order a bs) (λ t. AllByRecursion P t → P a × AllByRecursion P (b ∷ bs))
+    (λ _ all. (all.0, all.1))
+    (λ _ all. let rest = put-each P a bs all.1 in (rest.0, (all.0, rest.1)))
+    each
 
 above-differ : (n : ℕ) (bs : List Arrival) → AllAbove n bs → AllByRecursion (λ b. Differ n b.0) bs
 above-differ n [] above = tt
@@ -98,42 +86,15 @@ above-differ n (b ∷ bs) above = (inl above.0, above-differ n bs above.1)
 -- where the numbers rise once one was put, that one's differs from the others, which rise
 pub IsRising-before_put : (a : Arrival) (bs : List Arrival) → IsRising (put_in_order a bs) → AllByRecursion (λ b. Differ a.0 b.0) bs × IsRising bs
 IsRising-before_put a [] rising = (tt, tt)
-IsRising-before_put a (b ∷ bs) rising = placed (ltb a.0 b.0) rising (IsRising-before_put a bs)
-  where
-    placed : (c : Bool) → IsRising (cond c (a ∷ b ∷ bs) (b ∷ put_in_order a bs)) → (IsRising (put_in_order a bs) → AllByRecursion (λ x. Differ a.0 x.0) bs × IsRising bs) → AllByRecursion (λ x. Differ a.0 x.0) (b ∷ bs) × IsRising (b ∷ bs)
-    placed true all later = (above-differ a.0 (b ∷ bs) all.0, all.1)
-    placed false all later =
-        let above = put-each (λ x. b.0 < x.0) a bs all.0 in
-        let rest = later all.1 in
-        ((inr above.0, rest.0), (above.1, rest.1))
-
-put_here : (a b : Arrival) (bs : List Arrival) → a.0 < b.0 → put_in_order a (b ∷ bs) ≡ a ∷ b ∷ bs
-put_here a b bs lt = ap (λ c. cond c (a ∷ b ∷ bs) (b ∷ put_in_order a bs)) (lt-ltb a.0 b.0 lt)
-
-put_later : (a b : Arrival) (bs : List Arrival) → b.0 ≤ a.0 → put_in_order a (b ∷ bs) ≡ b ∷ put_in_order a bs
-put_later a b bs le = ap (λ c. cond c (a ∷ b ∷ bs) (b ∷ put_in_order a bs)) (le-ltb a.0 b.0 le)
+IsRising-before_put a (b ∷ bs) rising =
+    cond_both (ltb a.0 b.0) (a ∷ b ∷ bs) (b ∷ put_in_order a bs) (λ t. IsRising t → AllByRecursion (λ x. Differ a.0 x.0) (b ∷ bs) × IsRising (b ∷ bs))
+    (λ _ all. (above-differ a.0 (b ∷ bs) all.0, all.1))
+    (λ _ all. let above = put-each (λ x. b.0 < x.0) a bs all.0 in let rest = IsRising-before_put a bs all.1 in ((inr above.0, rest.0), (above.1, rest.1)))
+    rising
 
 put-put_lower : (a b : Arrival) (xs : List Arrival) → a.0 < b.0 → put_in_order a (put_in_order b xs) ≡ put_in_order b (put_in_order a xs)
-put-put_lower a b [] lt = put_here a b [] lt ∙ sym (put_later b a [] (omega (arith, lt)))
-put-put_lower a b (x ∷ xs) lt =
-    elim (cases_lt b.0 x.0) [
-      | inl first ↦
-          ap (put_in_order a) (put_here b x xs first)
-          ∙ put_here a b (x ∷ xs) lt
-          ∙ sym (ap (put_in_order b) (put_here a x xs (omega (arith, lt, first))) ∙ put_later b a (x ∷ xs) (omega (arith, lt)) ∙ ap (λ es. a ∷ es) (put_here b x xs first))
-      | inr after ↦
-          elim (cases_lt a.0 x.0) [
-            | inl before ↦
-                ap (put_in_order a) (put_later b x xs after)
-                ∙ put_here a x (put_in_order b xs) before
-                ∙ sym (ap (put_in_order b) (put_here a x xs before) ∙ put_later b a (x ∷ xs) (omega (arith, lt)) ∙ ap (λ es. a ∷ es) (put_later b x xs after))
-            | inr both ↦
-                ap (put_in_order a) (put_later b x xs after)
-                ∙ put_later a x (put_in_order b xs) both
-                ∙ ap (λ es. x ∷ es) (put-put_lower a b xs lt)
-                ∙ sym (ap (put_in_order b) (put_later a x xs both) ∙ put_later b x (put_in_order a xs) after)
-          ]
-    ]
+put-put_lower a b [] lt = grind (arith, nat_tests, lt)
+put-put_lower a b (x ∷ xs) lt = grind (arith, nat_tests, lt, put-put_lower a b xs lt)
 
 -- two whose numbers differ may be put in either order
 pub put-put : (a b : Arrival) (xs : List Arrival) → Differ a.0 b.0 → put_in_order a (put_in_order b xs) ≡ put_in_order b (put_in_order a xs)
@@ -157,111 +118,49 @@ IsRising-last last (b ∷ bs) below rising = (above bs rising.0, IsRising-last l
 module _ (p : Arrival → Bool) where
   AllAbove-filter : (n : ℕ) (bs : List Arrival) → AllAbove n bs → AllAbove n (filter p bs)
   AllAbove-filter n [] above = tt
-  AllAbove-filter n (b ∷ bs) above = tested (p b) (AllAbove-filter n bs above.1)
-    where
-      tested : (d : Bool) → AllAbove n (filter p bs) → AllAbove n (cond d (b ∷ filter p bs) (filter p bs))
-      tested true later = (above.0, later)
-      tested false later = later
+  AllAbove-filter n (b ∷ bs) above = let rest = AllAbove-filter n bs above.1 in cond_both (p b) _ _ (AllAbove n) (λ _. (above.0, rest)) (λ _. rest)
 
   AllAbove-without_first : (n : ℕ) (bs : List Arrival) → AllAbove n bs → AllAbove n (without_first p bs)
   AllAbove-without_first n [] above = tt
-  AllAbove-without_first n (b ∷ bs) above = tested (p b) (AllAbove-without_first n bs above.1)
-    where
-      tested : (d : Bool) → AllAbove n (without_first p bs) → AllAbove n (cond d bs (b ∷ without_first p bs))
-      tested true later = above.1
-      tested false later = (above.0, later)
+  AllAbove-without_first n (b ∷ bs) above = cond_both (p b) _ _ (AllAbove n) (λ _. above.1) (λ _. (above.0, AllAbove-without_first n bs above.1))
 
   pub IsRising-filter : (bs : List Arrival) → IsRising bs → IsRising (filter p bs)
   IsRising-filter [] rising = tt
-  IsRising-filter (b ∷ bs) rising = tested (p b) (IsRising-filter bs rising.1)
-    where
-      tested : (d : Bool) → IsRising (filter p bs) → IsRising (cond d (b ∷ filter p bs) (filter p bs))
-      tested true later = (AllAbove-filter b.0 bs rising.0, later)
-      tested false later = later
+  IsRising-filter (b ∷ bs) rising = let rest = IsRising-filter bs rising.1 in cond_both (p b) _ _ IsRising (λ _. (AllAbove-filter b.0 bs rising.0, rest)) (λ _. rest)
 
   pub IsRising-without_first : (bs : List Arrival) → IsRising bs → IsRising (without_first p bs)
   IsRising-without_first [] rising = tt
-  IsRising-without_first (b ∷ bs) rising = tested (p b) (IsRising-without_first bs rising.1)
-    where
-      tested : (d : Bool) → IsRising (without_first p bs) → IsRising (cond d bs (b ∷ without_first p bs))
-      tested true later = rising.1
-      tested false later = (AllAbove-without_first b.0 bs rising.0, later)
+  IsRising-without_first (b ∷ bs) rising = cond_both (p b) _ _ IsRising (λ _. rising.1) (λ _. (AllAbove-without_first b.0 bs rising.0, IsRising-without_first bs rising.1))
 
   -- one that fails
   pub filter-put_failing : (a : Arrival) (bs : List Arrival) → p a ≡ false → filter p (put_in_order a bs) ≡ filter p bs
   filter-put_failing a [] fails = ap (λ d. cond d (a ∷ []) []) fails
-  filter-put_failing a (b ∷ bs) fails = placed (ltb a.0 b.0) (filter-put_failing a bs fails)
-    where
-      placed : (c : Bool) → filter p (put_in_order a bs) ≡ filter p bs → filter p (cond c (a ∷ b ∷ bs) (b ∷ put_in_order a bs)) ≡ filter p (b ∷ bs)
-      placed true later = ap (λ d. cond d (a ∷ filter p (b ∷ bs)) (filter p (b ∷ bs))) fails
-      placed false later = ap (λ es. cond (p b) (b ∷ es) es) later
+  filter-put_failing a (b ∷ bs) fails = grind (arith, fails, filter-put_failing a bs fails)
 
   -- one that passes, where none that passes comes before it
   pub filter-put_earliest : (a : Arrival) (bs : List Arrival) → p a ≡ true → AllAbove a.0 (filter p bs) → filter p (put_in_order a bs) ≡ a ∷ filter p bs
   filter-put_earliest a [] passes above = ap (λ d. cond d (a ∷ []) []) passes
-  filter-put_earliest a (b ∷ bs) passes above = placed (ltb a.0 b.0) refl (filter-put_earliest a bs passes)
-    where
-      late : (d : Bool) → b.0 ≤ a.0 → AllAbove a.0 (cond d (b ∷ filter p bs) (filter p bs)) → (AllAbove a.0 (filter p bs) → filter p (put_in_order a bs) ≡ a ∷ filter p bs) → cond d (b ∷ filter p (put_in_order a bs)) (filter p (put_in_order a bs)) ≡ a ∷ cond d (b ∷ filter p bs) (filter p bs)
-      late true le others later = let here = others.0 in absurd (omega arith)
-      late false le others later = later others
-
-      placed : (c : Bool) → ltb a.0 b.0 ≡ c → (AllAbove a.0 (filter p bs) → filter p (put_in_order a bs) ≡ a ∷ filter p bs) → filter p (cond c (a ∷ b ∷ bs) (b ∷ put_in_order a bs)) ≡ a ∷ filter p (b ∷ bs)
-      placed true e later = ap (λ d. cond d (a ∷ filter p (b ∷ bs)) (filter p (b ∷ bs))) passes
-      placed false e later = late (p b) (ltb-false a.0 b.0 e) above later
+  filter-put_earliest a (b ∷ bs) passes above = grind (arith, nat_tests, passes, above, filter-put_earliest a bs passes)
 
   -- the first that passes is this one
   pub without_first-put_earliest : (a : Arrival) (bs : List Arrival) → p a ≡ true → AllAbove a.0 (filter p bs) → without_first p (put_in_order a bs) ≡ bs
   without_first-put_earliest a [] passes above = ap (λ d. cond d [] (a ∷ [])) passes
-  without_first-put_earliest a (b ∷ bs) passes above = placed (ltb a.0 b.0) refl (without_first-put_earliest a bs passes)
-    where
-      late : (d : Bool) → b.0 ≤ a.0 → AllAbove a.0 (cond d (b ∷ filter p bs) (filter p bs)) → (AllAbove a.0 (filter p bs) → without_first p (put_in_order a bs) ≡ bs) → cond d (put_in_order a bs) (b ∷ without_first p (put_in_order a bs)) ≡ b ∷ bs
-      late true le others later = let here = others.0 in absurd (omega arith)
-      late false le others later = ap (λ es. b ∷ es) (later others)
-
-      placed : (c : Bool) → ltb a.0 b.0 ≡ c → (AllAbove a.0 (filter p bs) → without_first p (put_in_order a bs) ≡ bs) → without_first p (cond c (a ∷ b ∷ bs) (b ∷ put_in_order a bs)) ≡ b ∷ bs
-      placed true e later = ap (λ d. cond d (b ∷ bs) (a ∷ without_first p (b ∷ bs))) passes
-      placed false e later = late (p b) (ltb-false a.0 b.0 e) above later
+  without_first-put_earliest a (b ∷ bs) passes above = grind (arith, nat_tests, passes, above, without_first-put_earliest a bs passes)
 
   -- what is put among those in order stays in its place when others are left out
   pub filter-put : (a : Arrival) (bs : List Arrival) → p a ≡ true → IsInOrder bs → filter p (put_in_order a bs) ≡ put_in_order a (filter p bs)
   filter-put a [] passes order = ap (λ d. cond d (a ∷ []) []) passes
-  filter-put a (b ∷ bs) passes order = placed (ltb a.0 b.0) refl (filter-put a bs passes order.1)
-    where
-      late : (d : Bool) → b.0 ≤ a.0 → filter p (put_in_order a bs) ≡ put_in_order a (filter p bs) → cond d (b ∷ filter p (put_in_order a bs)) (filter p (put_in_order a bs)) ≡ put_in_order a (cond d (b ∷ filter p bs) (filter p bs))
-      late true le later =
-          ap (λ es. b ∷ es) later
-          ∙ sym (ap (λ c. cond c (a ∷ b ∷ filter p bs) (b ∷ put_in_order a (filter p bs))) (le-ltb a.0 b.0 le))
-      late false le later = later
-
-      placed : (c : Bool) → ltb a.0 b.0 ≡ c → filter p (put_in_order a bs) ≡ put_in_order a (filter p bs) → filter p (cond c (a ∷ b ∷ bs) (b ∷ put_in_order a bs)) ≡ put_in_order a (filter p (b ∷ bs))
-      placed true e later =
-          let lt = ltb-true a.0 b.0 e in
-          ap (λ d. cond d (a ∷ filter p (b ∷ bs)) (filter p (b ∷ bs))) passes
-          ∙ sym (put_first a (filter p (b ∷ bs)) (AllAbove-filter a.0 (b ∷ bs) (lt, AllAbove-from a.0 b.0 bs lt order.0)))
-      placed false e later = late (p b) (ltb-false a.0 b.0 e) later
+  filter-put a (b ∷ bs) passes order =
+      let first : a.0 < b.0 → put_in_order a (filter p (b ∷ bs)) ≡ a ∷ filter p (b ∷ bs) = λ lt. put_first a (filter p (b ∷ bs)) (AllAbove-filter a.0 (b ∷ bs) (lt, AllAbove-from a.0 b.0 bs lt order.0)) in
+      grind (arith, nat_tests, passes, first, filter-put a bs passes order.1)
 
   pub without_first-put : (a : Arrival) (bs : List Arrival) → p a ≡ false → IsInOrder bs → without_first p (put_in_order a bs) ≡ put_in_order a (without_first p bs)
   without_first-put a [] fails order = ap (λ d. cond d [] (a ∷ [])) fails
-  without_first-put a (b ∷ bs) fails order = placed (ltb a.0 b.0) refl (without_first-put a bs fails order.1)
-    where
-      late : (d : Bool) → b.0 ≤ a.0 → without_first p (put_in_order a bs) ≡ put_in_order a (without_first p bs) → cond d (put_in_order a bs) (b ∷ without_first p (put_in_order a bs)) ≡ put_in_order a (cond d bs (b ∷ without_first p bs))
-      late true le later = refl
-      late false le later =
-          ap (λ es. b ∷ es) later
-          ∙ sym (ap (λ c. cond c (a ∷ b ∷ without_first p bs) (b ∷ put_in_order a (without_first p bs))) (le-ltb a.0 b.0 le))
-
-      placed : (c : Bool) → ltb a.0 b.0 ≡ c → without_first p (put_in_order a bs) ≡ put_in_order a (without_first p bs) → without_first p (cond c (a ∷ b ∷ bs) (b ∷ put_in_order a bs)) ≡ put_in_order a (without_first p (b ∷ bs))
-      placed true e later =
-          let lt = ltb-true a.0 b.0 e in
-          ap (λ d. cond d (b ∷ bs) (a ∷ without_first p (b ∷ bs))) fails
-          ∙ sym (put_first a (without_first p (b ∷ bs)) (AllAbove-without_first a.0 (b ∷ bs) (lt, AllAbove-from a.0 b.0 bs lt order.0)))
-      placed false e later = late (p b) (ltb-false a.0 b.0 e) later
+  without_first-put a (b ∷ bs) fails order =
+      let first : a.0 < b.0 → put_in_order a (without_first p (b ∷ bs)) ≡ a ∷ without_first p (b ∷ bs) = λ lt. put_first a (without_first p (b ∷ bs)) (AllAbove-without_first a.0 (b ∷ bs) (lt, AllAbove-from a.0 b.0 bs lt order.0)) in
+      grind (arith, nat_tests, fails, first, without_first-put a bs fails order.1)
 
   -- where none passes
   pub without_first-none : (bs : List Arrival) → filter p bs ≡ [] → without_first p bs ≡ bs
   without_first-none [] none = refl
-  without_first-none (b ∷ bs) none = tested (p b) none (without_first-none bs)
-    where
-      tested : (d : Bool) → cond d (b ∷ filter p bs) (filter p bs) ≡ [] → (filter p bs ≡ [] → without_first p bs ≡ bs) → cond d bs (b ∷ without_first p bs) ≡ b ∷ bs
-      tested true some later = absurd (cc some)
-      tested false others later = ap (λ es. b ∷ es) (later others)
+  without_first-none (b ∷ bs) none = grind (arith, none, without_first-none bs)

@@ -1,9 +1,10 @@
 -- A queue among the units of others, and all queues: what is left for one, what is left without it, what comes last,
 -- and that the last queue may as well be the first.
-use Rattle.std.proofs.Common.{◌≡◌, ℕ, ◌<◌, Bool, true, false, not, cond, List, [], ◌∷◌, ◌++◌, map, filter, drop, Some, refl, sym, ap, ◌∙◌, subst}
+use Rattle.std.proofs.Common.{◌≡◌, ℕ, ◌<◌, Bool, true, false, not, List, [], ◌∷◌, ◌++◌, map, filter, drop, Some, refl, sym, ap, ◌∙◌, subst, arith, inl, inr}
 use Rattle.std.specs.List.{AllByRecursion}
 use Rattle.std.specs.Map.{lookup, set_value, remove_entry}
 use Rattle.std.specs.Option.{option_map, unwrap_or}
+use Rattle.std.proofs.lemmas.Bool.{cases_Bool}
 use Rattle.std.proofs.lemmas.Map.{NonePasses}
 use Rattle.std.proofs.lemmas.Option.{none-some, same_Some}
 use Rattle.indexmap.specs.IndexMap.{swap_remove_entry}
@@ -165,38 +166,31 @@ module _ (t : Whom → Bool) where
   -- the units for one that passes are those of its queue, in its order
   pub units-arrivals : (n : ℕ) (queues : Queues) → AreNumbered n queues → IsOnce queues → map unit_of (filter (passes t) (arrivals queues)) ≡ map (λ a. a.unit) (unwrap_or (option_map (λ q. q.items) (lookup t queues)) [])
   units-arrivals n [] numbered once = refl
-  units-arrivals n (e ∷ es) numbered once = tested (t e.0) refl (units-arrivals n es numbered.1 once.1)
-    where
-      tested : (d : Bool) → t e.0 ≡ d → map unit_of (filter (passes t) (arrivals es)) ≡ map (λ a. a.unit) (unwrap_or (option_map (λ q. q.items) (lookup t es)) []) → map unit_of (filter (passes t) (merged e.0 e.1.items (arrivals es))) ≡ map (λ a. a.unit) (unwrap_or (option_map (λ q. q.items) (cond d (Some e.1) (lookup t es))) [])
-      tested true here later =
-          ap (map unit_of) (filter-merged_only t n e.0 e.1.items (arrivals es) here numbered.0 (filter-arrivals_none es (once.0 here)))
-          ∙ units-queue e.0 e.1.items
-      tested false other later = ap (map unit_of) (filter-merged_failing t e.0 e.1.items (arrivals es) other) ∙ later
+  units-arrivals n (e ∷ es) numbered once = elim (cases_Bool (t e.0)) [
+    | inl here ↦ rw here (ap (map unit_of) (filter-merged_only t n e.0 e.1.items (arrivals es) here numbered.0 (filter-arrivals_none es (once.0 here))) ∙ units-queue e.0 e.1.items)
+    | inr other ↦ rw other (ap (map unit_of) (filter-merged_failing t e.0 e.1.items (arrivals es) other) ∙ units-arrivals n es numbered.1 once.1)
+  ]
 
   -- a queue that has lost its first unit
   pub arrivals-pop : (n : ℕ) (queues : Queues) (q w : Queue) → AreNumbered n queues → IsOnce queues → lookup t queues ≡ Some q → w.items ≡ drop 1 q.items → arrivals (set_value t queues w) ≡ without_first (passes t) (arrivals queues)
   arrivals-pop n [] q w numbered once found left = refl
-  arrivals-pop n (e ∷ es) q w numbered once found left = tested (t e.0) refl found (λ f. arrivals-pop n es q w numbered.1 once.1 f left)
-    where
-      tested : (d : Bool) → t e.0 ≡ d → cond d (Some e.1) (lookup t es) ≡ Some q → (lookup t es ≡ Some q → arrivals (set_value t es w) ≡ without_first (passes t) (arrivals es)) → arrivals (cond d ((e.0, w) ∷ es) (e ∷ set_value t es w)) ≡ without_first (passes t) (merged e.0 e.1.items (arrivals es))
-      tested true here f later =
-          ap (λ queue. merged e.0 queue (arrivals es)) (left ∙ ap (λ (v : Queue). drop 1 v.items) (sym (same_Some e.1 q f)))
-          ∙ sym (without_first-merged_only t n e.0 e.1.items (arrivals es) here numbered.0 (filter-arrivals_none es (once.0 here)))
-      tested false other f later =
-          ap (merged e.0 e.1.items) (later f)
-          ∙ sym (without_first-merged_failing t e.0 e.1.items (arrivals es) other (IsInOrder-arrivals es))
+  arrivals-pop n (e ∷ es) q w numbered once found left = elim (cases_Bool (t e.0)) [
+    | inl here ↦
+        let is : e.1 ≡ q = same_Some e.1 q (rw here at found) in
+        rw here (ap (λ queue. merged e.0 queue (arrivals es)) (left ∙ ap (λ (v : Queue). drop 1 v.items) (sym is))
+        ∙ sym (without_first-merged_only t n e.0 e.1.items (arrivals es) here numbered.0 (filter-arrivals_none es (once.0 here))))
+    | inr other ↦
+        rw other (ap (merged e.0 e.1.items) (arrivals-pop n es q w numbered.1 once.1 (rw other at found) left)
+        ∙ sym (without_first-merged_failing t e.0 e.1.items (arrivals es) other (IsInOrder-arrivals es)))
+  ]
 
   -- a queue that is removed
   pub arrivals-remove : (queues : Queues) → IsOnce queues → arrivals (remove_entry t queues) ≡ filter (passes others) (arrivals queues)
   arrivals-remove [] once = refl
-  arrivals-remove (e ∷ es) once = tested (t e.0) refl (arrivals-remove es once.1)
-    where
-      tested : (d : Bool) → t e.0 ≡ d → arrivals (remove_entry t es) ≡ filter (passes others) (arrivals es) → arrivals (cond d es (e ∷ remove_entry t es)) ≡ filter (passes others) (merged e.0 e.1.items (arrivals es))
-      tested true here later =
-          sym (filter-merged_failing others e.0 e.1.items (arrivals es) (ap not here) ∙ filter-arrivals_others es (once.0 here))
-      tested false other later =
-          ap (merged e.0 e.1.items) later
-          ∙ sym (filter-merged_passing others e.0 e.1.items (arrivals es) (ap not other) (IsInOrder-arrivals es))
+  arrivals-remove (e ∷ es) once = elim (cases_Bool (t e.0)) [
+    | inl here ↦ rw here (sym (filter-merged_failing others e.0 e.1.items (arrivals es) (ap not here) ∙ filter-arrivals_others es (once.0 here)))
+    | inr other ↦ rw other (ap (merged e.0 e.1.items) (arrivals-remove es once.1) ∙ sym (filter-merged_passing others e.0 e.1.items (arrivals es) (ap not other) (IsInOrder-arrivals es)))
+  ]
 
   -- the same, where the last queue takes its place
   pub arrivals-swap_remove : (queues : Queues) → IsOnce queues → IsRising (arrivals queues) → arrivals (swap_remove_entry t queues) ≡ filter (passes others) (arrivals queues)
@@ -213,22 +207,18 @@ module _ (t : Whom → Bool) where
   -- a queue whose units stay
   pub arrivals-set_same : (queues : Queues) (q w : Queue) → lookup t queues ≡ Some q → w.items ≡ q.items → arrivals (set_value t queues w) ≡ arrivals queues
   arrivals-set_same [] q w found same = refl
-  arrivals-set_same (e ∷ es) q w found same = tested (t e.0) found (λ f. arrivals-set_same es q w f same)
-    where
-      tested : (d : Bool) → cond d (Some e.1) (lookup t es) ≡ Some q → (lookup t es ≡ Some q → arrivals (set_value t es w) ≡ arrivals es) → arrivals (cond d ((e.0, w) ∷ es) (e ∷ set_value t es w)) ≡ merged e.0 e.1.items (arrivals es)
-      tested true f later = ap (λ queue. merged e.0 queue (arrivals es)) (same ∙ ap (λ (v : Queue). v.items) (sym (same_Some e.1 q f)))
-      tested false f later = ap (merged e.0 e.1.items) (later f)
+  arrivals-set_same (e ∷ es) q w found same = grind (arith, found, same, arrivals-set_same es q w)
 
   -- a queue with one unit more, which came after all
   pub arrivals-push : (whom : Whom) → ((k : Whom) → t k ≡ true → k ≡ whom) → (last : Arrived) (queues : Queues) (q w : Queue) → AreNumbered last.number queues → lookup t queues ≡ Some q → w.items ≡ q.items ++ last ∷ [] → arrivals (set_value t queues w) ≡ arrivals queues ++ arrival_for whom last ∷ []
   arrivals-push whom exact last [] q w numbered found more = absurd (none-some q found)
-  arrivals-push whom exact last (e ∷ es) q w numbered found more = tested (t e.0) refl found (λ f. arrivals-push whom exact last es q w numbered.1 f more)
-    where
-      tested : (d : Bool) → t e.0 ≡ d → cond d (Some e.1) (lookup t es) ≡ Some q → (lookup t es ≡ Some q → arrivals (set_value t es w) ≡ arrivals es ++ arrival_for whom last ∷ []) → arrivals (cond d ((e.0, w) ∷ es) (e ∷ set_value t es w)) ≡ merged e.0 e.1.items (arrivals es) ++ arrival_for whom last ∷ []
-      tested true here f later =
-          ap (λ queue. merged e.0 queue (arrivals es)) (more ∙ ap (λ (v : Queue). v.items ++ last ∷ []) (sym (same_Some e.1 q f)))
-          ∙ merged-push e.0 e.1.items last (arrivals es) numbered.0 (AllBelow-arrivals last.number es numbered.1)
-          ∙ ap (λ k. merged e.0 e.1.items (arrivals es) ++ arrival_for k last ∷ []) (exact e.0 here)
-      tested false other f later =
-          ap (merged e.0 e.1.items) (later f)
-          ∙ merged-before_last e.0 e.1.items (arrival_for whom last) (arrivals es) numbered.0
+  arrivals-push whom exact last (e ∷ es) q w numbered found more = elim (cases_Bool (t e.0)) [
+    | inl here ↦
+        let is : e.1 ≡ q = same_Some e.1 q (rw here at found) in
+        rw here (ap (λ queue. merged e.0 queue (arrivals es)) (more ∙ ap (λ (v : Queue). v.items ++ last ∷ []) (sym is))
+        ∙ merged-push e.0 e.1.items last (arrivals es) numbered.0 (AllBelow-arrivals last.number es numbered.1)
+        ∙ ap (λ k. merged e.0 e.1.items (arrivals es) ++ arrival_for k last ∷ []) (exact e.0 here))
+    | inr other ↦
+        rw other (ap (merged e.0 e.1.items) (arrivals-push whom exact last es q w numbered.1 (rw other at found) more)
+        ∙ merged-before_last e.0 e.1.items (arrival_for whom last) (arrivals es) numbered.0)
+  ]

@@ -1,15 +1,15 @@
 -- The oldest unit for each: the first of its queue.
-use Rattle.std.proofs.Common.{◌≡◌, ℕ, Bool, true, false, cond, List, [], ◌∷◌, ◌++◌, map, Option, Some, None, refl, sym, ap, ◌∙◌}
+use Rattle.std.proofs.Common.{◌≡◌, ℕ, true, false, cond, List, [], ◌∷◌, ◌++◌, map, Option, Some, None, refl, sym, ap, ◌∙◌, inl, inr}
 use Rattle.std.specs.List.{IsDistinct}
-use Rattle.std.specs.Map.{keys_of, lookup}
-use Rattle.std.specs.Option.{option_map, unwrap_or}
+use Rattle.std.specs.Map.{keys_of}
+use Rattle.std.proofs.lemmas.Bool.{cases_Bool}
 use Rattle.std.proofs.lemmas.Map.{NonePasses}
 use Rattle.std.proofs.lemmas.Map.Keys.{IsDistinct-head, IsDistinct-tail}
 use Rattle.powersave.specs.declared.unit.Whom.{Whom}
 use Rattle.powersave.specs.declared.unit.Oldest.{Oldest}
 use Rattle.powersave.specs.declared.queues.Arrived.{Arrived}
 use Rattle.powersave.specs.Keep.{oldest_at, first_clock, AreOldest, AreToldOnce}
-use Rattle.powersave.specs.Queues.{Queue, Queues, is_whom, queue_for, oldest_of, oldest_in, entries_in, AreSound}
+use Rattle.powersave.specs.Queues.{Queues, is_whom, queue_for, oldest_of, oldest_in, entries_in, AreSound}
 use Rattle.powersave.proofs.Merges.{IsOnce}
 use Rattle.powersave.proofs.Parts.{is_same-refl}
 use Rattle.powersave.proofs.QueueSteps.{none_named, once, units_for-entries_in}
@@ -34,16 +34,10 @@ here-told whom other (a ∷ queue) os here none = ap (λ b. cond b (Some a.unit.
 
 told : (whom : Whom) (queues : Queues) → IsOnce (is_whom whom) queues → oldest_at whom (oldest_in queues) ≡ clock_of (queue_for whom queues)
 told whom [] apart = refl
-told whom (q ∷ queues) apart = by (is_whom whom q.0) refl (told whom queues apart.1)
-  where
-    by : (b : Bool) → is_whom whom q.0 ≡ b → oldest_at whom (oldest_in queues) ≡ clock_of (queue_for whom queues)
-        → oldest_at whom (oldest_of q.0 q.1.items ++ oldest_in queues) ≡ clock_of (unwrap_or (option_map (λ (v : Queue). v.items) (cond (is_whom whom q.0) (Some q.1) (lookup (is_whom whom) queues))) [])
-    by true here rest =
-        here-told whom q.0 q.1.items (oldest_in queues) here (none-told whom queues (apart.0 here))
-        ∙ sym (ap (λ b. clock_of (unwrap_or (option_map (λ (v : Queue). v.items) (cond b (Some q.1) (lookup (is_whom whom) queues))) [])) here)
-    by false away rest =
-        passed whom q.0 q.1.items (oldest_in queues) away ∙ rest
-        ∙ sym (ap (λ b. clock_of (unwrap_or (option_map (λ (v : Queue). v.items) (cond b (Some q.1) (lookup (is_whom whom) queues))) [])) away)
+told whom (q ∷ queues) apart = elim (cases_Bool (is_whom whom q.0)) [
+  | inl here ↦ rw here (here-told whom q.0 q.1.items (oldest_in queues) here (none-told whom queues (apart.0 here)))
+  | inr away ↦ rw away (passed whom q.0 q.1.items (oldest_in queues) away ∙ told whom queues apart.1)
+]
 
 pub all-told : (next : ℕ) (queues : Queues) → AreSound next queues → AreOldest (oldest_in queues) (entries_in queues)
 all-told next queues sound whom =

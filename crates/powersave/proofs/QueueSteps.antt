@@ -1,8 +1,9 @@
 -- What becomes of the queues where one is changed, removed or made.
-use Rattle.std.proofs.Common.{◌≡◌, ℕ, ◌+◌, ◌-◌, ◌<◌, ◌≤◌, Bool, true, false, not, cond, List, [], ◌∷◌, ◌++◌, length, map, filter, drop, Option, Some, None, refl, sym, ap, ◌∙◌, subst, arith}
+use Rattle.std.proofs.Common.{◌≡◌, ℕ, ◌+◌, ◌-◌, ◌<◌, ◌≤◌, Bool, true, false, not, List, [], ◌∷◌, ◌++◌, length, map, filter, drop, Option, Some, None, refl, sym, ap, ◌∙◌, subst, arith, inl, inr}
 use Rattle.std.specs.List.{AllByRecursion, IsDistinct, slice_get}
 use Rattle.std.specs.Map.{keys_of, lookup, set_value, remove_entry}
 use Rattle.std.specs.Option.{option_map, unwrap_or, IsSomeAnd}
+use Rattle.std.proofs.lemmas.Bool.{cases_Bool, cond_both}
 use Rattle.std.proofs.lemmas.List.{length-map, length_push, map-append}
 use Rattle.std.proofs.lemmas.Map.{NonePasses, keys-set_value}
 use Rattle.std.proofs.lemmas.Map.Keys.{IsDistinct-head, IsDistinct-tail}
@@ -26,19 +27,11 @@ entry_of a = a.1
 module _ {X Y : Type 0} (f : X → Y) (p : Y → Bool) where
   filter-map : (xs : List X) → filter p (map f xs) ≡ map f (filter (λ x. p (f x)) xs)
   filter-map [] = refl
-  filter-map (x ∷ xs) = tested (p (f x)) (filter-map xs)
-    where
-      tested : (d : Bool) → filter p (map f xs) ≡ map f (filter (λ x. p (f x)) xs) → cond d (f x ∷ filter p (map f xs)) (filter p (map f xs)) ≡ map f (cond d (x ∷ filter (λ x. p (f x)) xs) (filter (λ x. p (f x)) xs))
-      tested true later = ap (λ ys. f x ∷ ys) later
-      tested false later = later
+  filter-map (x ∷ xs) = grind (arith, filter-map xs)
 
   without_first-map : (xs : List X) → without_first p (map f xs) ≡ map f (without_first (λ x. p (f x)) xs)
   without_first-map [] = refl
-  without_first-map (x ∷ xs) = tested (p (f x)) (without_first-map xs)
-    where
-      tested : (d : Bool) → without_first p (map f xs) ≡ map f (without_first (λ x. p (f x)) xs) → cond d (map f xs) (f x ∷ without_first p (map f xs)) ≡ map f (cond d xs (x ∷ without_first (λ x. p (f x)) xs))
-      tested true later = refl
-      tested false later = ap (λ ys. f x ∷ ys) later
+  without_first-map (x ∷ xs) = grind (arith, without_first-map xs)
 
 units-entries : (bs : List Arrival) → map msdu (map entry_of bs) ≡ map unit_of bs
 units-entries [] = refl
@@ -93,19 +86,11 @@ AreNumbered-last next l (e ∷ es) numbered = let rest = AreNumbered-last next l
 module _ (t : Whom → Bool) (next : ℕ) where
   AreNumbered-set_value : (queues : Queues) (w : Queue) → AreNumbered next queues → IsNumbered next w.items → AreNumbered next (set_value t queues w)
   AreNumbered-set_value [] w numbered here = tt
-  AreNumbered-set_value (e ∷ es) w numbered here = tested (t e.0) (AreNumbered-set_value es w numbered.1 here)
-    where
-      tested : (d : Bool) → AreNumbered next (set_value t es w) → AreNumbered next (cond d ((e.0, w) ∷ es) (e ∷ set_value t es w))
-      tested true later = (here, numbered.1)
-      tested false later = (numbered.0, later)
+  AreNumbered-set_value (e ∷ es) w numbered here = cond_both (t e.0) _ _ (AreNumbered next) (λ _. (here, numbered.1)) (λ _. (numbered.0, AreNumbered-set_value es w numbered.1 here))
 
   AreNumbered-remove : (queues : Queues) → AreNumbered next queues → AreNumbered next (remove_entry t queues)
   AreNumbered-remove [] numbered = tt
-  AreNumbered-remove (e ∷ es) numbered = tested (t e.0) (AreNumbered-remove es numbered.1)
-    where
-      tested : (d : Bool) → AreNumbered next (remove_entry t es) → AreNumbered next (cond d es (e ∷ remove_entry t es))
-      tested true later = numbered.1
-      tested false later = (numbered.0, later)
+  AreNumbered-remove (e ∷ es) numbered = cond_both (t e.0) _ _ (AreNumbered next) (λ _. numbered.1) (λ _. (numbered.0, AreNumbered-remove es numbered.1))
 
   AreNumbered-swap_remove : (queues : Queues) → AreNumbered next queues → AreNumbered next (swap_remove_entry t queues)
   AreNumbered-swap_remove queues numbered =
@@ -117,11 +102,10 @@ module _ (t : Whom → Bool) (next : ℕ) where
 
   IsNumbered-found : (queues : Queues) (q : Queue) → AreNumbered next queues → lookup t queues ≡ Some q → IsNumbered next q.items
   IsNumbered-found [] q numbered found = absurd (none-some q found)
-  IsNumbered-found (e ∷ es) q numbered found = tested (t e.0) found (IsNumbered-found es q numbered.1)
-    where
-      tested : (d : Bool) → cond d (Some e.1) (lookup t es) ≡ Some q → (lookup t es ≡ Some q → IsNumbered next q.items) → IsNumbered next q.items
-      tested true f later = subst (λ (v : Queue). IsNumbered next v.items) (same_Some e.1 q f) numbered.0
-      tested false f later = later f
+  IsNumbered-found (e ∷ es) q numbered found = elim (cases_Bool (t e.0)) [
+    | inl here ↦ subst (λ (v : Queue). IsNumbered next v.items) (same_Some e.1 q (rw here at found)) numbered.0
+    | inr other ↦ IsNumbered-found es q numbered.1 (rw other at found)
+  ]
 
 -- ---- room
 
@@ -130,36 +114,18 @@ abbrev pub HasSpace : Queue → Type 0
 HasSpace q = q.len < q.cap
 
 module _ (u : Whom → Bool) where
-  -- one queue stays, and something becomes of the others
-  still : (g : Bool) (e : Queue) (old new : Option Queue) → IsSomeAnd (cond g (Some e) old) HasSpace → (IsSomeAnd old HasSpace → IsSomeAnd new HasSpace) → IsSomeAnd (cond g (Some e) new) HasSpace
-  still true e old new space later = space
-  still false e old new space later = later space
-
-  -- one queue takes another's place
-  replaced : (g : Bool) (e w : Queue) (old : Option Queue) → (HasSpace e → HasSpace w) → IsSomeAnd (cond g (Some e) old) HasSpace → IsSomeAnd (cond g (Some w) old) HasSpace
-  replaced true e w old keeps space = keeps space
-  replaced false e w old keeps space = space
-
   HasSpace-set_value : (t : Whom → Bool) (queues : Queues) (q w : Queue) → lookup t queues ≡ Some q → (HasSpace q → HasSpace w) → IsSomeAnd (lookup u queues) HasSpace → IsSomeAnd (lookup u (set_value t queues w)) HasSpace
   HasSpace-set_value t [] q w found keeps space = space
-  HasSpace-set_value t (e ∷ es) q w found keeps space = tested (t e.0) found (λ f. HasSpace-set_value t es q w f keeps)
-    where
-      tested : (d : Bool) → cond d (Some e.1) (lookup t es) ≡ Some q → (lookup t es ≡ Some q → IsSomeAnd (lookup u es) HasSpace → IsSomeAnd (lookup u (set_value t es w)) HasSpace) → IsSomeAnd (lookup u (cond d ((e.0, w) ∷ es) (e ∷ set_value t es w))) HasSpace
-      tested true f later = replaced (u e.0) e.1 w (lookup u es) (λ s. keeps (subst HasSpace (same_Some e.1 q f) s)) space
-      tested false f later = still (u e.0) e.1 (lookup u es) (lookup u (set_value t es w)) space (later f)
+  HasSpace-set_value t (e ∷ es) q w found keeps space = grind (arith, found, keeps, space, HasSpace-set_value t es q w)
 
   HasSpace-add : (whom : Whom) (w : Queue) (queues : Queues) → IsSomeAnd (lookup u queues) HasSpace → IsSomeAnd (lookup u (queues ++ (whom, w) ∷ [])) HasSpace
   HasSpace-add whom w [] space = absurd space
-  HasSpace-add whom w (e ∷ es) space = still (u e.0) e.1 (lookup u es) (lookup u (es ++ (whom, w) ∷ [])) space (HasSpace-add whom w es)
+  HasSpace-add whom w (e ∷ es) space = grind (arith, space, HasSpace-add whom w es)
 
 -- a changed queue is found where it stood
 lookup-set : (t : Whom → Bool) (queues : Queues) (q w : Queue) → lookup t queues ≡ Some q → lookup t (set_value t queues w) ≡ Some w
 lookup-set t [] q w found = absurd (none-some q found)
-lookup-set t (e ∷ es) q w found = tested (t e.0) refl found (lookup-set t es q w)
-  where
-    tested : (d : Bool) → t e.0 ≡ d → cond d (Some e.1) (lookup t es) ≡ Some q → (lookup t es ≡ Some q → lookup t (set_value t es w) ≡ Some w) → lookup t (cond d ((e.0, w) ∷ es) (e ∷ set_value t es w)) ≡ Some w
-    tested true here f later = ap (λ d. cond d (Some w) (lookup t es)) here
-    tested false other f later = ap (λ d. cond d (Some e.1) (lookup t (set_value t es w))) other ∙ later f
+lookup-set t (e ∷ es) q w found = grind (arith, found, lookup-set t es q w)
 
 pub lookup-set_here : (whom : Whom) (queues : Queues) (q w : Queue) → lookup (is_whom whom) queues ≡ Some q → lookup (is_whom whom) (set_value (is_whom whom) queues w) ≡ Some w
 lookup-set_here whom queues q w found = lookup-set (is_whom whom) queues q w found
@@ -172,11 +138,7 @@ HasRoom-kept old new keeps (Some whom) room = keeps whom room
 -- what room there is but for one stays where every other queue's does
 HasRoom-beside : (whom : Whom) (old new : Queues) → ((other : Whom) → is_same other whom ≡ false → IsSomeAnd (lookup (is_whom other) old) HasSpace → IsSomeAnd (lookup (is_whom other) new) HasSpace) → (reserved : Option Whom) → HasRoom reserved old → HasRoom (room_beside whom reserved) new
 HasRoom-beside whom old new keeps None room = tt
-HasRoom-beside whom old new keeps (Some other) room = tested (is_same other whom) refl
-  where
-    tested : (d : Bool) → is_same other whom ≡ d → HasRoom (cond d None (Some other)) new
-    tested true same = tt
-    tested false apart = keeps other apart room
+HasRoom-beside whom old new keeps (Some other) room = cond_both (is_same other whom) None (Some other) (λ r. HasRoom r new) (λ _. tt) (λ apart. keeps other apart room)
 
 -- ---- what the calls do
 
@@ -299,13 +261,6 @@ module _ (whom : Whom) (old new : Queues) where
         };
         room = HasRoom-kept old new (λ other room. subst (λ (es : Queues). IsSomeAnd (lookup (is_whom other) es) HasSpace) (sym is) (HasSpace-add (is_whom other) whom w old room));
       }
-
-  pub makes_room_same : new ≡ old → MakesRoom old new
-  makes_room_same is = record {
-    units = ap entries_in is;
-    sound = λ next sound. subst (AreSound next) (sym is) sound;
-    room = λ reserved room. subst (HasRoom reserved) (sym is) room;
-  }
 
 -- ---- what the list keeps
 
