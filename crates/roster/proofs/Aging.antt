@@ -1,16 +1,39 @@
 -- Units one after the other, and those that are too old.
-use Rattle.std.proofs.Common.{◌≡◌, ℕ, ◌≤◌, Bool, true, false, not, ◌&&◌, cond, List, [], ◌∷◌, ◌++◌, refl, ap, arith}
+use Rattle.std.proofs.Common.{◌≡◌, ℕ, ◌≤◌, Bool, true, false, not, ◌&&◌, List, [], ◌∷◌, ◌++◌, refl, ap, arith}
 use Rattle.std.specs.Prelude.{filter, map}
 use Rattle.std.specs.List.{AllByRecursion}
-use Rattle.powersave.specs.Keep.{Entry, is_for, is_same, units_for, without_first, CameInOrder}
+use Rattle.std.proofs.lemmas.Bool.{cond_both}
+use Rattle.powersave.specs.Keep.{Entry, is_for, units_for, without_first, CameInOrder}
 use Rattle.powersave.specs.declared.unit.Whom.{Whom}
-use Rattle.powersave.specs.declared.unit.Whom.TheVariants.{One, Group}
+use Rattle.powersave.specs.declared.unit.Whom.TheVariants.{Group}
 use Rattle.powersave.specs.declared.unit.Unit.{Unit as DataUnit}
-use Rattle.roster.specs.KeptUnits.{CameBy, is_too_old_for, is_too_old}
+use Rattle.roster.specs.KeptUnits.{CameBy, is_too_old}
 use Rattle.roster.specs.Roster.{is_aged}
 use Rattle.stations.specs.Stations.{Table, changed}
 use Rattle.stations.specs.declared.table.Change.{Change}
 use Rattle.stations.specs.declared.table.Change.TheVariants as changes
+
+-- ---- what holds of each unit
+
+pub each : {P Q : Entry → Type 0} (es : List Entry) → ((e : Entry) → P e → Q e) → AllByRecursion P es → AllByRecursion Q es
+each [] f h = tt
+each (e ∷ es) f h = (f e h.0, each es f h.1)
+
+pub each-two : {P Q R : Entry → Type 0} (es : List Entry) → ((e : Entry) → P e → Q e → R e) → AllByRecursion P es → AllByRecursion Q es → AllByRecursion R es
+each-two [] f h k = tt
+each-two (e ∷ es) f h k = (f e h.0 k.0, each-two es f h.1 k.1)
+
+pub each-filtered : (P : Entry → Type 0) (p : Entry → Bool) (es : List Entry) → AllByRecursion P es → AllByRecursion P (filter p es)
+each-filtered P p [] h = tt
+each-filtered P p (e ∷ es) h = let rest = each-filtered P p es h.1 in cond_both (p e) _ _ (AllByRecursion P) (λ _. (h.0, rest)) (λ _. rest)
+
+pub each-without_first : (P : Entry → Type 0) (p : Entry → Bool) (es : List Entry) → AllByRecursion P es → AllByRecursion P (without_first p es)
+each-without_first P p [] h = tt
+each-without_first P p (e ∷ es) h = cond_both (p e) _ _ (AllByRecursion P) (λ _. h.1) (λ _. (h.0, each-without_first P p es h.1))
+
+pub each-push : (P : Entry → Type 0) (f : Entry) (es : List Entry) → AllByRecursion P es → P f → AllByRecursion P (es ++ f ∷ [])
+each-push P f [] h k = (k, tt)
+each-push P f (e ∷ es) h k = (h.0, each-push P f es h.1 k)
 
 -- ---- units that came one after the other
 
@@ -18,45 +41,17 @@ use Rattle.stations.specs.declared.table.Change.TheVariants as changes
 abbrev pub AllFrom : ℕ → List Entry → Type 0
 AllFrom clock es = AllByRecursion (λ later. clock ≤ later.1.at) es
 
-from-filtered : (p : Entry → Bool) (clock : ℕ) (es : List Entry) → AllFrom clock es → AllFrom clock (filter p es)
-from-filtered p clock [] h = tt
-from-filtered p clock (e ∷ es) h = by (p e) (from-filtered p clock es h.1)
-  where
-    by : (b : Bool) → AllFrom clock (filter p es) → AllFrom clock (cond b (e ∷ filter p es) (filter p es))
-    by true later = (h.0, later)
-    by false later = later
-
 pub came-filtered : (p : Entry → Bool) (clock : ℕ) (es : List Entry) → CameBy clock es → CameBy clock (filter p es)
 came-filtered p clock [] h = tt
-came-filtered p clock (e ∷ es) h = by (p e) (came-filtered p clock es h.2)
-  where
-    by : (b : Bool) → CameBy clock (filter p es) → CameBy clock (cond b (e ∷ filter p es) (filter p es))
-    by true later = (h.0, from-filtered p e.1.at es h.1, later)
-    by false later = later
-
-from-without_first : (p : Entry → Bool) (clock : ℕ) (es : List Entry) → AllFrom clock es → AllFrom clock (without_first p es)
-from-without_first p clock [] h = tt
-from-without_first p clock (e ∷ es) h = by (p e) (from-without_first p clock es h.1)
-  where
-    by : (b : Bool) → AllFrom clock (without_first p es) → AllFrom clock (cond b es (e ∷ without_first p es))
-    by true later = h.1
-    by false later = (h.0, later)
+came-filtered p clock (e ∷ es) h = let rest = came-filtered p clock es h.2 in cond_both (p e) _ _ (CameBy clock) (λ _. (h.0, each-filtered (λ later. e.1.at ≤ later.1.at) p es h.1, rest)) (λ _. rest)
 
 pub came-without_first : (p : Entry → Bool) (clock : ℕ) (es : List Entry) → CameBy clock es → CameBy clock (without_first p es)
 came-without_first p clock [] h = tt
-came-without_first p clock (e ∷ es) h = by (p e) (came-without_first p clock es h.2)
-  where
-    by : (b : Bool) → CameBy clock (without_first p es) → CameBy clock (cond b es (e ∷ without_first p es))
-    by true later = h.2
-    by false later = (h.0, from-without_first p e.1.at es h.1, later)
-
-from-push : (whom : Whom) (u : DataUnit) (clock : ℕ) (es : List Entry) → clock ≤ u.at → AllFrom clock es → AllFrom clock (es ++ (whom, u) ∷ [])
-from-push whom u clock [] le h = (le, tt)
-from-push whom u clock (e ∷ es) le h = (h.0, from-push whom u clock es le h.1)
+came-without_first p clock (e ∷ es) h = cond_both (p e) _ _ (CameBy clock) (λ _. h.2) (λ _. (h.0, each-without_first (λ later. e.1.at ≤ later.1.at) p es h.1, came-without_first p clock es h.2))
 
 pub came-push : (whom : Whom) (u : DataUnit) (clock : ℕ) (es : List Entry) → u.at ≡ clock → CameBy clock es → CameBy clock (es ++ (whom, u) ∷ [])
 came-push whom u clock [] at h = (omega (arith, at), tt, tt)
-came-push whom u clock (e ∷ es) at h = let here = h.0 in (here, from-push whom u e.1.at es (omega (arith, at, here)) h.1, came-push whom u clock es at h.2)
+came-push whom u clock (e ∷ es) at h = let here = h.0 in (here, each-push (λ later. e.1.at ≤ later.1.at) (whom, u) es h.1 (omega (arith, at, here)), came-push whom u clock es at h.2)
 
 pub came-later : (clock later : ℕ) (es : List Entry) → clock ≤ later → CameBy clock es → CameBy later es
 came-later clock later [] le h = tt
@@ -64,19 +59,15 @@ came-later clock later (e ∷ es) le h = let here = h.0 in (omega (arith, le, he
 
 pub in-order : (whom : Whom) (clock : ℕ) (es : List Entry) → CameBy clock es → CameInOrder (units_for whom es)
 in-order whom clock [] h = tt
-in-order whom clock (e ∷ es) h = by (is_for whom e) (in-order whom clock es h.2)
+in-order whom clock (e ∷ es) h =
+    let rest = in-order whom clock es h.2 in
+    cond_both (is_for whom e) _ _ (λ fs. CameInOrder (map (λ (entry : Entry). entry.1) fs)) (λ _. (later-units e.1.at es h.1, rest)) (λ _. rest)
   where
     later-units : (at : ℕ) (fs : List Entry) → AllFrom at fs → AllByRecursion (λ later. at ≤ later.at) (units_for whom fs)
     later-units at [] from = tt
-    later-units at (f ∷ fs) from = chosen (is_for whom f) (later-units at fs from.1)
-      where
-        chosen : (b : Bool) → AllByRecursion (λ later. at ≤ later.at) (units_for whom fs) → AllByRecursion (λ later. at ≤ later.at) (map (λ (entry : Entry). entry.1) (cond b (f ∷ filter (is_for whom) fs) (filter (is_for whom) fs)))
-        chosen true rest = (from.0, rest)
-        chosen false rest = rest
-
-    by : (b : Bool) → CameInOrder (units_for whom es) → CameInOrder (map (λ (entry : Entry). entry.1) (cond b (e ∷ filter (is_for whom) es) (filter (is_for whom) es)))
-    by true rest = (later-units e.1.at es h.1, rest)
-    by false rest = rest
+    later-units at (f ∷ fs) from =
+        let rest = later-units at fs from.1 in
+        cond_both (is_for whom f) _ _ (λ gs. AllByRecursion (λ later. at ≤ later.at) (map (λ (entry : Entry). entry.1) gs)) (λ _. (from.0, rest)) (λ _. rest)
 
 -- ---- those that leave
 
@@ -87,11 +78,7 @@ none-leaves p (e ∷ es) none = let rest = none-leaves p es none in (rw (none e)
 
 -- a unit for the group doesn't age
 pub group-young : (clock : ℕ) (t : Table) (e : Entry) → is_for Group e ≡ true → is_too_old clock t e ≡ false
-group-young clock t e h = by e.0 h
-  where
-    by : (w : Whom) → is_same w Group ≡ true → is_too_old_for clock t w e.1.at ≡ false
-    by (One addr) same = absurd (cc)
-    by Group same = refl
+group-young clock t e h = grind (arith, h)
 
 -- where one begins, no station changes
 pub same-aged : (ages : Bool) (clock : ℕ) (change : Change) (t : Table) → (ages ≡ true → change ≡ changes.Nothing) → is_aged ages clock (changed change t) ≡ is_aged ages clock t

@@ -1,40 +1,40 @@
 -- The clocks of those that units are kept for: where one is set, where units come and leave, where a station changes.
-use Rattle.std.proofs.Common.{◌≡◌, ◌≢◌, ◌∙◌, ℕ, zero, suc, ◌+◌, ◌<◌, ◌≤◌, Bool, true, false, ◌&&◌, ◌||◌, cond, nat_eq, List, [], ◌∷◌, ◌++◌, length, set, slice_get, filter, Option, Some, None, option_map, IfSome, is_some, refl, sym, ap, subst, arith, inl, inr}
+use Rattle.std.proofs.Common.{◌≡◌, ◌≢◌, ◌∙◌, ℕ, zero, suc, ◌+◌, ◌<◌, ◌≤◌, Bool, true, false, ◌||◌, cond, nat_eq, List, [], ◌∷◌, ◌++◌, length, set, slice_get, filter, Option, Some, None, option_map, IfSome, is_some, refl, sym, ap, subst, arith, inl, inr}
 use Rattle.std.specs.Prelude.{nat_lt}
 use Rattle.std.specs.FinSet as bits
 use Rattle.std.specs.List.{AllByRecursion, list_any}
 use Rattle.std.specs.Option.{IsSomeAnd}
 use Rattle.std.specs.Str.{bytes_eq}
-use Rattle.std.proofs.lemmas.Bool.{both_ways, cases_eq, eq-eqb, lt-ltb, le-leb, ltb-true}
-use Rattle.std.proofs.lemmas.Option.{slice_get_within}
+use Rattle.std.proofs.lemmas.Bool.{both_ways, cases_Bool, cases_eq, cond_both, eq-eqb, lt-ltb, le-leb, ltb-true, or_left, or_right, or_parts}
+use Rattle.std.proofs.lemmas.List.{get_or-set_same, length-set}
+use Rattle.std.proofs.lemmas.Option.{slice_get-get_or, slice_get_within}
 use Rattle.std.proofs.lemmas.Slice.Eq.{bytes_eq-Decides}
 use borrow.Author.Tests.{eqb-true}
 use Rattle.aid_pool.specs.LeastFree.{is_among}
 use Rattle.tim.specs.Tim.{IsAid, is_shown}
-use Rattle.powersave.specs.Keep.{Entry, is_for, is_same, units_for, without_first, oldest_at, first_clock, AreOldest, AreToldOnce}
+use Rattle.powersave.specs.Keep.{Entry, is_for, is_same, units_for, oldest_at, first_clock, AreOldest, AreToldOnce}
 use Rattle.powersave.specs.declared.unit.Oldest.{Oldest}
 use Rattle.powersave.specs.declared.unit.Whom.{Whom}
 use Rattle.powersave.specs.declared.unit.Whom.TheVariants.{One, Group}
 use Rattle.roster.specs.AgingClocks.{IsClockOf, HasClock, HaveClocks, IsEntered, IsNoted, IsListed, StayAt, listing, is_due, due_with, due_at}
 use Rattle.roster.specs.declared.aging_clocks.AgingClock.{AgingClock}
-use Rattle.roster.specs.Roster.{AreWaitedFor, AreAmong, is_number, renumbered}
+use Rattle.roster.specs.Roster.{AreWaitedFor, AreAmong, renumbered}
 use Rattle.stations.specs.Changes.{OthersStay, ModesAlone, IdentifiersDiffer}
 use Rattle.stations.specs.Sound.{AreSound}
 use Rattle.roster.specs.KeptUnits.{CameBy, has_unit, is_waited_for, is_too_old_for}
-use Rattle.stations.specs.Stations.{Table, state_of, aid_of, aid_with, listen_with, identifiers, AreIdentifiers, disassociate, set_mode, with_mode, changed}
+use Rattle.stations.specs.Stations.{Table, state_of, aid_of, aid_with, listen_with, identifiers, AreIdentifiers, set_mode, with_mode, changed}
 use Rattle.stations.specs.declared.table.Change.{Change}
 use Rattle.stations.specs.declared.table.Change.TheVariants as changes
 use Rattle.station_state.specs.declared.state.StationState.{StationState}
 use Rattle.station_state.specs.declared.state.StationState.TheVariants.{Authenticated, Associated}
+use Rattle.roster.proofs.Aging.{each, each-two}
 use Rattle.roster.proofs.RosterAging.{FirstOf, firsts, same_whom}
 use Rattle.roster.proofs.WaitedFor.{Numbers, waited-parted, rest-none}
 
 -- ---- one of a list is set
 
 pub get-set : {X : Type 0} (xs : List X) (i : ℕ) (x : X) → i < length xs → slice_get (set xs i x) i ≡ Some x
-get-set [] i x within = absurd (omega (arith, within))
-get-set (y ∷ xs) zero x within = refl
-get-set (y ∷ xs) (suc i) x within = get-set xs i x (omega (arith, within))
+get-set xs i x within = cc (slice_get-get_or (set xs i x) i x (omega (arith, within, length-set xs i x)), get_or-set_same xs i x x within)
 
 pub get-set_other : {X : Type 0} (xs : List X) (i j : ℕ) (x : X) → j ≢ i → slice_get (set xs i x) j ≡ slice_get xs j
 get-set_other [] i j x other = refl
@@ -43,44 +43,10 @@ get-set_other (y ∷ xs) zero (suc j) x other = refl
 get-set_other (y ∷ xs) (suc i) zero x other = refl
 get-set_other (y ∷ xs) (suc i) (suc j) x other = get-set_other xs i j x (λ same. other (ap suc same))
 
--- ---- what holds of each unit
-
-pub each : {P Q : Entry → Type 0} (es : List Entry) → ((e : Entry) → P e → Q e) → AllByRecursion P es → AllByRecursion Q es
-each [] f h = tt
-each (e ∷ es) f h = (f e h.0, each es f h.1)
-
-pub each-two : {P Q R : Entry → Type 0} (es : List Entry) → ((e : Entry) → P e → Q e → R e) → AllByRecursion P es → AllByRecursion Q es → AllByRecursion R es
-each-two [] f h k = tt
-each-two (e ∷ es) f h k = (f e h.0 k.0, each-two es f h.1 k.1)
-
-pub each-filtered : (P : Entry → Type 0) (p : Entry → Bool) (es : List Entry) → AllByRecursion P es → AllByRecursion P (filter p es)
-each-filtered P p [] h = tt
-each-filtered P p (e ∷ es) h = by (p e) (each-filtered P p es h.1)
-  where
-    by : (b : Bool) → AllByRecursion P (filter p es) → AllByRecursion P (cond b (e ∷ filter p es) (filter p es))
-    by true rest = (h.0, rest)
-    by false rest = rest
-
-pub each-without_first : (P : Entry → Type 0) (p : Entry → Bool) (es : List Entry) → AllByRecursion P es → AllByRecursion P (without_first p es)
-each-without_first P p [] h = tt
-each-without_first P p (e ∷ es) h = by (p e) (each-without_first P p es h.1)
-  where
-    by : (b : Bool) → AllByRecursion P (without_first p es) → AllByRecursion P (cond b es (e ∷ without_first p es))
-    by true rest = h.1
-    by false rest = (h.0, rest)
-
-pub each-push : (P : Entry → Type 0) (f : Entry) (es : List Entry) → AllByRecursion P es → P f → AllByRecursion P (es ++ f ∷ [])
-each-push P f [] h k = (k, tt)
-each-push P f (e ∷ es) h k = (h.0, each-push P f es h.1 k)
-
 -- each stands among all
 stand : (es : List Entry) → AllByRecursion (λ e. (whom : Whom) → is_for whom e ≡ true → list_any (is_for whom) es ≡ true) es
 stand [] = tt
-stand (e ∷ es) = ((λ whom is. ap (λ b. b || list_any (is_for whom) es) is), each es (λ f later whom is. behind (is_for whom e) (later whom is)) (stand es))
-  where
-    behind : {b : Bool} (a : Bool) → b ≡ true → (a || b) ≡ true
-    behind true is = refl
-    behind false is = is
+stand (e ∷ es) = ((λ whom is. or_left (is_for whom e) _ is), each es (λ f later whom is. or_right (is_for whom e) _ (later whom is)) (stand es))
 
 pub itself : (a : List ℕ) → bytes_eq a a ≡ true
 itself a = (bytes_eq-Decides a a).1 refl
@@ -89,16 +55,7 @@ itself a = (bytes_eq-Decides a a).1 refl
 
 -- a number is waited for where units are kept for its station
 pub waited-own : IdentifiersDiffer → (addr : List ℕ) (t : Table) (es : List Entry) (n : ℕ) → AreIdentifiers (identifiers t) → aid_of addr t ≡ Some n → is_waited_for t es n ≡ has_unit addr es
-waited-own differ addr t es n sound is =
-    waited-parted addr t es n
-    ∙ ap (λ b. (has_unit addr es && is_number (aid_of addr t) n) || b) (rest-none differ addr t es n is sound)
-    ∙ ap (λ (o : Option ℕ). (has_unit addr es && is_number o n) || false) is
-    ∙ ap (λ b. (has_unit addr es && b) || false) (eq-eqb n n refl)
-    ∙ alone (has_unit addr es)
-  where
-    alone : (b : Bool) → ((b && true) || false) ≡ b
-    alone true = refl
-    alone false = refl
+waited-own differ addr t es n sound is = grind (arith, is, waited-parted addr t es n, rest-none differ addr t es n is sound, eq-eqb n n refl)
 
 -- so the bit of each that a unit is kept for is set
 pub bits-set : IdentifiersDiffer → (t : Table) (es : List Entry) (numbers : Numbers) → AreIdentifiers (identifiers t) → AreWaitedFor numbers t es
@@ -149,11 +106,10 @@ module _ (t : Table) where
   -- whoever units are kept for has one
   pub some-clock : (clocks : List AgingClock) (aids : List ℕ) (whom : Whom) (es : List Entry) → list_any (is_for whom) es ≡ true → HaveClocks clocks aids t es → (at : ℕ) × HasClock clocks aids t whom at
   some-clock clocks aids whom [] some h = absurd (cc)
-  some-clock clocks aids whom (e ∷ es) some h = by (is_for whom e) refl some (λ later. some-clock clocks aids whom es later h.1)
-    where
-      by : (b : Bool) → is_for whom e ≡ b → (b || list_any (is_for whom) es) ≡ true → (list_any (is_for whom) es ≡ true → (at : ℕ) × HasClock clocks aids t whom at) → (at : ℕ) × HasClock clocks aids t whom at
-      by true is later rest = (e.1.at, subst (λ (w : Whom). HasClock clocks aids t w e.1.at) (same_whom e.0 whom is) h.0)
-      by false is later rest = rest later
+  some-clock clocks aids whom (e ∷ es) some h = elim (cases_Bool (is_for whom e)) [
+    | inl is ↦ (e.1.at, subst (λ (w : Whom). HasClock clocks aids t w e.1.at) (same_whom e.0 whom is) h.0)
+    | inr other ↦ some-clock clocks aids whom es (rw other at some) h.1
+  ]
 
 -- ---- a unit comes
 
@@ -209,13 +165,7 @@ entered differ most t es numbers clocks new old_aids aids addr at n c sound is t
 
 filtered-among : (p : ℕ → Bool) (ns : List ℕ) (n : ℕ) → p n ≡ true → is_among ns n ≡ true → is_among (filter p ns) n ≡ true
 filtered-among p [] n is among = among
-filtered-among p (m ∷ ns) n is among = by (nat_eq m n) refl (p m) refl among (filtered-among p ns n is)
-  where
-    by : (b : Bool) → nat_eq m n ≡ b → (d : Bool) → p m ≡ d → (b || is_among ns n) ≡ true → (is_among ns n ≡ true → is_among (filter p ns) n ≡ true) → is_among (cond d (m ∷ filter p ns) (filter p ns)) n ≡ true
-    by true same true stays later rest = rw same refl
-    by true same false leaves later rest = let is_m : m ≡ n = eqb-true m n same in absurd (both_ways (p m) leaves (ap p is_m ∙ is))
-    by false other true stays later rest = rw other (rest later)
-    by false other false leaves later rest = rest later
+filtered-among p (m ∷ ns) n is among = grind (arith, is, among, filtered-among p ns n is, eqb-true m n)
 
 pub gone-dropped : IdentifiersDiffer → (most : ℕ) (t : Table) (es : List Entry) (numbers : Numbers) (clocks : List AgingClock) (aids : List ℕ) → AreSound most t → AreWaitedFor numbers t es → HaveClocks clocks aids t es → HaveClocks clocks (filter (is_shown (bits.contains numbers)) aids) t es
 gone-dropped differ most t es numbers clocks aids sound told h = each-two es by (bits-set differ t es numbers sound.aids told) h
@@ -350,7 +300,7 @@ station-listed differ t one clocks new old_aids aids addr n listen place doze is
 -- ---- those of whom a unit may be too old
 
 late : (a b l m clock : ℕ) → a ≤ b → l ≤ m → nat_lt (b + m) clock ≡ true → nat_lt (a + l) clock ≡ true
-late a b l m clock earlier shorter is = let lt = ltb-true (b + m) clock is in lt-ltb (a + l) clock (omega (arith, lt, earlier, shorter))
+late a b l m clock earlier shorter is = lt-ltb (a + l) clock (omega (arith, ltb-true (b + m) clock is, earlier, shorter))
 
 in-due : (clock k : ℕ) (clocks : List AgingClock) (aids : List ℕ) (addr : List ℕ) (n : ℕ) (c : AgingClock) → is_among aids n ≡ true → slice_get clocks n ≡ Some c → c.addr ≡ addr → is_due clock c ≡ true → IsSomeAnd (oldest_at (One addr) (due_at clock clocks aids)) (λ at. at ≤ k)
 in-due clock k clocks [] addr n c among is own due = absurd (cc)
@@ -406,21 +356,15 @@ state-other : OthersStay → (change : Change) (addr b : List ℕ) (t : Table) �
 state-other others changes.Nothing addr b t is other = absurd (cc)
 state-other others (changes.Authenticate a) addr b t is other = let same : a ≡ addr = cc in rw same (others.set addr b Authenticated t other)
 state-other others (changes.Associate a listen) addr b t is other = let same : a ≡ addr = cc in rw same (others.set addr b _ t other)
-state-other others (changes.Disassociate a) addr b t is other = let same : a ≡ addr = cc in rw same (by (is_some (aid_of addr t)) refl)
-  where
-    by : (r : Bool) → is_some (aid_of addr t) ≡ r → state_of b (disassociate addr t) ≡ state_of b t
-    by true associated = rw associated (others.set addr b Authenticated t other)
-    by false not_associated = rw not_associated refl
+state-other others (changes.Disassociate a) addr b t is other =
+    let same : a ≡ addr = cc in
+    rw same (cond_both (is_some (aid_of addr t)) _ _ (λ u. state_of b u ≡ state_of b t) (λ _. others.set addr b Authenticated t other) (λ _. refl))
 state-other others (changes.Forget a) addr b t is other = let same : a ≡ addr = cc in rw same (others.forgotten addr b t other)
 state-other others (changes.SetMode a doze) addr b t is other = absurd (cc)
 
 none-for : (whom : Whom) (es : List Entry) → list_any (is_for whom) es ≡ false → AllByRecursion (λ e. is_for whom e ≡ false) es
 none-for whom [] none = tt
-none-for whom (e ∷ es) none = by (is_for whom e) refl none (none-for whom es)
-  where
-    by : (b : Bool) → is_for whom e ≡ b → (b || list_any (is_for whom) es) ≡ false → (list_any (is_for whom) es ≡ false → AllByRecursion (λ f. is_for whom f ≡ false) es) → (is_for whom e ≡ false) × AllByRecursion (λ f. is_for whom f ≡ false) es
-    by true is later rest = absurd (both_ways true later refl)
-    by false is later rest = (is, rest later)
+none-for whom (e ∷ es) none = let parts = or_parts (is_for whom e) (list_any (is_for whom) es) none in (parts.0, none-for whom es parts.1)
 
 pub clocks-unkept : OthersStay → (clocks : List AgingClock) (aids : List ℕ) (change : Change) (addr : List ℕ) (t : Table) (es : List Entry) → renumbered change ≡ Some addr → has_unit addr es ≡ false → HaveClocks clocks aids t es → HaveClocks clocks aids (changed change t) es
 clocks-unkept others clocks aids change addr t es is none h = each-two es (λ e other had. by e.0 e.1.at other had) (none-for (One addr) es none) h

@@ -1,9 +1,10 @@
 -- The units that are kept, and whoever they are kept for.
-use Rattle.std.proofs.Common.{◌≡◌, ℕ, suc, ◌+◌, ◌≤◌, Bool, true, false, cond, List, [], ◌∷◌, ◌++◌, length, refl, sym, ap, ◌∙◌, arith}
-use Rattle.std.specs.Prelude.{filter, map, nat_lt}
+use Rattle.std.proofs.Common.{◌≡◌, ℕ, not, ◌+◌, ◌≤◌, Bool, true, false, List, [], ◌∷◌, ◌++◌, length, refl, ap, ◌∙◌, arith}
+use Rattle.std.specs.Prelude.{filter, nat_lt}
 use Rattle.std.specs.List.{list_any}
 use Rattle.std.specs.Str.{bytes_eq}
-use Rattle.std.proofs.lemmas.Bool.{both_ways, lt-ltb}
+use Rattle.std.proofs.lemmas.Bool.{cond_both, not-true}
+use Rattle.std.proofs.lemmas.Bool.Decides.{nat_tests}
 use Rattle.powersave.specs.Keep.{Entry, is_same, is_for, units_for, without_all, without_first, without_oldest}
 use Rattle.powersave.specs.declared.unit.Whom.{Whom}
 use Rattle.powersave.specs.declared.unit.Whom.TheVariants.{One, Group}
@@ -40,31 +41,21 @@ kept-where t u stays (e ∷ es) h = (one e.0 h.0, kept-where t u stays es h.1)
 -- where one station changes, and the units for it leave
 pub kept-elsewhere : (a : List ℕ) (t u : Table) → ((b : List ℕ) → bytes_eq b a ≡ false → state_of b u ≡ state_of b t) → (es : List Entry) → AreKeptFor t es → AreKeptFor u (without_all (One a) es)
 kept-elsewhere a t u same [] h = tt
-kept-elsewhere a t u same (e ∷ es) h = by (is_for (One a) e) refl (kept-elsewhere a t u same es h.1)
+kept-elsewhere a t u same (e ∷ es) h =
+    let rest = kept-elsewhere a t u same es h.1 in
+    cond_both (not (is_for (One a) e)) _ _ (AreKeptFor u) (λ other. (one e.0 (not-true _ other) h.0, rest)) (λ _. rest)
   where
     one : (w : Whom) → is_same w (One a) ≡ false → IsKeptFor t w → IsKeptFor u w
     one (One b) other k = ap dozes_with (same b other) ∙ k
     one Group other k = tt
 
-    by : (r : Bool) → is_for (One a) e ≡ r → AreKeptFor u (without_all (One a) es) → AreKeptFor u (without_all (One a) (e ∷ es))
-    by true is later = rw is later
-    by false is later = rw is (one e.0 is h.0, later)
-
 pub kept-filtered : (t : Table) (p : Entry → Bool) (es : List Entry) → AreKeptFor t es → AreKeptFor t (filter p es)
 kept-filtered t p [] h = tt
-kept-filtered t p (e ∷ es) h = by (p e) refl (kept-filtered t p es h.1)
-  where
-    by : (r : Bool) → p e ≡ r → AreKeptFor t (filter p es) → AreKeptFor t (filter p (e ∷ es))
-    by true is later = rw is (h.0, later)
-    by false is later = rw is later
+kept-filtered t p (e ∷ es) h = let rest = kept-filtered t p es h.1 in cond_both (p e) _ _ (AreKeptFor t) (λ _. (h.0, rest)) (λ _. rest)
 
 pub kept-without_first : (t : Table) (p : Entry → Bool) (es : List Entry) → AreKeptFor t es → AreKeptFor t (without_first p es)
 kept-without_first t p [] h = tt
-kept-without_first t p (e ∷ es) h = by (p e) refl (kept-without_first t p es h.1)
-  where
-    by : (r : Bool) → p e ≡ r → AreKeptFor t (without_first p es) → AreKeptFor t (without_first p (e ∷ es))
-    by true is later = rw is h.1
-    by false is later = rw is (h.0, later)
+kept-without_first t p (e ∷ es) h = cond_both (p e) _ _ (AreKeptFor t) (λ _. h.1) (λ _. (h.0, kept-without_first t p es h.1))
 
 pub kept-push : (t : Table) (w : Whom) (u : DataUnit) (es : List Entry) → AreKeptFor t es → IsKeptFor t w → AreKeptFor t (es ++ (w, u) ∷ [])
 kept-push t w u [] h k = (k, tt)
@@ -72,63 +63,32 @@ kept-push t w u (e ∷ es) h k = (h.0, kept-push t w u es h.1 k)
 
 -- ---- how many there are
 
-pub length-filtered : (p : Entry → Bool) (es : List Entry) → length (filter p es) ≤ length es
-length-filtered p [] = omega arith
-length-filtered p (e ∷ es) = by (p e) refl (length-filtered p es)
-  where
-    by : (r : Bool) → p e ≡ r → length (filter p es) ≤ length es → length (filter p (e ∷ es)) ≤ length (e ∷ es)
-    by true is later = rw is (omega (arith, later))
-    by false is later = rw is (omega (arith, later))
-
 pub length-without_first : (p : Entry → Bool) (es : List Entry) → length (without_first p es) ≤ length es
 length-without_first p [] = omega arith
-length-without_first p (e ∷ es) = by (p e) refl (length-without_first p es)
-  where
-    by : (r : Bool) → p e ≡ r → length (without_first p es) ≤ length es → length (without_first p (e ∷ es)) ≤ length (e ∷ es)
-    by true is later = rw is (omega arith)
-    by false is later = rw is (omega (arith, later))
+length-without_first p (e ∷ es) = grind (arith, length-without_first p es)
 
 -- those for one and the others are all
 pub length-parted : (w : Whom) (es : List Entry) → length (units_for w es) + length (without_all w es) ≡ length es
 length-parted w [] = refl
-length-parted w (e ∷ es) = by (is_for w e) refl (length-parted w es)
-  where
-    by : (r : Bool) → is_for w e ≡ r → length (units_for w es) + length (without_all w es) ≡ length es → length (units_for w (e ∷ es)) + length (without_all w (e ∷ es)) ≡ length (e ∷ es)
-    by true is later = rw is (omega (arith, later))
-    by false is later = rw is (omega (arith, later))
+length-parted w (e ∷ es) = grind (arith, length-parted w es)
 
 -- none leaves where there is none
 pub oldest-none : (w : Whom) (es : List Entry) → units_for w es ≡ [] → without_oldest w es ≡ es
 oldest-none w [] none = refl
-oldest-none w (e ∷ es) none = by (is_for w e) none (oldest-none w es)
-  where
-    by : (r : Bool) → map (λ (entry : Entry). entry.1) (cond r (e ∷ filter (is_for w) es) (filter (is_for w) es)) ≡ [] → (units_for w es ≡ [] → without_oldest w es ≡ es) → cond r es (e ∷ without_oldest w es) ≡ e ∷ es
-    by true some later = absurd (cc)
-    by false rest later = ap (λ fs. e ∷ fs) (later rest)
+oldest-none w (e ∷ es) none = grind (arith, none, oldest-none w es)
 
 -- ---- those for the group
-
-positive : (n : ℕ) → nat_lt 0 (suc n) ≡ true
-positive n = lt-ltb 0 (suc n) (omega arith)
 
 -- where some are for one, one stands among them
 pub some-for : (w : Whom) (es : List Entry) → list_any (is_for w) es ≡ nat_lt 0 (length (units_for w es))
 some-for w [] = refl
-some-for w (e ∷ es) = by (is_for w e) refl (some-for w es)
-  where
-    by : (r : Bool) → is_for w e ≡ r → list_any (is_for w) es ≡ nat_lt 0 (length (units_for w es)) → list_any (is_for w) (e ∷ es) ≡ nat_lt 0 (length (units_for w (e ∷ es)))
-    by true is later = rw is (sym (positive _))
-    by false is later = rw is later
+some-for w (e ∷ es) = grind (arith, nat_tests, some-for w es)
 
 -- the units of a station that leave are none of the group's
 pub group-stays : (a : List ℕ) (es : List Entry) → group_is_kept (without_all (One a) es) ≡ group_is_kept es
 group-stays a [] = refl
-group-stays a (e ∷ es) = by (is_for (One a) e) refl (group-stays a es)
+group-stays a (e ∷ es) = grind (arith, group-stays a es, none e.0)
   where
     none : (w : Whom) → is_same w (One a) ≡ true → is_same w Group ≡ false
     none (One b) h = refl
-    none Group h = absurd (both_ways false refl h)
-
-    by : (r : Bool) → is_for (One a) e ≡ r → group_is_kept (without_all (One a) es) ≡ group_is_kept es → group_is_kept (without_all (One a) (e ∷ es)) ≡ group_is_kept (e ∷ es)
-    by true is later = let other = none e.0 is in rw (is, other) later
-    by false is later = rw (is, later) refl
+    none Group h = absurd (cc)

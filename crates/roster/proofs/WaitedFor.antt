@@ -1,11 +1,13 @@
 -- Who has units waiting: one station, and the others.
-use Rattle.std.proofs.Common.{◌≡◌, ◌≢◌, ℕ, Bool, true, false, not, ◌||◌, ◌&&◌, List, [], ◌∷◌, ◌++◌, length, Option, Some, None, IfSome, is_some, cond, refl, sym, ap, ◌∙◌, inl, inr}
+use Rattle.std.proofs.Common.{◌≡◌, ◌≢◌, ℕ, Bool, true, false, not, ◌||◌, ◌&&◌, List, [], ◌∷◌, ◌++◌, length, Option, Some, None, IfSome, is_some, refl, sym, ap, ◌∙◌, inl, inr, arith}
 use Rattle.std.specs.Prelude.{◌==◌, nat_lt, nat_eq}
 use Rattle.std.specs.FinSet as set
 use Rattle.std.specs.FinSet.{FinSet}
 use Rattle.std.specs.Ordering.{nat_cmp}
 use Rattle.std.specs.Str.{bytes_eq}
-use Rattle.std.proofs.lemmas.Bool.{both_ways, cases_eq, ne_eqb}
+use Rattle.std.proofs.lemmas.Bool.{both_ways, cases_Bool, cond_both, or_parts}
+use Rattle.std.proofs.lemmas.Cmp.{nat_eq_equiv}
+use Rattle.std.proofs.lemmas.Option.{none-some}
 use Rattle.std.proofs.lemmas.Slice.Eq.{bytes_eq-Decides}
 use borrow.Author.Tests.{eqb-true}
 use Rattle.aid_pool.specs.LeastFree.{is_among}
@@ -17,7 +19,7 @@ use Rattle.roster.specs.Keeping.{aid_for}
 use Rattle.roster.specs.Roster.{AreWaitedFor, StayBeside, is_number, renumbered}
 use Rattle.stations.specs.Changes.{OthersStay, IdentifiersDiffer}
 use Rattle.stations.specs.Sound.{AreApart}
-use Rattle.stations.specs.Stations.{Table, state_of, aid_of, aid_with, identifiers, identifier_of, AreIdentifiers, forget, disassociate, set_mode, with_mode, changed}
+use Rattle.stations.specs.Stations.{Table, state_of, aid_of, aid_with, identifiers, identifier_of, AreIdentifiers, forget, set_mode, with_mode, changed}
 use Rattle.roster.specs.KeptUnits.{has_aid, has_unit, is_waited_for}
 use Rattle.stations.specs.declared.table.Change.{Change}
 use Rattle.stations.specs.declared.table.Change.TheVariants as changes
@@ -28,38 +30,6 @@ use Rattle.roster.proofs.UnitsKept.{some-for}
 
 abbrev pub Numbers : Type 0
 Numbers = FinSet nat_cmp
-
--- ---- truth values
-
-neither : (a b : Bool) → (a || b) ≡ false → (a ≡ false) × (b ≡ false)
-neither true b h = absurd (both_ways true h refl)
-neither false b h = (refl, h)
-
-eqb-flip : (a b : ℕ) → nat_eq a b ≡ nat_eq b a
-eqb-flip a b = elim (cases_eq a b) [ inl same ↦ rw same refl | inr other ↦ ne_eqb a b other ∙ sym (ne_eqb b a (λ e. other (sym e))) ]
-
-not-here : (b : Bool) (state : StationState) (rest : Option StationState) → cond b (Some state) rest ≡ None → (b ≡ false) × (rest ≡ None)
-not-here true state rest h = absurd (cc)
-not-here false state rest h = (refl, h)
-
-no-bit : (w : Bool) → false ≡ ((w && false) || false)
-no-bit true = refl
-no-bit false = refl
-
-swapped-and : (a b : Bool) → (a && b) ≡ (b && a)
-swapped-and true true = refl
-swapped-and true false = refl
-swapped-and false true = refl
-swapped-and false false = refl
-
-swapped-or : (a b c : Bool) → (a || (b || c)) ≡ (b || (a || c))
-swapped-or true true c = refl
-swapped-or true false c = refl
-swapped-or false b c = refl
-
-without-bit : (w b : Bool) → ((w && false) || b) ≡ b
-without-bit true b = refl
-without-bit false b = refl
 
 -- ---- one station and the others
 
@@ -72,22 +42,15 @@ number-is None n h = absurd (both_ways false refl h)
 number-is (Some aid) n h = ap (λ (m : ℕ). Some m) (sym (eqb-true n aid h))
 
 parted-here : (addr : List ℕ) (e : List ℕ × StationState) (kept : List Entry) (n : ℕ) (rest : Bool) → addr ≡ e.0 → ((has_aid n e.1 && has_unit e.0 kept) || rest) ≡ ((has_unit addr kept && is_number (aid_with (Some e.1)) n) || rest)
-parted-here addr e kept n rest is =
-    ap (λ (k : List ℕ). (has_aid n e.1 && has_unit k kept) || rest) (sym is)
-    ∙ ap (λ b. (b && has_unit addr kept) || rest) (number-of e.1 n)
-    ∙ ap (λ b. b || rest) (swapped-and (is_number (aid_with (Some e.1)) n) (has_unit addr kept))
+parted-here addr e kept n rest is = grind (arith, is, number-of e.1 n)
 
 -- a number is waited for by one station or by the others
 pub waited-parted : (addr : List ℕ) (t : Table) (kept : List Entry) (n : ℕ) → is_waited_for t kept n ≡ ((has_unit addr kept && is_number (aid_of addr t) n) || is_waited_for (forget addr t) kept n)
-waited-parted addr [] kept n = no-bit (has_unit addr kept)
-waited-parted addr (e ∷ t) kept n = by (bytes_eq addr e.0) refl (waited-parted addr t kept n)
-  where
-    by : (r : Bool) → bytes_eq addr e.0 ≡ r → is_waited_for t kept n ≡ ((has_unit addr kept && is_number (aid_of addr t) n) || is_waited_for (forget addr t) kept n)
-        → is_waited_for (e ∷ t) kept n ≡ ((has_unit addr kept && is_number (aid_of addr (e ∷ t)) n) || is_waited_for (forget addr (e ∷ t)) kept n)
-    by true same later = rw same (parted-here addr e kept n (is_waited_for t kept n) ((bytes_eq-Decides addr e.0).0 same))
-    by false other later =
-        rw other (ap (λ b. (has_aid n e.1 && has_unit e.0 kept) || b) later
-        ∙ swapped-or (has_aid n e.1 && has_unit e.0 kept) (has_unit addr kept && is_number (aid_of addr t) n) (is_waited_for (forget addr t) kept n))
+waited-parted addr [] kept n = grind arith
+waited-parted addr (e ∷ t) kept n = elim (cases_Bool (bytes_eq addr e.0)) [
+  | inl same ↦ rw same (parted-here addr e kept n (is_waited_for t kept n) ((bytes_eq-Decides addr e.0).0 same))
+  | inr other ↦ rw other (grind (arith, waited-parted addr t kept n))
+]
 
 -- one that is no identifier isn't waited for
 not-waited : (t : Table) (kept : List Entry) (n : ℕ) → is_among (identifiers t) n ≡ false → is_waited_for t kept n ≡ false
@@ -97,8 +60,8 @@ not-waited (e ∷ t) kept n h = by e.1 h (not-waited t kept n)
     by : (l : StationState) → is_among (identifier_of l ++ identifiers t) n ≡ false → (is_among (identifiers t) n ≡ false → is_waited_for t kept n ≡ false) → ((has_aid n l && has_unit e.0 kept) || is_waited_for t kept n) ≡ false
     by Authenticated k later = later k
     by (Associated aid listen doze) k later =
-        let both = neither (nat_eq aid n) (is_among (identifiers t) n) k in
-        let other : (n == aid) ≡ false = eqb-flip n aid ∙ both.0 in
+        let both = or_parts (nat_eq aid n) (is_among (identifiers t) n) k in
+        let other : (n == aid) ≡ false = nat_eq_equiv.symm n aid ∙ both.0 in
         rw other (later both.1)
 
 -- the identifier of a station is no other's
@@ -115,20 +78,12 @@ pub waited-one : IdentifiersDiffer → (addr : List ℕ) (t u : Table) (before a
     → waits ≡ nat_lt 0 (length (units_for (One addr) after))
     → AreShown (aid_of addr t) (aid_of addr u) waits old new → AreWaitedFor old t before → AreWaitedFor new u after
 waited-one differ addr t u before after old new waits sound others is now told n aid =
-    let a : Option ℕ = aid_of addr u in
     let has : has_unit addr after ≡ waits = some-for (One addr) after ∙ sym is in
-    now n ∙ ap (λ b. (waits && is_number a n) || b) (left (is_number (aid_of addr t) n) refl)
-    ∙ ap (λ b. (waits && is_number a n) || b) (sym (others n))
-    ∙ ap (λ w. (w && is_number a n) || is_waited_for (forget addr u) after n) (sym has)
-    ∙ sym (waited-parted addr u after n)
-  where
-    left : (b : Bool) → is_number (aid_of addr t) n ≡ b → (not (is_number (aid_of addr t) n) && set.contains old n) ≡ is_waited_for (forget addr t) before n
-    left true h = rw h (sym (rest-none differ addr t before n (number-is (aid_of addr t) n h) sound))
-    left false h =
-        let both : is_waited_for t before n ≡ is_waited_for (forget addr t) before n =
-        waited-parted addr t before n ∙ ap (λ b. (has_unit addr before && b) || is_waited_for (forget addr t) before n) h
-        ∙ without-bit (has_unit addr before) (is_waited_for (forget addr t) before n) in
-        rw h (told n aid ∙ both)
+    let left : (not (is_number (aid_of addr t) n) && set.contains old n) ≡ is_waited_for (forget addr t) before n = elim (cases_Bool (is_number (aid_of addr t) n)) [
+      | inl here ↦ rw here (sym (rest-none differ addr t before n (number-is (aid_of addr t) n here) sound))
+      | inr other ↦ grind (arith, other, told n aid, waited-parted addr t before n)
+    ] in
+    cc (now n, left, others n, waited-parted addr u after n)
 
 -- ---- the units of one station change
 
@@ -141,17 +96,15 @@ unit-stays whom before after b stay other =
 
 pub others-stay : (addr : List ℕ) (t : Table) (before after : List Entry) (n : ℕ) → state_of addr t ≡ None → StayBeside (One addr) before after → is_waited_for t after n ≡ is_waited_for t before n
 others-stay addr [] before after n none stay = refl
-others-stay addr (e ∷ t) before after n none stay =
-    let parts = not-here (bytes_eq addr e.0) e.1 (state_of addr t) none in
-    ap (λ b. (has_aid n e.1 && b) || is_waited_for t after n) (unit-stays (One addr) before after e.0 stay (one-apart addr e.0 parts.0))
-    ∙ ap (λ b. (has_aid n e.1 && has_unit e.0 before) || b) (others-stay addr t before after n parts.1 stay)
+others-stay addr (e ∷ t) before after n none stay = elim (cases_Bool (bytes_eq addr e.0)) [
+  | inl same ↦ absurd (none-some e.1 (sym (rw same at none)))
+  | inr other ↦ cc (unit-stays (One addr) before after e.0 stay (one-apart addr e.0 other), others-stay addr t before after n (rw other at none) stay)
+]
 
 -- the units for the group are nothing to it
 pub group-waits_not : (t : Table) (before after : List Entry) (n : ℕ) → StayBeside Group before after → is_waited_for t after n ≡ is_waited_for t before n
 group-waits_not [] before after n stay = refl
-group-waits_not (e ∷ t) before after n stay =
-    ap (λ b. (has_aid n e.1 && b) || is_waited_for t after n) (unit-stays Group before after e.0 stay (λ h. absurd cc))
-    ∙ ap (λ b. (has_aid n e.1 && has_unit e.0 before) || b) (group-waits_not t before after n stay)
+group-waits_not (e ∷ t) before after n stay = cc (unit-stays Group before after e.0 stay (λ h. absurd cc), group-waits_not t before after n stay)
 
 -- the units for one changed, and its bit follows
 pub followed : OthersStay → IdentifiersDiffer → (addr : List ℕ) (t : Table) (before after : List Entry) (old new : Numbers) (waits : Bool) → AreApart t → AreIdentifiers (identifiers t)
@@ -164,16 +117,13 @@ followed others differ addr t before after old new waits apart sound stay is now
 same-waiting : (whom : Whom) (t : Table) (before after : List Entry) (n : ℕ) → StayBeside whom before after → nat_lt 0 (length (units_for whom before)) ≡ true → nat_lt 0 (length (units_for whom after)) ≡ true
     → is_waited_for t after n ≡ is_waited_for t before n
 same-waiting whom [] before after n stay some left = refl
-same-waiting whom (e ∷ t) before after n stay some left =
-    ap (λ b. (has_aid n e.1 && b) || is_waited_for t after n) (by (is_same whom (One e.0)) refl)
-    ∙ ap (λ b. (has_aid n e.1 && has_unit e.0 before) || b) (same-waiting whom t before after n stay some left)
+same-waiting whom (e ∷ t) before after n stay some left = cc (has, same-waiting whom t before after n stay some left)
   where
-    by : (b : Bool) → is_same whom (One e.0) ≡ b → has_unit e.0 after ≡ has_unit e.0 before
-    by true is =
-        let same : whom ≡ One e.0 = same_whom whom (One e.0) is in
-        some-for (One e.0) after ∙ ap (λ (w : Whom). nat_lt 0 (length (units_for w after))) (sym same) ∙ left
-        ∙ sym some ∙ ap (λ (w : Whom). nat_lt 0 (length (units_for w before))) same ∙ sym (some-for (One e.0) before)
-    by false other = unit-stays whom before after e.0 stay (λ is. both_ways (is_same whom (One e.0)) other (ap (λ (w : Whom). is_same w (One e.0)) is ∙ (bytes_eq-Decides e.0 e.0).1 refl))
+    has : has_unit e.0 after ≡ has_unit e.0 before
+    has = elim (cases_Bool (is_same whom (One e.0))) [
+      | inl is ↦ cc (same_whom whom (One e.0) is, some-for (One e.0) after, some-for (One e.0) before)
+      | inr other ↦ unit-stays whom before after e.0 stay (λ is. absurd (cc (rw is at other, (bytes_eq-Decides e.0 e.0).1 refl)))
+    ]
 
 pub still-shown : (whom : Whom) (t : Table) (before after : List Entry) (numbers : Numbers) → StayBeside whom before after → (nat_lt 0 (length (units_for whom after)) ≡ true → nat_lt 0 (length (units_for whom before)) ≡ true)
     → nat_lt 0 (length (units_for whom after)) ≡ true → AreWaitedFor numbers t before → AreWaitedFor numbers t after
@@ -189,10 +139,8 @@ pub put-followed : OthersStay → IdentifiersDiffer → (whom : Whom) (t : Table
     → StayBeside whom before after → true ≡ nat_lt 0 (length (units_for whom after)) → aid ≡ aid_for whom t
     → ((n : ℕ) → set.contains new n ≡ (is_number aid n || set.contains old n)) → AreWaitedFor old t before → AreWaitedFor new t after
 put-followed others differ (One addr) t before after old new aid apart sound stay some is now told =
-    followed others differ addr t before after old new true apart sound stay some
-    (λ n. now n ∙ ap (λ (o : Option ℕ). is_number o n || set.contains old n) is ∙ set-is_shown (is_number (aid_of addr t) n) (set.contains old n)) told
-put-followed others differ Group t before after old new aid apart sound stay some is now told =
-    λ n among. now n ∙ ap (λ (o : Option ℕ). is_number o n || set.contains old n) is ∙ told n among ∙ sym (group-waits_not t before after n stay)
+    followed others differ addr t before after old new true apart sound stay some (λ n. rw is at (now n) ∙ set-is_shown (is_number (aid_of addr t) n) (set.contains old n)) told
+put-followed others differ Group t before after old new aid apart sound stay some is now told = λ n among. rw is at (now n) ∙ told n among ∙ sym (group-waits_not t before after n stay)
 
 pub identifier-range : IdentifiersDiffer → (whom : Whom) (t : Table) (o : Option ℕ) → o ≡ aid_for whom t → AreIdentifiers (identifiers t) → IfSome o IsAid
 identifier-range differ whom t None is sound = tt
@@ -206,11 +154,9 @@ pub forgotten-changed : OthersStay → (change : Change) (addr : List ℕ) (t : 
 forgotten-changed others changes.Nothing addr t is apart = absurd (cc)
 forgotten-changed others (changes.Authenticate a) addr t is apart = let same : a ≡ addr = cc in rw same (others.rest_set addr Authenticated t)
 forgotten-changed others (changes.Associate a listen) addr t is apart = let same : a ≡ addr = cc in rw same (others.rest_set addr _ t)
-forgotten-changed others (changes.Disassociate a) addr t is apart = let same : a ≡ addr = cc in rw same (by (is_some (aid_of addr t)) refl)
-  where
-    by : (b : Bool) → is_some (aid_of addr t) ≡ b → forget addr (disassociate addr t) ≡ forget addr t
-    by true associated = rw associated (others.rest_set addr Authenticated t)
-    by false not_associated = rw not_associated refl
+forgotten-changed others (changes.Disassociate a) addr t is apart =
+    let same : a ≡ addr = cc in
+    rw same (cond_both (is_some (aid_of addr t)) _ _ (λ u. forget addr u ≡ forget addr t) (λ _. others.rest_set addr Authenticated t) (λ _. refl))
 forgotten-changed others (changes.Forget a) addr t is apart = let same : a ≡ addr = cc in rw same (others.rest_forgotten addr t apart)
 forgotten-changed others (changes.SetMode a doze) addr t is apart = absurd (cc)
 
@@ -220,11 +166,7 @@ same-aid doze (Associated aid listen before) n = refl
 
 waited-moded : (a : List ℕ) (doze : Bool) (t : Table) (kept : List Entry) (n : ℕ) → is_waited_for (set_mode a doze t) kept n ≡ is_waited_for t kept n
 waited-moded a doze [] kept n = refl
-waited-moded a doze (e ∷ t) kept n = by (bytes_eq a e.0) refl (waited-moded a doze t kept n)
-  where
-    by : (r : Bool) → bytes_eq a e.0 ≡ r → is_waited_for (set_mode a doze t) kept n ≡ is_waited_for t kept n → is_waited_for (set_mode a doze (e ∷ t)) kept n ≡ is_waited_for (e ∷ t) kept n
-    by true same later = rw same (ap (λ b. (b && has_unit e.0 kept) || is_waited_for t kept n) (same-aid doze e.1 n))
-    by false other later = rw other (ap (λ b. (has_aid n e.1 && has_unit e.0 kept) || b) later)
+waited-moded a doze (e ∷ t) kept n = grind (arith, waited-moded a doze t kept n, same-aid doze e.1 n)
 
 -- a mode is nothing to it
 pub waited-renumbered_not : (change : Change) (t : Table) (kept : List Entry) (n : ℕ) → renumbered change ≡ None → is_waited_for (changed change t) kept n ≡ is_waited_for t kept n

@@ -10,7 +10,7 @@ use Rattle.roster.specs.KeptUnits.{CameBy, is_too_old}
 use Rattle.stations.specs.Stations.{Table, StationTable}
 use Rattle.roster.proofs.Aging.{came-filtered, in-order}
 use Rattle.roster.proofs.RosterAging.{left-young, left-count, among-aged, among-young, none-among}
-use Rattle.roster.proofs.UnitsKept.{length-filtered}
+use Rattle.roster.proofs.UnitsLeft.{no_more}
 use Rattle.roster.proofs.roster.Roster.age.Goals as goal
 
 -- what becomes of the units where those for one are looked at
@@ -93,7 +93,7 @@ overflow_add-dropped c =
     let told = c.age_one-dropped.ensures in
     let rest : drop c.loop-one.one-index c.args.oldest.now ≡ c.one-item.result ∷ drop (c.loop-one.one-index + 1) c.args.oldest.now = drop_more c.args.oldest.now c.loop-one.one-index c.one-item.result c.loop-one-test.true ∙ ap (λ (o : Oldest). o ∷ drop (c.loop-one.one-index + 1) c.args.oldest.now) (sym c.one-item.is) in
     let step = aged c.args.clock t c.one-item.result (drop (c.loop-one.one-index + 1) c.args.oldest.now) c.age_one-dropped.result c.loop-one.self c.age_one-dropped.new.self (ap (λ (k : StationTable). k.table) h.stations) (subst (λ (os : List Oldest). AreAmong c.args.clock t os c.loop-one.self.kept.entries) rest h.among) h.came told.count told.after told.young in
-    omega (arith, step.count, h.count, length-filtered (is_too_old c.args.clock t) c.args.self.now.kept.entries, c.requires.countable)
+    omega (arith, step.count, h.count, no_more (is_too_old c.args.clock t) c.args.self.now.kept.entries, c.requires.countable)
 
 pub loop-one-preserved : goal.loop-one-preserved
 loop-one-preserved c =

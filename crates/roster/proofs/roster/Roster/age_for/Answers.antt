@@ -3,7 +3,7 @@ use Rattle.std.proofs.lemmas.Bool.{lt-ltb, le-ltb}
 use Rattle.std.specs.Prelude.{nat_lt}
 use Rattle.powersave.specs.Keep.{Entry, Kept, is_older, units_for, without_older}
 use Rattle.roster.specs.AgingClocks.{HasClock}
-use Rattle.roster.proofs.ClocksKept.{each-filtered}
+use Rattle.roster.proofs.Aging.{each-filtered}
 use Rattle.roster.proofs.UnitsLeft.{some-before}
 use Rattle.roster.proofs.WaitedFor.{still-shown}
 use Rattle.roster.proofs.roster.Roster.age_for.Goals as goal

@@ -2,7 +2,7 @@ use Rattle.std.proofs.Common.{◌≡◌, List, length, not, sym, ap, arith}
 use Rattle.std.specs.Prelude.{nat_lt}
 use Rattle.powersave.specs.Keep.{Entry, Kept, is_for, without_all}
 use Rattle.roster.specs.AgingClocks.{HasClock}
-use Rattle.roster.proofs.ClocksKept.{each-filtered}
+use Rattle.roster.proofs.Aging.{each-filtered}
 use Rattle.roster.proofs.UnitsLeft.{all-pass}
 use Rattle.roster.proofs.roster.Roster.drop_for.Goals as goal
 

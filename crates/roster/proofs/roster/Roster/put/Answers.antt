@@ -8,7 +8,7 @@ use Rattle.roster.specs.Keeping.{aid_for}
 use Rattle.roster.specs.Roster.{RosterState}
 use Rattle.stations.specs.Stations.{Table}
 use Rattle.roster.specs.AgingClocks.{HasClock}
-use Rattle.roster.proofs.ClocksKept.{each-push}
+use Rattle.roster.proofs.Aging.{each-push}
 use Rattle.roster.proofs.WaitedFor.{identifier-range, put-followed}
 use Rattle.roster.proofs.roster.Roster.put.Goals as goal
 

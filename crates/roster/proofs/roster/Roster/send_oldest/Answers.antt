@@ -6,7 +6,7 @@ use Rattle.powersave.specs.declared.unit.Unit.{Unit as DataUnit}
 use Rattle.powersave.specs.declared.unit.Whom.TheVariants.{One}
 use Rattle.roster.specs.AgingClocks.{HasClock, HaveClocks}
 use Rattle.roster.specs.Roster.{AreWaitedFor}
-use Rattle.roster.proofs.ClocksKept.{each-without_first}
+use Rattle.roster.proofs.Aging.{each-without_first}
 use Rattle.roster.proofs.roster.Roster.send_oldest.Goals as goal
 
 abbrev told : Option (List ℕ × Bool) → Bool
