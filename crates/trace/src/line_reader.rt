@@ -3,7 +3,7 @@
 //! A [`LineReader`] lends the lines that end in each piece; the pieces may be cut anywhere.
 
 ghost use Rattle.std.specs.Prelude.{◌≡◌, ◌+◌, ◌<◌, ◌≤◌, ◌++◌, List, [], ℕ, length, Err, IfOk};
-ghost use Rattle.std.specs.Prelude.{IfSome, MatchResult, OnOk, OnErr};
+ghost use Rattle.std.specs.Prelude.{IfSome, MatchResult, None, Ok, OnOk, OnErr};
 ghost use Rattle.std.specs.Str.Lines.{strip_carriage_return};
 ghost use Rattle.text_io.specs.Endings.{Gives, IsFaultOf};
 ghost use Rattle.text_io.specs.Faults.{read_ending};
@@ -416,6 +416,7 @@ fn take_numbered<T: TakeLines>(
     ensures takes { Takes result (as_list (line_of bssids.now number line.now))
         (λ c said. T.has_taken c said lines.old) (λ c said. T.has_taken c said lines.new) }
     ensures within { OnOk result (number ≤ MAX_LINES) }
+    ensures skipped { line_of bssids.now number line.now ≡ Ok None → result ≡ Ok tt }
 {
     if number > MAX_LINES {
         return Err(ReadFault::At(LineFault::TooMany.at(number)));
