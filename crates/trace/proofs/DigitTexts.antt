@@ -1,9 +1,9 @@
 -- Texts of digits, with spaces among them or none.
 use Rattle.std.proofs.Common.{◌≡◌, ◌≢◌, ◌∙◌, ◌+◌, ◌%◌, ◌≤◌, ◌<◌, ◌-◌, ℕ, Bool, true, false, List, [], ◌∷◌, length, take, drop}
-use Rattle.std.proofs.Common.{Result, Ok, Err, refl, sym, ap, subst, min, inl, inr, arith}
+use Rattle.std.proofs.Common.{Result, Ok, Err, refl, sym, ap, subst, inl, inr, arith}
 use Rattle.std.specs.List.{AllPass}
-use Rattle.std.specs.Prelude.{nat_lt, not, IsErr, slice_index, if◌then◌else◌}
-use Rattle.std.proofs.lemmas.Bool.{cases_eq, ne_eqb, lt-ltb, eq-eqb}
+use Rattle.std.specs.Prelude.{not, IsErr, slice_index, if◌then◌else◌}
+use Rattle.std.proofs.lemmas.Bool.{cases_eq, ne_eqb, lt-ltb, le-ltb, eq-eqb}
 use Rattle.std.proofs.lemmas.List.{length-take, take_rest}
 use Rattle.std.proofs.lemmas.List.Elements.{All-cons, All-head, All-nil, All-tail}
 use Rattle.hex.specs.Hex.{decode_of, is_hex_digit}
@@ -32,13 +32,8 @@ digits_of_all (x ∷ xs) digits =
     rw (no_space x (All-head digit_holds x xs digits)) (ap (λ (rest : List ℕ). x ∷ rest) (digits_of_all xs (All-tail digit_holds x xs digits)))
 
 -- octets that are no more than a line may have
-few_within : (over : Bool) (octets : List ℕ) → over ≡ false
-    → (if over then Err TooMany else Ok octets) ≡ Ok octets
-few_within true octets few = cc few
-few_within false octets few = refl
-
 pub few_octets : (octets : List ℕ) → length octets ≤ 4096 → within_limit (Ok octets) ≡ Ok octets
-few_octets octets few = few_within (nat_lt 4096 (length octets)) octets (grind (arith))
+few_octets octets few = rw (le-ltb 4096 (length octets) few) refl
 
 -- a text that spells octets spells them with no space taken out
 spelled : (text octets : List ℕ) → decode_of text ≡ Ok octets → length octets ≤ 4096 → octets_of text ≡ Ok octets
@@ -47,14 +42,11 @@ spelled text octets e few =
     ∙ ap within_limit e
     ∙ few_octets octets few
 
-min_bound : (n m : ℕ) (octets : List ℕ) → n ≤ 4096 → length octets ≡ min n m → length octets ≤ 4096
-min_bound n m octets few is = omega (arith, is)
-
 -- those at the front of a piece of memory
 pub spelled_front : (text memory : List ℕ) (n : ℕ) → decode_of text ≡ Ok (take n memory) → n ≤ 4096
     → octets_of text ≡ Ok (take n memory)
 spelled_front text memory n e few =
-    spelled text (take n memory) e (min_bound n (length memory) (take n memory) few (length-take n memory))
+    spelled text (take n memory) e (omega (arith, few, length-take n memory))
 
 -- ---- spaces among digits
 
@@ -68,10 +60,6 @@ pub one_digit : (character : ℕ) (rest : List ℕ) → character ≢ 32
 one_digit character rest other = rw (ne_eqb character 32 other) refl
 
 -- ---- more digits than a line may have
-
-over_limit : (over : Bool) (octets : List ℕ) → over ≡ true → (if over then Err TooMany else Ok octets) ≡ Err TooMany
-over_limit true octets is = refl
-over_limit false octets is = cc is
 
 -- what a text spells of which not all are digits, or whose digits are an odd number
 pub no_octets : (text : List ℕ) → IsErr (decode_of (digits_of text)) → octets_of text ≡ Err NotHexadecimal
@@ -144,7 +132,7 @@ look_even text [] false s end even many =
     let read = decode_of-digits (digits_of text) (omega (arith, count)) (s.digits (All-nil digit_holds)) in
     let twice = (decode_of-ok (digits_of text) read.0 read.1).2 in
     ap within_limit read.1
-    ∙ over_limit (nat_lt 4096 (length read.0)) read.0 (lt-ltb 4096 (length read.0) (omega (arith, many, twice)))
+    ∙ rw (lt-ltb 4096 (length read.0) (omega (arith, many, twice))) refl
 look_even text (x ∷ xs) is_odd s end even many = absurd (omega (arith, end))
 
 -- a digit is the first of what is left

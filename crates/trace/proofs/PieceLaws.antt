@@ -1,7 +1,8 @@
 -- What is answered to the pieces of a text is what the text says.
-use Rattle.std.proofs.Common.{◌≡◌, ℕ, ◌+◌, Bool, true, false, List, [], ◌∷◌, ◌++◌, length, Option, None, Result, Ok, Err, refl, ap, sym, ◌∙◌, append_assoc, append-nil, arith, subst, cond, length-append}
+use Rattle.std.proofs.Common.{◌≡◌, ℕ, ◌+◌, Bool, true, false, List, [], ◌∷◌, ◌++◌, length, Option, Result, Ok, Err, refl, ap, sym, ◌∙◌, append_assoc, append-nil, arith, cond, length-append}
 use Rattle.std.specs.Prelude.{nat_lt, ◌&&◌, if◌then◌else◌}
 use Rattle.std.specs.List.{concat, onto_first}
+use Rattle.std.proofs.lemmas.Bool.{lt-ltb}
 use Rattle.std.specs.Option.{option_to_list}
 use Rattle.std.specs.Str.Lines.{lines, lines_of_parts, strip_carriage_return}
 use Rattle.ap_config.specs.declared.config.RadioConfig.{RadioConfig}
@@ -9,7 +10,7 @@ use Rattle.events.specs.declared.line.Line.{Line}
 use Rattle.text_io.specs.Faults.{◌>>=◌}
 use Rattle.text_io.specs.Texts.{is_line_feed, cut}
 use Rattle.trace.specs.TraceText.{max_lines, fault_in, bssids_of, line_of, lines_from, lines_of}
-use Rattle.trace.specs.Pieces.{ReaderView, HasRead, new_reader, reader_after, whole_lines, unfinished_line, before_line, said_last, said_after, answer_to, answer_to_all, after_answer, after_piece, past}
+use Rattle.trace.specs.Pieces.{ReaderView, HasRead, new_reader, reader_after, whole_lines, unfinished_line, before_line, said_last, said_after, answer_to, answer_to_all, after_piece}
 use Rattle.trace.specs.declared.fault.TraceFault.{TraceFault}
 use Rattle.trace.specs.declared.fault.LineFault.TheVariants.{TooMany}
 use Rattle.trace.specs.LineLaws.{whole_lines-append, unfinished_line-append, lines-append, cut-unfinished}
@@ -38,15 +39,9 @@ lines_from-append bssids number [] others =
     sym (ap (λ n. said_after [] (lines_from bssids n others)) same ∙ said_after-none (lines_from bssids number others))
 lines_from-append bssids number (line ∷ some) others =
     let count : number + 1 + length some ≡ number + length (line ∷ some) = omega arith in
-    ap
-    (λ (later : Result (List Line) TraceFault).
-    line_of bssids number line >>= λ o. (later >>= λ ls. Ok (option_to_list o ++ ls)))
-    (lines_from-append bssids (number + 1) some others
-    ∙ ap
-    (λ n. lines_from bssids (number + 1) some >>= λ ls. said_after ls (lines_from bssids n others))
-    count)
-    ∙ grouped (line_of bssids number line) (lines_from bssids (number + 1) some)
-    (lines_from bssids (number + length (line ∷ some)) others)
+    rw (lines_from-append bssids (number + 1) some others, count)
+    (grouped (line_of bssids number line) (lines_from bssids (number + 1) some)
+    (lines_from bssids (number + length (line ∷ some)) others))
 
 -- ---- the text so far, and what comes later
 
@@ -57,16 +52,10 @@ pub read_on : (config : RadioConfig) (text later : List ℕ) (said : List Line) 
     ≡ said_after said
     (lines_from (bssids_of config) (length (whole_lines text) + 1) (lines (unfinished_line text ++ later)))
 read_on config text later said r h =
-    let bssids : List (List ℕ) = bssids_of config in
     let others : List (List ℕ) = lines (unfinished_line text ++ later) in
     let count : 1 + length (whole_lines text) ≡ length (whole_lines text) + 1 = omega arith in
-    ap (lines_from bssids 1) (lines-append text later)
-    ∙ lines_from-append bssids 1 (whole_lines text) others
-    ∙ ap
-    (λ (some : Result (List Line) TraceFault).
-    some >>= λ ls. said_after ls (lines_from bssids (1 + length (whole_lines text)) others))
-    h.answered
-    ∙ ap (λ n. said_after said (lines_from bssids n others)) count
+    ap (lines_from (bssids_of config) 1) (lines-append text later)
+    ∙ rw (lines_from-append (bssids_of config) 1 (whole_lines text) others, h.answered, count) refl
 
 -- ---- a line too many
 
@@ -87,10 +76,6 @@ lines-has_first x xs =
       | false ↦ lines_of_parts-has_first x parts.0 parts.1
     ])
 
--- a text that is not empty
-abbrev HasOctet : List ℕ → Type 0
-HasOctet octets = (first : ℕ) × (others : List ℕ) × (octets ≡ first ∷ others)
-
 too_many : (bssids : List (List ℕ)) (number : ℕ) (some : List (List ℕ)) → nat_lt max_lines number ≡ true
     → HasFirst some → lines_from bssids number some ≡ Err (fault_in number TooMany)
 too_many bssids number some over h = rw (h.2, over) refl
@@ -99,36 +84,20 @@ too_many bssids number some over h = rw (h.2, over) refl
 abbrev pub limited : Bool → ℕ → List Line → Result (List Line) TraceFault
 limited over number said = if over then Err (fault_in number TooMany) else Ok said
 
-limited-ok : (over : Bool) (number : ℕ) (said more : List Line) → limited over number said ≡ Ok more → said ≡ more
-limited-ok true number said more e = cc
-limited-ok false number said more e = cc
-
-limited-err : (over : Bool) (number : ℕ) (said : List Line) (met : TraceFault) → limited over number said ≡ Err met
-    → (over ≡ true) × (fault_in number TooMany ≡ met)
-limited-err true number said met e = (refl, cc)
-limited-err false number said met e = cc
-
--- a test of both parts
-both : (a b : Bool) → (a && b) ≡ true → (a ≡ true) × (b ≡ true)
-both true true e = (refl, refl)
-both true false e = cc
-both false b e = cc
-
-some_octet : (octets : List ℕ) → nat_lt 0 (length octets) ≡ true → HasOctet octets
-some_octet [] e = cc
-some_octet (x ∷ xs) e = (x, xs, refl)
-
 -- an octet too many is the fault of the line that begins with it
 begun_fault : (bssids : List (List ℕ)) (number : ℕ) (octets later : List ℕ) (said : List Line) (met : TraceFault)
     → before_line number octets said ≡ Err met
     → lines_from bssids number (lines (octets ++ later)) ≡ Err met
-begun_fault bssids number octets later said met e =
-    let over = limited-err (nat_lt max_lines number && nat_lt 0 (length octets)) number said met e in
-    let parts = both (nat_lt max_lines number) (nat_lt 0 (length octets)) over.0 in
-    let some : HasOctet octets = some_octet octets parts.1 in
-    ap (λ (t : List ℕ). lines_from bssids number (lines (t ++ later))) some.2
-    ∙ too_many bssids number (lines (some.0 ∷ some.1 ++ later)) parts.0 (lines-has_first some.0 (some.1 ++ later))
-    ∙ ap (λ (f : TraceFault). Err f) over.1
+begun_fault bssids number octets later said met e = by octets (nat_lt max_lines number) refl e
+  where
+    by : (os : List ℕ) (over : Bool) → nat_lt max_lines number ≡ over
+        → limited (over && nat_lt 0 (length os)) number said ≡ Err met
+        → lines_from bssids number (lines (os ++ later)) ≡ Err met
+    by [] true is e = cc
+    by (x ∷ xs) true is e =
+        too_many bssids number (lines (x ∷ xs ++ later)) is (lines-has_first x (xs ++ later))
+        ∙ (rw (lt-ltb 0 (length (x ∷ xs)) (omega arith)) at e)
+    by os false is e = cc
 
 -- ---- piece by piece
 
@@ -136,14 +105,12 @@ pub read-nothing : (config : RadioConfig) → HasRead config [] [] (new_reader (
 read-nothing config = record { state = refl; answered = refl }
 
 -- what was answered goes on
-answered_more : (some : Result (List Line) TraceFault) (number : ℕ) (octets : List ℕ) (more : List Line)
-    → (some >>= λ said. before_line number octets said) ≡ Ok more
+answered_more : (some : Result (List Line) TraceFault) (over : Bool) (number : ℕ) (more : List Line)
+    → (some >>= λ said. limited over number said) ≡ Ok more
     → some ≡ Ok more
-answered_more (Err met) number octets more e = cc
-answered_more (Ok ls) number octets more e =
-    ap
-    (λ (all : List Line). Ok all)
-    (limited-ok (nat_lt max_lines number && nat_lt 0 (length octets)) number ls more e)
+answered_more (Err met) over number more e = cc
+answered_more (Ok ls) true number more e = cc
+answered_more (Ok ls) false number more e = e
 
 pub read-more : (config : RadioConfig) (text piece : List ℕ) (said more : List Line) (r : ReaderView)
     → HasRead config text said r → answer_to r piece ≡ Ok more
@@ -151,36 +118,16 @@ pub read-more : (config : RadioConfig) (text piece : List ℕ) (said more : List
 read-more config text piece said more r h e =
     let bssids : List (List ℕ) = bssids_of config in
     let on : List ℕ = unfinished_line text ++ piece in
-    let here : answer_to (reader_after bssids text) piece ≡ Ok more =
-    subst (λ (s : ReaderView). answer_to s piece ≡ Ok more) h.state e in
+    let here : answer_to (reader_after bssids text) piece ≡ Ok more = rw h.state at e in
     let whole : length (whole_lines (text ++ piece)) ≡ length (whole_lines text) + length (whole_lines on) =
     ap length (whole_lines-append text piece) ∙ length-append (whole_lines text) (whole_lines on) in
+    let count : 1 + length (whole_lines text) ≡ length (whole_lines text) + 1 = omega arith in
     record {
-      state =
-          ap (λ (s : ReaderView). after_piece s piece) h.state
-          ∙ ap
-          (λ (a : Result (List Line) TraceFault).
-          after_answer a (reader_after bssids text) (past (reader_after bssids text) on))
-          here
-          ∙ sym
-          (ap
-          (λ (n : ℕ). record { bssids = bssids; ended_lines = n; unfinished = unfinished_line (text ++ piece); fault = None })
-          whole
-          ∙ ap
-          (λ (u : List ℕ).
-          record { bssids = bssids; ended_lines = length (whole_lines text) + length (whole_lines on); unfinished = u; fault = None })
-          (unfinished_line-append text piece));
+      state = rw (h.state, here, whole, unfinished_line-append text piece) refl;
       answered =
           ap (lines_from bssids 1) (whole_lines-append text piece)
-          ∙ lines_from-append bssids 1 (whole_lines text) (whole_lines on)
-          ∙ ap
-          (λ (some : Result (List Line) TraceFault).
-          some >>= λ ls. said_after ls (lines_from bssids (1 + length (whole_lines text)) (whole_lines on)))
-          h.answered
-          ∙ ap
-          (said_after said)
-          (ap (λ n. lines_from bssids n (whole_lines on)) (let count : 1 + length (whole_lines text) ≡ length (whole_lines text) + 1 = omega arith in count)
-          ∙ answered_more (lines_from bssids (length (whole_lines text) + 1) (whole_lines on)) (length (whole_lines text) + length (whole_lines on) + 1) (unfinished_line on) more here);
+          ∙ rw (lines_from-append bssids 1 (whole_lines text) (whole_lines on), h.answered, count)
+          (ap (said_after said) (answered_more (lines_from bssids (length (whole_lines text) + 1) (whole_lines on)) _ _ more here));
     }
 
 -- whole lines with a fault, or an octet too many after them
@@ -199,25 +146,17 @@ read-fault config text piece later said r met h e =
     let bssids : List (List ℕ) = bssids_of config in
     let on : List ℕ = unfinished_line text ++ piece in
     let number : ℕ = length (whole_lines text) + 1 in
-    let here : answer_to (reader_after bssids text) piece ≡ Err met =
-    subst (λ (s : ReaderView). answer_to s piece ≡ Err met) h.state e in
+    let here : answer_to (reader_after bssids text) piece ≡ Err met = rw h.state at e in
     let count : length (whole_lines text) + length (whole_lines on) + 1 ≡ number + length (whole_lines on) = omega arith in
-    let there : (lines_from bssids number (whole_lines on) >>= λ ls. before_line (number + length (whole_lines on)) (unfinished_line on) ls) ≡ Err met =
-    ap
-    (λ n. lines_from bssids number (whole_lines on) >>= λ ls. before_line n (unfinished_line on) ls)
-    (sym count)
-    ∙ here in
     ap (lines_of config) (append_assoc text piece later)
     ∙ read_on config text (piece ++ later) said r h
     ∙ ap
     (said_after said)
-    (ap
-    (λ (t : List ℕ). lines_from bssids number (lines t))
-    (sym (append_assoc (unfinished_line text) piece later))
+    (ap (λ (t : List ℕ). lines_from bssids number (lines t)) (sym (append_assoc (unfinished_line text) piece later))
     ∙ ap (lines_from bssids number) (lines-append on later)
     ∙ lines_from-append bssids number (whole_lines on) (lines (unfinished_line on ++ later))
-    ∙ faulty bssids number (whole_lines on) (unfinished_line on) later
-    (lines_from bssids number (whole_lines on)) met there)
+    ∙ faulty bssids number (whole_lines on) (unfinished_line on) later (lines_from bssids number (whole_lines on)) met
+    (rw count at here))
 
 -- ---- the end
 
@@ -269,12 +208,9 @@ one_more config text piece pieces said r h later = split (answer_to r piece) ref
     split : (answer : Result (List Line) TraceFault) → answer_to r piece ≡ answer
         → SaysAll config text (piece ∷ pieces) said r
     split (Err met) is =
-        ap
-        (λ (a : Result (List Line) TraceFault).
-        said_after said (a >>= λ ls. answer_to_all (after_piece r piece) pieces >>= λ next. Ok (ls ++ next)))
-        is
-        ∙ sym (read-fault config text piece (concat pieces) said r met h is)
-        ∙ ap (lines_of config) (append_assoc text piece (concat pieces))
+        rw is
+        (sym (read-fault config text piece (concat pieces) said r met h is)
+        ∙ ap (lines_of config) (append_assoc text piece (concat pieces)))
     split (Ok more) is =
         ap
         (λ (a : Result (List Line) TraceFault).

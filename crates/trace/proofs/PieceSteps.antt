@@ -1,6 +1,5 @@
 -- What the steps of reading a piece rest on.
 use Rattle.std.proofs.Common.{◌≡◌, ℕ, ◌+◌, Bool, true, false, List, [], ◌∷◌, ◌++◌, length, Option, Some, Result, Ok, Err, None, IsOkAnd, MatchOption, MatchResult, OnOk, OnErr, length-append, refl, ap, sym, subst, ◌∙◌, append_assoc, append-nil, arith}
-use Rattle.std.specs.Prelude.{nat_lt, ◌&&◌}
 use Rattle.std.specs.Option.{option_to_list}
 use Rattle.std.proofs.lemmas.List.Elements.{All-append}
 use Rattle.std.specs.Str.Lines.{strip_carriage_return}
@@ -8,14 +7,14 @@ use Rattle.ap_config.specs.declared.config.RadioConfig.{RadioConfig}
 use Rattle.events.specs.declared.line.Line.{Line}
 use Rattle.text_io.specs.Faults.{◌>>=◌, read_ending}
 use Rattle.text_io.specs.Texts.{LacksLineFeed, ended}
-use Rattle.trace.specs.TraceText.{max_lines, bssids_of, line_of, lines_from, lines_of}
-use Rattle.trace.specs.Pieces.{ReaderView, HasRead, Takes, TakesMore, AreTaken, AreTakenSoFar, Remains, EndsPiece, after_line, as_list, new_reader, whole_lines, unfinished_line, before_line, said_in, said_after, answer_to, answer_to_end, after_piece, past}
+use Rattle.trace.specs.TraceText.{bssids_of, line_of, lines_from, lines_of}
+use Rattle.trace.specs.Pieces.{ReaderView, HasRead, Takes, TakesMore, AreTaken, AreTakenSoFar, Remains, EndsPiece, after_line, as_list, new_reader, whole_lines, before_line, said_in, said_after, answer_to, answer_to_end, after_piece, past}
 use Rattle.text_io.specs.Endings.{Gives, IsFaultOf}
 use Rattle.text_io.specs.EndingLaws.{same_fault}
 use Rattle.text_io.specs.declared.read_fault.ReadFault.{ReadFault}
 use Rattle.trace.specs.declared.fault.TraceFault.{TraceFault}
 use Rattle.trace.specs.LineLaws.{whole_lines_line, unfinished_line_line, whole_lines_none, unfinished_line_none}
-use Rattle.trace.proofs.PieceLaws.{limited, lines_from-append, read-end, read-fault, read-more, read-nothing, said_after-none}
+use Rattle.trace.proofs.PieceLaws.{limited, read-end, read-fault, read-more, read-nothing, said_after-none}
 use Rattle.ap_config.specs.Samples.{radio}
 
 -- nothing before a text
@@ -29,131 +28,12 @@ pub held_says : (r : ReaderView) (text : List ℕ) → LacksLineFeed text
     → said_in r text ≡ before_line (r.ended_lines + 1) text []
 held_says r text lacks =
     let same : r.ended_lines + 0 + 1 ≡ r.ended_lines + 1 = omega arith in
-    ap
-    (λ (whole : List (List ℕ)).
-    lines_from r.bssids (r.ended_lines + 1) whole >>= λ ls. before_line (r.ended_lines + length whole + 1) (unfinished_line text) ls)
-    (whole_lines_none text lacks)
-    ∙ ap (λ (u : List ℕ). before_line (r.ended_lines + 0 + 1) u []) (unfinished_line_none text lacks)
-    ∙ ap (λ n. before_line n text []) same
+    rw (whole_lines_none text lacks, unfinished_line_none text lacks, same) refl
 
 pub held_past : (r : ReaderView) (text : List ℕ) → LacksLineFeed text → record r { unfinished = text } ≡ past r text
 held_past r text lacks =
-    let same : r.ended_lines ≡ r.ended_lines + length (whole_lines text) =
-    omega (arith, ap length (whole_lines_none text lacks)) in
-    ap (λ (n : ℕ). record r { ended_lines = n; unfinished = text }) same
-    ∙ ap
-    (λ (u : List ℕ). record r { ended_lines = r.ended_lines + length (whole_lines text); unfinished = u })
-    (sym (unfinished_line_none text lacks))
-
--- ---- lines, one after another
-
-added : (said : Option Line) (later : Result (List Line) TraceFault)
-    → (later >>= λ ls. Ok (option_to_list said ++ ls)) ≡ said_after (option_to_list said) later
-added said (Ok ls) = refl
-added said (Err met) = refl
-
--- what a line says stands before what the later ones say
-pub lines_from-said : (bssids : List (List ℕ)) (number : ℕ) (line : List ℕ) (rest : List (List ℕ)) (said : Option Line)
-    → line_of bssids number line ≡ Ok said
-    → lines_from bssids number (line ∷ rest) ≡ said_after (option_to_list said) (lines_from bssids (number + 1) rest)
-lines_from-said bssids number line rest said e =
-    ap
-    (λ (one : Result (Option Line) TraceFault).
-    one >>= λ o. lines_from bssids (number + 1) rest >>= λ ls. Ok (option_to_list o ++ ls))
-    e
-    ∙ added said (lines_from bssids (number + 1) rest)
-
--- a line with a fault is the fault
-pub lines_from-fault : (bssids : List (List ℕ)) (number : ℕ) (line : List ℕ) (rest : List (List ℕ)) (met : TraceFault)
-    → line_of bssids number line ≡ Err met
-    → lines_from bssids number (line ∷ rest) ≡ Err met
-lines_from-fault bssids number line rest met e =
-    ap
-    (λ (one : Result (Option Line) TraceFault).
-    one >>= λ o. lines_from bssids (number + 1) rest >>= λ ls. Ok (option_to_list o ++ ls))
-    e
-
--- a line alone
-pub lines_from-one : (bssids : List (List ℕ)) (number : ℕ) (line : List ℕ) (said : Option Line)
-    → line_of bssids number line ≡ Ok said → lines_from bssids number (line ∷ []) ≡ Ok (option_to_list said)
-lines_from-one bssids number line said e =
-    lines_from-said bssids number line [] said e ∙ ap (λ (all : List Line). Ok all) (append-nil (option_to_list said))
-
--- what the lines of a text say that come next, and before the line after them
-abbrev pub then_more : ReaderView → List ℕ → Result (List Line) TraceFault → Result (List Line) TraceFault
-then_more r text said = do
-  all ← said
-  before_line (r.ended_lines + 1 + length (whole_lines text) + 1) (unfinished_line text) all
-
-abbrev then_text : ReaderView → List ℕ → Result (List Line) TraceFault → Result (List Line) TraceFault
-then_text r text one = do
-  first ← one
-  said_after first (lines_from r.bssids (r.ended_lines + 1 + 1) (whole_lines text))
-
--- the unfinished line ends, and others come
-says_both : (r : ReaderView) (end text : List ℕ) → LacksLineFeed r.unfinished → LacksLineFeed end
-    → said_in r (r.unfinished ++ ended end ++ text)
-    ≡ then_more r text
-    (then_text r text (lines_from r.bssids (r.ended_lines + 1) (strip_carriage_return (r.unfinished ++ end) ∷ [])))
-says_both r end text before after =
-    let line : List ℕ = strip_carriage_return (r.unfinished ++ end) in
-    let one : r.ended_lines + 1 + length (line ∷ []) ≡ r.ended_lines + 1 + 1 = omega arith in
-    let number : r.ended_lines + length (line ∷ whole_lines text) + 1 ≡ r.ended_lines + 1 + length (whole_lines text) + 1 =
-    omega arith in
-    ap
-    (λ (whole : List (List ℕ)).
-    lines_from r.bssids (r.ended_lines + 1) whole >>= λ ls. before_line (r.ended_lines + length whole + 1) (unfinished_line (r.unfinished ++ ended end ++ text)) ls)
-    (whole_lines_line r.unfinished end text before after)
-    ∙ ap
-    (λ (u : List ℕ).
-    lines_from r.bssids (r.ended_lines + 1) (line ∷ whole_lines text) >>= λ ls. before_line (r.ended_lines + length (line ∷ whole_lines text) + 1) u ls)
-    (unfinished_line_line r.unfinished end text before after)
-    ∙ ap
-    (λ n. lines_from r.bssids (r.ended_lines + 1) (line ∷ whole_lines text) >>= λ ls. before_line n (unfinished_line text) ls)
-    number
-    ∙ ap
-    (then_more r text)
-    (lines_from-append r.bssids (r.ended_lines + 1) (line ∷ []) (whole_lines text)
-    ∙ ap
-    (λ n. lines_from r.bssids (r.ended_lines + 1) (line ∷ []) >>= λ first. said_after first (lines_from r.bssids n (whole_lines text)))
-    one)
-
--- what that line says, and then what the others say
-abbrev SayBoth : ReaderView → List ℕ → List ℕ → List Line → Result (List Line) TraceFault → Type 0
-SayBoth r end text first all =
-    (lines_from r.bssids (r.ended_lines + 1) (strip_carriage_return (r.unfinished ++ end) ∷ []) ≡ Ok first)
-    × (said_after first (lines_from r.bssids (r.ended_lines + 1 + 1) (whole_lines text)) ≡ all)
-
--- that line has a fault
-pub next-first_fault : (r : ReaderView) (end text : List ℕ) (met : TraceFault)
-    → LacksLineFeed r.unfinished → LacksLineFeed end
-    → lines_from r.bssids (r.ended_lines + 1) (strip_carriage_return (r.unfinished ++ end) ∷ []) ≡ Err met
-    → said_in r (r.unfinished ++ ended end ++ text) ≡ Err met
-next-first_fault r end text met before after e =
-    says_both r end text before after
-    ∙ ap (λ (one : Result (List Line) TraceFault). then_more r text (then_text r text one)) e
-
--- another has a fault, or none
-pub next-says : (r : ReaderView) (end text : List ℕ) (first : List Line) (all : Result (List Line) TraceFault)
-    → LacksLineFeed r.unfinished → LacksLineFeed end → SayBoth r end text first all
-    → said_in r (r.unfinished ++ ended end ++ text) ≡ then_more r text all
-next-says r end text first all before after h =
-    says_both r end text before after
-    ∙ ap (λ (one : Result (List Line) TraceFault). then_more r text (then_text r text one)) h.0
-    ∙ ap (then_more r text) h.1
-
-pub next-past : (r : ReaderView) (end text : List ℕ) (count : ℕ) → LacksLineFeed r.unfinished → LacksLineFeed end
-    → count ≡ r.ended_lines + 1 + length (whole_lines text)
-    → record r { ended_lines = count; unfinished = unfinished_line text }
-    ≡ past r (r.unfinished ++ ended end ++ text)
-next-past r end text count before after same =
-    let on : List ℕ = r.unfinished ++ ended end ++ text in
-    let number : count ≡ r.ended_lines + length (whole_lines on) =
-    omega (arith, same, ap length (whole_lines_line r.unfinished end text before after)) in
-    ap (λ (n : ℕ). record r { ended_lines = n; unfinished = unfinished_line text }) number
-    ∙ ap
-    (λ (u : List ℕ). record r { ended_lines = r.ended_lines + length (whole_lines on); unfinished = u })
-    (sym (unfinished_line_line r.unfinished end text before after))
+    let same : r.ended_lines + 0 ≡ r.ended_lines = omega arith in
+    rw (whole_lines_none text lacks, unfinished_line_none text lacks, same) refl
 
 -- ---- a piece, line after line
 
@@ -163,43 +43,41 @@ said_after-assoc before more (Ok ls) = ap (λ (all : List Line). Ok all) (sym (a
 said_after-assoc before more (Err met) = refl
 
 -- what was said before stands before what comes, whether a line may begin there or not
-limit_after : (over : Bool) (number : ℕ) (first more : List Line)
-    → limited over number (first ++ more) ≡ said_after first (limited over number more)
-limit_after true number first more = refl
-limit_after false number first more = refl
-
-before_after : (number : ℕ) (octets : List ℕ) (first : List Line) (read : Result (List Line) TraceFault)
-    → (said_after first read >>= λ all. before_line number octets all)
-    ≡ said_after first (read >>= λ more. before_line number octets more)
-before_after number octets first (Ok more) =
-    limit_after (nat_lt max_lines number && nat_lt 0 (length octets)) number first more
-before_after number octets first (Err met) = refl
+limit_after : (first : List Line) (read : Result (List Line) TraceFault) (over : Bool) (number : ℕ)
+    → ((read >>= λ more. Ok (first ++ more)) >>= λ all. limited over number all)
+    ≡ said_after first (read >>= λ more. limited over number more)
+limit_after first (Ok more) true number = refl
+limit_after first (Ok more) false number = refl
+limit_after first (Err met) over number = refl
 
 -- the unfinished line ends and says this, and a text comes after it
-pub line_then : (r : ReaderView) (end text : List ℕ) (said : Option Line) → LacksLineFeed r.unfinished → LacksLineFeed end
+line_then : (r : ReaderView) (end text : List ℕ) (said : Option Line) → LacksLineFeed r.unfinished → LacksLineFeed end
     → line_of r.bssids (r.ended_lines + 1) (strip_carriage_return (r.unfinished ++ end)) ≡ Ok said
     → said_in r (r.unfinished ++ ended end ++ text) ≡ said_after (option_to_list said) (said_in (after_line r) text)
 line_then r end text said before after e =
-    next-says r end text (option_to_list said)
-    (said_after (option_to_list said) (lines_from r.bssids (r.ended_lines + 1 + 1) (whole_lines text)))
-    before after
-    (lines_from-one r.bssids (r.ended_lines + 1) (strip_carriage_return (r.unfinished ++ end)) said e, refl)
-    ∙ before_after (r.ended_lines + 1 + length (whole_lines text) + 1) (unfinished_line text) (option_to_list said)
-    (lines_from r.bssids (r.ended_lines + 1 + 1) (whole_lines text))
+    let line : List ℕ = strip_carriage_return (r.unfinished ++ end) in
+    let number : r.ended_lines + length (line ∷ whole_lines text) + 1 ≡ r.ended_lines + 1 + length (whole_lines text) + 1 =
+    omega arith in
+    rw
+    (whole_lines_line r.unfinished end text before after, unfinished_line_line r.unfinished end text before after, e, number)
+    (limit_after (option_to_list said) (lines_from r.bssids (r.ended_lines + 1 + 1) (whole_lines text)) _ _)
 
 -- it ends and has a fault
-pub line_refused : (r : ReaderView) (end text : List ℕ) (met : TraceFault) → LacksLineFeed r.unfinished → LacksLineFeed end
+line_refused : (r : ReaderView) (end text : List ℕ) (met : TraceFault) → LacksLineFeed r.unfinished → LacksLineFeed end
     → line_of r.bssids (r.ended_lines + 1) (strip_carriage_return (r.unfinished ++ end)) ≡ Err met
     → said_in r (r.unfinished ++ ended end ++ text) ≡ Err met
-line_refused r end text met before after e =
-    next-first_fault r end text met before after
-    (lines_from-fault r.bssids (r.ended_lines + 1) (strip_carriage_return (r.unfinished ++ end)) [] met e)
+line_refused r end text met before after e = rw (whole_lines_line r.unfinished end text before after, e) refl
 
 -- the reader then
-pub line_past : (r : ReaderView) (end text : List ℕ) → LacksLineFeed r.unfinished → LacksLineFeed end
+line_past : (r : ReaderView) (end text : List ℕ) → LacksLineFeed r.unfinished → LacksLineFeed end
     → past (after_line r) text ≡ past r (r.unfinished ++ ended end ++ text)
 line_past r end text before after =
-    next-past r end text (r.ended_lines + 1 + length (whole_lines text)) before after refl
+    let line : List ℕ = strip_carriage_return (r.unfinished ++ end) in
+    let number : r.ended_lines + length (line ∷ whole_lines text) ≡ r.ended_lines + 1 + length (whole_lines text) =
+    omega arith in
+    rw
+    (whole_lines_line r.unfinished end text before after, unfinished_line_line r.unfinished end text before after, number)
+    refl
 
 -- an answer, where there is one
 answer_is : (answer : Result (List Line) TraceFault) (P : List Line → Type 0) → IsOkAnd answer P
