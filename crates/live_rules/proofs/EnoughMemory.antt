@@ -51,61 +51,42 @@ answers-only m (asked ∷ said) (answer ∷ answers) next h k =
     (λ (a : Answer). a ∷ answers_of (after_answer m asked a) said)
     (answer-only m asked answer h.0 k.0)
 
--- ---- that it may be
+-- ---- that it may be, and that nothing is refused in it
 
-reply-may : (n : NetworkState) (e : Event) → MayReply n e (reply_of n e)
-reply-may n e = by (is_past_clock n e) refl
+reply-fits : (n : NetworkState) (e : Event) → MayReply n e (reply_of n e) × HasMemory (reply_of n e)
+reply-fits n e = by (is_past_clock n e) refl
   where
-    by : (b : Bool) → is_past_clock n e ≡ b → MayReply n e (reply_of n e)
-    by true is = rw is (sym (rw is refl))
-    by false is = rw is (sym (rw is refl))
+    by : (b : Bool) → is_past_clock n e ≡ b → MayReply n e (reply_of n e) × HasMemory (reply_of n e)
+    by true is = rw is (sym (rw is refl), tt)
+    by false is = rw is (sym (rw is refl), tt)
 
-reply-if-may : (n : NetworkState) (event : Option Event) → MayReplyIf n event (reply_if n event)
-reply-if-may n None = refl
-reply-if-may n (Some e) = reply-may n e
+reply-if-fits : (n : NetworkState) (event : Option Event)
+    → MayReplyIf n event (reply_if n event) × IfSome (reply_if n event) HasMemory
+reply-if-fits n None = (refl, tt)
+reply-if-fits n (Some e) = reply-fits n e
 
-line-may : (place : ℕ) (ns : List NetworkState) (line : Line) → MayReplyFrom place ns line (replies_from place ns line)
-line-may place [] line = refl
-line-may place (n ∷ ns) line = (reply-if-may n (event_at place n line), line-may (place + 1) ns line)
+line-fits : (place : ℕ) (ns : List NetworkState) (line : Line)
+    → MayReplyFrom place ns line (replies_from place ns line)
+    × AllByRecursion (λ reply. IfSome reply HasMemory) (replies_from place ns line)
+line-fits place [] line = (refl, tt)
+line-fits place (n ∷ ns) line =
+    let one = reply-if-fits n (event_at place n line) in
+    let others = line-fits (place + 1) ns line in
+    ((one.0, others.0), (one.1, others.1))
 
-answer-may : (m : Moment) (asked : Asked) → MayAnswer m asked (answer_of m asked)
-answer-may m ForTables = refl
-answer-may m (Says (Ok None)) = refl
-answer-may m (Says (Ok (Some line))) = line-may 0 m.networks line
-answer-may m (Says (Err fault)) = refl
+answer-fits : (m : Moment) (asked : Asked) → MayAnswer m asked (answer_of m asked) × IsUnrefused (answer_of m asked)
+answer-fits m ForTables = (refl, tt)
+answer-fits m (Says (Ok None)) = (refl, tt)
+answer-fits m (Says (Ok (Some line))) = line-fits 0 m.networks line
+answer-fits m (Says (Err fault)) = (refl, tt)
 
 pub answers-may : (m : Moment) (said : List Asked) → (next : Moment) × Answers m said (answers_of m said) next
 answers-may m [] = (m, refl)
 answers-may m (asked ∷ said) =
     let on = answers-may (after_answer m asked (answer_of m asked)) said in
-    (on.0, (answer-may m asked, on.1))
-
--- ---- and that nothing is refused in it
-
-reply-has-memory : (n : NetworkState) (e : Event) → HasMemory (reply_of n e)
-reply-has-memory n e = by (is_past_clock n e) refl
-  where
-    by : (b : Bool) → is_past_clock n e ≡ b → HasMemory (reply_of n e)
-    by true is = rw is tt
-    by false is = rw is tt
-
-reply-if-has-memory : (n : NetworkState) (event : Option Event) → IfSome (reply_if n event) HasMemory
-reply-if-has-memory n None = tt
-reply-if-has-memory n (Some e) = reply-has-memory n e
-
-line-has-memory : (place : ℕ) (ns : List NetworkState) (line : Line)
-    → AllByRecursion (λ reply. IfSome reply HasMemory) (replies_from place ns line)
-line-has-memory place [] line = tt
-line-has-memory place (n ∷ ns) line =
-    (reply-if-has-memory n (event_at place n line), line-has-memory (place + 1) ns line)
-
-answer-unrefused : (m : Moment) (asked : Asked) → IsUnrefused (answer_of m asked)
-answer-unrefused m ForTables = tt
-answer-unrefused m (Says (Ok None)) = tt
-answer-unrefused m (Says (Ok (Some line))) = line-has-memory 0 m.networks line
-answer-unrefused m (Says (Err fault)) = tt
+    (on.0, ((answer-fits m asked).0, on.1))
 
 pub answers-unrefused : (m : Moment) (said : List Asked) → AreUnrefused (answers_of m said)
 answers-unrefused m [] = tt
 answers-unrefused m (asked ∷ said) =
-    (answer-unrefused m asked, answers-unrefused (after_answer m asked (answer_of m asked)) said)
+    ((answer-fits m asked).1, answers-unrefused (after_answer m asked (answer_of m asked)) said)

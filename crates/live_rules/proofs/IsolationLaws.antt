@@ -2,17 +2,16 @@
 use Rattle.std.proofs.Common.{◌≡◌, ℕ, suc, zero, ◌<◌, List, [], ◌∷◌, ◌++◌, length, map, take, Option, Some, None, Ok, Err, refl, sym, ap, subst, ◌∙◌}
 use Rattle.std.specs.Prelude.{slice_get, option_map}
 use Rattle.std.proofs.lemmas.Option.{slice_get-get_or, slice_get-map}
-use Rattle.network.specs.Network.{Network, alone}
+use Rattle.network.specs.Network.{Network}
 use Rattle.ap_config.specs.declared.setting.Setting.{Setting}
 use Rattle.network.specs.NetworkView.{NetworkState, new_network}
 use Rattle.ap_config.specs.Places.{network_at, setting_in, setting_at, no_network}
 use Rattle.ap_config.specs.declared.config.NetConfig.{NetConfig}
 use Rattle.ap_config.specs.declared.config.RadioConfig.{RadioConfig}
-use Rattle.events.specs.declared.event.Event.{Event}
 use Rattle.live_rules.specs.Moments.{Moment, first_moment, bssid_of}
 use Rattle.live_rules.specs.Asked.{Asked, ForTables, Says}
 use Rattle.live_rules.specs.Answers.{Answer, Tables, MayAnswer, after_answer, Answers}
-use Rattle.live_rules.specs.Own.{events_at, air_at, wire_at, alone_after, course, IsAlone, AreAlike}
+use Rattle.live_rules.specs.Own.{air_at, wire_at, course, IsAlone, AreAlike}
 use Rattle.live_rules.proofs.OwnSteps.{AloneLaws, alone_after-none}
 use Rattle.live_rules.proofs.OwnLines.{OwnAlone, own}
 
@@ -107,14 +106,8 @@ pub alike : Isolated → (c d : RadioConfig) (said others : List Asked) (answers
 alike isolated c d said others answers replies next after p q h first second =
     let one = isolated c said answers next p h.here first in
     let two = isolated d others replies after q h.there second in
-    let s = setting-alike c d p q h.channel h.interval h.network in
-    let network : alone (setting_at c p) (events_at c p said answers) ≡ alone (setting_at d q) (events_at d q others replies) =
-    ap (λ (t : Setting). alone t (events_at c p said answers)) s
-    ∙ ap (λ (es : List Event). alone (setting_at d q) es) h.events in
-    let state : alone_after (setting_at c p) (events_at c p said answers) ≡ alone_after (setting_at d q) (events_at d q others replies) =
-    ap (λ (t : Setting). alone_after t (events_at c p said answers)) s
-    ∙ ap (λ (es : List Event). alone_after (setting_at d q) es) h.events in (
-      one.air ∙ ap (λ (n : Network). n.air) network ∙ sym two.air,
-      one.wire ∙ ap (λ (n : Network). n.wire) network ∙ sym two.wire,
-      one.last ∙ ap (λ (n : NetworkState). Some n) state ∙ sym two.last,
+    let s = setting-alike c d p q h.channel h.interval h.network in (
+      rw (s, h.events) at one.air ∙ sym two.air,
+      rw (s, h.events) at one.wire ∙ sym two.wire,
+      rw (s, h.events) at one.last ∙ sym two.last,
     )

@@ -1,5 +1,5 @@
 -- The answers to what is said, and then to more.
-use Rattle.std.proofs.Common.{◌≡◌, ℕ, suc, ◌+◌, List, [], ◌∷◌, ◌++◌, length, Some, Ok}
+use Rattle.std.proofs.Common.{◌≡◌, suc, ◌+◌, List, [], ◌∷◌, ◌++◌, length, Some, Ok}
 use Rattle.std.proofs.Common.{refl, sym, ap, subst, ◌∙◌, arith}
 use Rattle.live_rules.specs.Moments.{Moment, bssids_at}
 use Rattle.live_rules.specs.Asked.{Asked, Says}
@@ -51,17 +51,6 @@ lines-answer : (m : Moment) (asked : Asked) (answer : Answer) → (after_answer 
 lines-answer m (Says (Ok (Some line))) (Replies rs) = refl
 lines-answer m asked answer = refl
 
-lines-answers : (m : Moment) (said : List Asked) (answers : List Answer) (next : Moment)
-    → Answers m said answers next → next.lines ≡ m.lines + length answers
-lines-answers m [] [] next h = let same : next.lines ≡ m.lines = ap (λ (o : Moment). o.lines) h in omega arith
-lines-answers m [] (answer ∷ answers) next h = absurd h
-lines-answers m (asked ∷ said) [] next h = absurd h
-lines-answers m (asked ∷ said) (answer ∷ answers) next h =
-    let on : next.lines ≡ (after_answer m asked answer).lines + length answers =
-    lines-answers (after_answer m asked answer) said answers next h.1 in
-    let one : (after_answer m asked answer).lines ≡ m.lines + 1 = lines-answer m asked answer in
-    omega (arith, on, one)
-
 -- as many answers as there is said
 pub length-answers : (m : Moment) (said : List Asked) (answers : List Answer) (next : Moment)
     → Answers m said answers next → length answers ≡ length said
@@ -73,9 +62,11 @@ length-answers m (asked ∷ said) (answer ∷ answers) next h =
 
 pub lines-said : (m : Moment) (said : List Asked) (answers : List Answer) (next : Moment)
     → Answers m said answers next → next.lines ≡ m.lines + length said
-lines-said m said answers next h =
-    lines-answers m said answers next h
-    ∙ ap (λ (k : ℕ). m.lines + k) (length-answers m said answers next h)
+lines-said m [] [] next h = let same : next.lines ≡ m.lines = ap (λ (o : Moment). o.lines) h in omega arith
+lines-said m [] (answer ∷ answers) next h = absurd h
+lines-said m (asked ∷ said) [] next h = absurd h
+lines-said m (asked ∷ said) (answer ∷ answers) next h =
+    omega (arith, lines-said (after_answer m asked answer) said answers next h.1, lines-answer m asked answer)
 
 pub bssids-answers : (m : Moment) (said : List Asked) (answers : List Answer) (next : Moment)
     → Answers m said answers next → bssids_at next ≡ bssids_at m

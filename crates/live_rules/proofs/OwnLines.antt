@@ -1,5 +1,5 @@
 -- What one network does about lines, among the others.
-use Rattle.std.proofs.Common.{◌≡◌, ℕ, suc, zero, ◌+◌, List, [], ◌∷◌, ◌++◌, map, Option, Some, None, Ok, Err, refl, sym, ap, subst, ◌∙◌, arith, append_assoc, append-nil}
+use Rattle.std.proofs.Common.{◌≡◌, ℕ, suc, zero, ◌+◌, List, [], ◌∷◌, ◌++◌, map, Option, Some, None, Ok, refl, sym, ap, ◌∙◌, arith, append_assoc, append-nil}
 use Rattle.std.specs.Prelude.{slice_get, option_to_list}
 use Rattle.std.specs.List.{slice_index_or}
 use Rattle.network.specs.Network.{alone}
@@ -7,7 +7,7 @@ use Rattle.network.specs.NetworkView.{NetworkState}
 use Rattle.events.specs.declared.event.Event.{Event}
 use Rattle.events.specs.declared.line.Line.{Line}
 use Rattle.ap_config.specs.declared.setting.Setting.{Setting}
-use Rattle.live_rules.specs.Asked.{Asked, ForTables, Says}
+use Rattle.live_rules.specs.Asked.{Asked, Says}
 use Rattle.live_rules.specs.Answers.{Answer, Replies, MayReplyFrom, after_line_from, MayAnswer, after_answer, Answers}
 use Rattle.live_rules.specs.Dispatch.{event_at}
 use Rattle.live_rules.specs.Moments.{Moment, bssid_of, bssids_at, Reply, MayReplyIf, taken_if, after_if}
@@ -26,15 +26,9 @@ pub at-place : (first k place : ℕ) (ns : List NetworkState) (line : Line) (rs 
 at-place first k place [] line rs n same h e = absurd (cc)
 at-place first k place (m ∷ ns) line [] n same h e = absurd h
 at-place first zero place (m ∷ ns) line (r ∷ rs) n same h e =
-    let is : m ≡ n = cc in
-    let here : first ≡ place = omega arith in
-    subst
-    (λ p. RepliesThere n (event_at p n line) r (Some (after_if m (taken_if (event_at first m line) r))))
-    here
-    (subst
-    (λ (o : NetworkState).
-    RepliesThere o (event_at first o line) r (Some (after_if m (taken_if (event_at first m line) r))))
-    is (h.0, refl))
+    let is : n ≡ m = cc in
+    let here : place ≡ first = omega arith in
+    rw (is, here) (h.0, refl)
 at-place first (suc k) place (m ∷ ns) line (r ∷ rs) n same h e =
     at-place (first + 1) k place ns line rs n (omega arith) h.1 e
 
@@ -44,9 +38,7 @@ bssids-line : (first : ℕ) (ns : List NetworkState) (line : Line) (rs : List (O
 bssids-line first [] line rs = refl
 bssids-line first (n ∷ ns) line [] = refl
 bssids-line first (n ∷ ns) line (r ∷ rs) =
-    ap (λ (b : List ℕ). b ∷ map bssid_of (after_line_from (first + 1) ns line rs))
-    (ap (λ s. s.network.bssid) (setting-if n (taken_if (event_at first n line) r)))
-    ∙ ap (λ (bs : List (List ℕ)). bssid_of n ∷ bs) (bssids-line (first + 1) ns line rs)
+    λ i. (setting-if n (taken_if (event_at first n line) r) i).network.bssid ∷ bssids-line (first + 1) ns line rs i
 
 pub bssids-answer : (m : Moment) (asked : Asked) (answer : Answer) → bssids_at (after_answer m asked answer) ≡ bssids_at m
 bssids-answer m (Says (Ok (Some line))) (Replies rs) = bssids-line 0 m.networks line rs
@@ -68,9 +60,7 @@ one-line : (place : ℕ) (m : Moment) (n : NetworkState) (asked : Asked) (answer
 one-line place m n (Says (Ok (Some line))) (Replies rs) h e =
     let one = at-place 0 place place m.networks line rs n (omega arith) h e in
     (may-have n (event_at place n line) (slice_index_or rs place None) one.0, one.1)
-one-line place m n ForTables (Replies rs) h e = absurd (cc)
-one-line place m n (Says (Ok None)) (Replies rs) h e = absurd (cc)
-one-line place m n (Says (Err fault)) (Replies rs) h e = absurd (cc)
+one-line place m n asked (Replies rs) h e = absurd (cc)
 one-line place m n asked answer h e = (
   tt,
   e ∙ ap (λ (o : Option Event). Some (after_if n o)) (sym (taken-none (event_in place (bssid_of n) asked))),

@@ -1,5 +1,5 @@
 -- What one network replies, and what becomes of it, whatever the other networks do.
-use Rattle.std.proofs.Common.{◌≡◌, ℕ, Bool, true, false, List, [], ◌∷◌, ◌++◌, length, Option, Some, None, refl, sym, ap, ◌∙◌, append-nil}
+use Rattle.std.proofs.Common.{◌≡◌, ℕ, Bool, true, false, List, [], ◌∷◌, ◌++◌, Option, Some, None, refl, sym, ap, ◌∙◌, append-nil}
 use Rattle.std.specs.Prelude.{option_to_list, if◌then◌else◌}
 use Rattle.std.proofs.lemmas.List.{length_push}
 use Rattle.network.specs.Network.{Network, empty_network, step, alone}
@@ -57,12 +57,7 @@ sent laws s es e air wire h =
     let n : NetworkState = alone_after s es in
     let parts = sends-parts (is_past_clock n e) air wire (sending n e).air (sending n e).wire h in
     record {
-      after = ap
-          (λ (k : ℕ). let m : NetworkState = record { setting = s; events = k; network = unsent (step s (unsent (alone s es)) e) } in m)
-          (sym (length_push es e))
-          ∙ ap
-          (λ (n : Network). let m : NetworkState = record { setting = s; events = length (es ++ e ∷ []); network = unsent n } in m)
-          (sym more);
+      after = rw (more, length_push es e) refl;
       air = ap (λ (n : Network). n.air) more ∙ ap (λ (fs : List (List ℕ)). (alone s es).air ++ fs) (sym parts.0);
       wire = ap (λ (n : Network). n.wire) more ∙ ap (λ (fs : List (List ℕ)). (alone s es).wire ++ fs) (sym parts.1);
     }

@@ -1,5 +1,5 @@
 -- The lines of a text, however it is cut.
-use Rattle.std.proofs.Common.{◌≡◌, ℕ, ◌+◌, ◌-◌, ◌<◌, ◌≤◌, Bool, true, false, List, [], ◌∷◌, ◌++◌, length, map, take, drop}
+use Rattle.std.proofs.Common.{◌≡◌, ℕ, ◌+◌, ◌-◌, ◌<◌, ◌≤◌, Bool, true, false, List, [], ◌∷◌, ◌++◌, length, map, take}
 use Rattle.std.proofs.Common.{Option, Some, None, refl, sym, ap, ◌∙◌, arith, length-append, length-take}
 use Rattle.std.specs.Prelude.{nat_lt, ◌==◌, slice_index, if◌then◌else◌}
 use Rattle.std.specs.List.{position}
@@ -31,9 +31,6 @@ stripped line = by (slice_index line (length line - 1) == 13)
 
 -- ---- a partial line has no LF
 
-apart : {x : List ℕ} {xs : List (List ℕ)} → [] ≡ x ∷ xs → ⊥
-apart e = cc
-
 unfinished-lacks : (text : List ℕ) → LacksLineFeed (unfinished_line text)
 unfinished-lacks text = by (position is_line_feed (unfinished_line text)) refl
   where
@@ -45,9 +42,7 @@ unfinished-lacks text = by (position is_line_feed (unfinished_line text)) refl
 
     by : (p : Option ℕ) → position is_line_feed line ≡ p → LacksLineFeed line
     by None is = lacks_from_none line is
-    by (Some n) is =
-        let first = whole_lines_first line n is in
-        absurd (apart (sym none ∙ first))
+    by (Some n) is = let first = whole_lines_first line n is in absurd (cc (none, first))
 
 -- ---- a line that is too long, and a piece after it
 
@@ -61,15 +56,16 @@ long-ends line piece lacks long = by (position is_line_feed piece) refl
     by : (p : Option ℕ) → position is_line_feed piece ≡ p
         → ended_lines (line ++ piece) ≡ with_first_too_long (ended_lines piece)
     by None is =
-        ap (map line_with) (whole_lines_none (line ++ piece) (lacks_both line piece lacks is))
-        ∙ sym (ap (λ ls. with_first_too_long (map line_with ls)) (whole_lines_none piece (lacks_from_none piece is)))
+        rw
+        (whole_lines_none (line ++ piece) (lacks_both line piece lacks is), whole_lines_none piece (lacks_from_none piece is))
+        refl
     by (Some n) is =
         let first : List ℕ = line ++ take n piece in
         let many : max_line < length (strip_carriage_return first) =
         omega (arith, stripped first, length-append line (take n piece), long) in
-        ap (map line_with) (whole_lines_more line piece n lacks is)
-        ∙ ap (λ l. l ∷ ended_lines (drop (n + 1) piece)) (over max_line (strip_carriage_return first) many)
-        ∙ sym (ap (λ ls. with_first_too_long (map line_with ls)) (whole_lines_first piece n is))
+        rw
+        (whole_lines_more line piece n lacks is, over max_line (strip_carriage_return first) many, whole_lines_first piece n is)
+        refl
 
 long-begins : (line piece : List ℕ) → LacksLineFeed line → IsLong line
     → partial_in (line ++ piece) ≡ unless_ended (ended_lines piece) (partial_in piece)
@@ -81,10 +77,7 @@ long-begins line piece lacks long = by (position is_line_feed piece) refl
         let many : max_line + 1 < length (line ++ piece) = omega (arith, length-append line piece, long) in
         ap partial_with (unfinished_line_none (line ++ piece) (lacks_both line piece lacks is))
         ∙ over (max_line + 1) (line ++ piece) many
-        ∙ sym
-        (ap
-        (λ ls. unless_ended (map line_with ls) (partial_in piece))
-        (whole_lines_none piece (lacks_from_none piece is)))
+        ∙ rw (whole_lines_none piece (lacks_from_none piece is)) refl
     by (Some n) is =
         ap partial_with (unfinished_line_more line piece n lacks is ∙ sym (unfinished_line_first piece n is))
         ∙ sym (ap (λ ls. unless_ended (map line_with ls) (partial_in piece)) (whole_lines_first piece n is))

@@ -1,31 +1,25 @@
 -- Octets are one list of records, however they are cut.
-use Rattle.std.proofs.Common.{◌≡◌, ℕ, ◌+◌, ◌-◌, ◌*◌, ◌<◌, ◌≤◌, Bool, true, false, List, [], ◌∷◌, ◌++◌, length, take, Option, Some, None}
+use Rattle.std.proofs.Common.{◌≡◌, ℕ, ◌+◌, ◌-◌, ◌*◌, ◌<◌, ◌≤◌, Bool, true, false, List, [], ◌∷◌, ◌++◌, length, take, Option, Some}
 use Rattle.std.proofs.Common.{refl, sym, ap, subst, ◌∙◌, arith, append_assoc, length-append, take_at}
 use Rattle.std.specs.Prelude.{nat_lt, IfSome, slice_index}
 use Rattle.std.specs.List.{AllByRecursion}
 use Rattle.std.proofs.lemmas.Bool.{ltb-true, ltb-false, le-ltb}
+use Rattle.std.proofs.lemmas.Bool.Decides.{nat_tests}
 use Rattle.std.proofs.lemmas.List.{append_cancel_left, get_or_append_left}
 use Rattle.std.proofs.lemmas.List.Concat.{flat_map-append}
 use Rattle.live_rules.specs.Records.{record_len, IsRecord, IsPartialRecord, lacking, all_octets, AreRecords}
 
 -- ---- how long a record is
 
-index-on : (xs ys : List ℕ) (i : ℕ) → i < length xs → slice_index (xs ++ ys) i ≡ slice_index xs i
-index-on xs ys i within = get_or_append_left xs ys 0 i within
-
 -- more octets don't change it
 len-on : (xs ys : List ℕ) → 9 ≤ length xs → record_len (xs ++ ys) ≡ record_len xs
 len-on xs ys long =
     let longer : 9 ≤ length (xs ++ ys) = omega (arith, length-append xs ys) in
-    rw (le-ltb (length (xs ++ ys)) 9 longer, le-ltb (length xs) 9 long, index-on xs ys 7 (omega arith), index-on xs ys 8 (omega arith)) refl
+    rw (le-ltb (length (xs ++ ys)) 9 longer, le-ltb (length xs) 9 long, get_or_append_left xs ys 0 7 (omega arith), get_or_append_left xs ys 0 8 (omega arith)) refl
 
 -- where it is known, nine octets are there
 len-known : (xs : List ℕ) (n : ℕ) → record_len xs ≡ Some n → 9 ≤ length xs
-len-known xs n is = by (nat_lt (length xs) 9) refl
-  where
-    by : (b : Bool) → nat_lt (length xs) 9 ≡ b → 9 ≤ length xs
-    by true short = absurd (let none : record_len xs ≡ None = rw short refl in cc)
-    by false long = ltb-false (length xs) 9 long
+len-known xs n is = grind (arith, nat_tests)
 
 len-more : (xs ys : List ℕ) (n : ℕ) → record_len xs ≡ Some n → record_len (xs ++ ys) ≡ Some n
 len-more xs ys n is = len-on xs ys (len-known xs n is) ∙ is
@@ -69,13 +63,10 @@ records-one octets records others partial rest h k =
 
 -- ---- more octets
 
-each-both : (rs ss : List (List ℕ)) → AllByRecursion IsRecord rs → AllByRecursion IsRecord ss
-    → AllByRecursion IsRecord (rs ++ ss)
-each-both [] ss h k = k
-each-both (r ∷ rs) ss h k = (h.0, each-both rs ss h.1 k)
-
-octets-both : (rs ss : List (List ℕ)) → all_octets (rs ++ ss) ≡ all_octets rs ++ all_octets ss
-octets-both rs ss = flat_map-append (λ octets. octets) rs ss
+pub each-both : {X : Type 0} (P : X → Type 0) (rs ss : List X) → AllByRecursion P rs → AllByRecursion P ss
+    → AllByRecursion P (rs ++ ss)
+each-both P [] ss h k = k
+each-both P (r ∷ rs) ss h k = (h.0, each-both P rs ss h.1 k)
 
 pub records-more : (octets piece : List ℕ) (records more : List (List ℕ)) (partial rest : List ℕ)
     → AreRecords octets records partial → AreRecords (partial ++ piece) more rest
@@ -85,8 +76,8 @@ records-more octets piece records more partial rest h k = record {
       ap (λ (l : List ℕ). l ++ piece) h.all ∙ append_assoc (all_octets records) partial piece
       ∙ ap (λ (l : List ℕ). all_octets records ++ l) k.all
       ∙ sym (append_assoc (all_octets records) (all_octets more) rest)
-      ∙ ap (λ (l : List ℕ). l ++ rest) (sym (octets-both records more));
-  each = each-both records more h.each k.each;
+      ∙ ap (λ (l : List ℕ). l ++ rest) (sym (flat_map-append (λ octets. octets) records more));
+  each = each-both IsRecord records more h.each k.each;
   rest = k.rest;
 }
 

@@ -11,7 +11,7 @@ use Rattle.std.proofs.lemmas.List.FromFn.{get_or-map-range_with_len, length-map-
 use Rattle.std.proofs.lemmas.Option.{slice_get-get_or}
 use Rattle.std.proofs.lemmas.Slice.Eq.{bytes_eq-Decides}
 use Rattle.ap_config.specs.Configuration.{fault_of, network_fault}
-use Rattle.events.specs.Lines.{event_for, heard_of, heard, own_events}
+use Rattle.events.specs.Lines.{heard_of, heard, own_events}
 use Rattle.network.specs.Section.{sections_of_lines, section_of}
 use Rattle.network.specs.Network.{alone}
 use Rattle.network.specs.NetworkView.{NetworkState}
@@ -31,7 +31,7 @@ use Rattle.trace.specs.declared.fault.LineFault.{LineFault}
 use Rattle.trace.specs.declared.fault.LineFault.TheVariants.{UnknownKind, TooMany}
 use Rattle.trace.specs.declared.fault.TraceFault.{TraceFault}
 use Rattle.live_rules.specs.Asked.{Asked, ForTables, Says, asks_for_tables, asked_by, asked_by_all, asked_in}
-use Rattle.live_rules.specs.Answers.{Answer, Nothing, Replies, Tables, Faulty, MayAnswer, after_answer, Answers, HasMemory, IsUnrefused, AreUnrefused}
+use Rattle.live_rules.specs.Answers.{Answer, Replies, MayAnswer, after_answer, Answers, HasMemory, IsUnrefused, AreUnrefused}
 use Rattle.live_rules.specs.Moments.{Moment, first_moment, bssid_of, Reply, Sends, Refuses, is_past_clock, sending, MayReplyIf, taken_if}
 use Rattle.live_rules.specs.Own.{event_in, reply_in, events_taken, events_at, alone_after, course, line_said, AreLines, IsTrace, IsLikeTrace, IsShown, IsAlone}
 use Rattle.live_rules.specs.TextLines.{max_line, line_with, lines_of_text}
@@ -47,14 +47,11 @@ tables-fault : (bssids : List (List ℕ)) (octets : List ℕ) → asks_for_table
 tables-fault bssids octets is =
     ap (content_of bssids) ((bytes_eq-Decides (without_spaces_at_end octets) (codes "I")).0 is)
 
-not-over : (bssids : List (List ℕ)) (number : ℕ) (octets : List ℕ) (said : Option Line) (over : Bool)
-    → at_line number (if over then Err TooMany else said_by bssids octets) ≡ Ok said → said_by bssids octets ≡ Ok said
-not-over bssids number octets said true e = absurd (cc)
-not-over bssids number octets said false e = by (said_by bssids octets) refl
-  where
-    by : (r : Result (Option Line) LineFault) → said_by bssids octets ≡ r → said_by bssids octets ≡ Ok said
-    by (Ok x) is = is ∙ let same : at_line number (Ok x) ≡ Ok said = ap (at_line number) (sym is) ∙ e in cc
-    by (Err f) is = absurd (let same : at_line number (Err f) ≡ Ok said = ap (at_line number) (sym is) ∙ e in cc)
+not-over : (number : ℕ) (r : Result (Option Line) LineFault) (said : Option Line) (over : Bool)
+    → at_line number (if over then Err TooMany else r) ≡ Ok said → r ≡ Ok said
+not-over number r said true e = absurd (cc)
+not-over number (Ok x) said false e = cc
+not-over number (Err f) said false e = absurd (cc)
 
 -- what a line of a trace asks
 asked-line : (bssids : List (List ℕ)) (octets : List ℕ) (said : Option Line) → length octets ≤ max_line
@@ -69,52 +66,19 @@ asked-line bssids octets said short e = by (nat_lt max_line (length octets)) ref
     by false is false are = rw (is, are, e) refl
 
 -- what one line says, and what the others say
-record SaysBoth (bssids : List (List ℕ)) (number : ℕ) (line : List ℕ) (others : List (List ℕ)) (all : List Line) : Type 0
+record SaysBoth (one : Result (Option Line) TraceFault) (others : Result (List Line) TraceFault) (all : List Line) : Type 0
   where
     said : Option Line
     later : List Line
-    one : line_of bssids number line ≡ Ok said
-    rest : lines_from bssids (number + 1) others ≡ Ok later
+    one_is : one ≡ Ok said
+    rest : others ≡ Ok later
     both : option_to_list said ++ later ≡ all
 
-says-both : (bssids : List (List ℕ)) (number : ℕ) (line : List ℕ) (others : List (List ℕ)) (all : List Line)
-    → lines_from bssids number (line ∷ others) ≡ Ok all → SaysBoth bssids number line others all
-says-both bssids number line others all e =
-    by (line_of bssids number line) refl (lines_from bssids (number + 1) others) refl
-  where
-    by : (a : Result (Option Line) TraceFault) → line_of bssids number line ≡ a
-        → (b : Result (List Line) TraceFault) → lines_from bssids (number + 1) others ≡ b
-        → SaysBoth bssids number line others all
-    by (Err f) is b are =
-        absurd
-        (let same : (Err f >>= λ o. lines_from bssids (number + 1) others >>= λ later. Ok (option_to_list o ++ later)) ≡ Ok all =
-        ap
-        (λ (r : Result (Option Line) TraceFault).
-        r >>= λ o. lines_from bssids (number + 1) others >>= λ later. Ok (option_to_list o ++ later))
-        (sym is)
-        ∙ e in cc)
-    by (Ok said) is (Err f) are =
-        absurd
-        (let same : (Ok said >>= λ o. Err f >>= λ later. Ok (option_to_list o ++ later)) ≡ Ok all =
-        ap
-        (λ (r : Result (List Line) TraceFault). Ok said >>= λ o. r >>= λ later. Ok (option_to_list o ++ later))
-        (sym are)
-        ∙ ap
-        (λ (r : Result (Option Line) TraceFault).
-        r >>= λ o. lines_from bssids (number + 1) others >>= λ later. Ok (option_to_list o ++ later))
-        (sym is)
-        ∙ e in cc)
-    by (Ok said) is (Ok later) are =
-        let same : (Ok said >>= λ o. Ok later >>= λ ls. Ok (option_to_list o ++ ls)) ≡ Ok all =
-        ap
-        (λ (r : Result (List Line) TraceFault). Ok said >>= λ o. r >>= λ ls. Ok (option_to_list o ++ ls))
-        (sym are)
-        ∙ ap
-        (λ (r : Result (Option Line) TraceFault).
-        r >>= λ o. lines_from bssids (number + 1) others >>= λ ls. Ok (option_to_list o ++ ls))
-        (sym is)
-        ∙ e in
-        record { said = said; later = later; one = is; rest = are; both = cc }
+says-both : (one : Result (Option Line) TraceFault) (others : Result (List Line) TraceFault) (all : List Line)
+    → (one >>= λ o. others >>= λ later. Ok (option_to_list o ++ later)) ≡ Ok all → SaysBoth one others all
+says-both (Err f) others all e = absurd (cc)
+says-both (Ok said) (Err f) all e = absurd (cc)
+says-both (Ok said) (Ok later) all e = record { said = said; later = later; one_is = refl; rest = refl; both = cc }
 
 -- ---- no event was refused
 
@@ -170,13 +134,7 @@ reply-read place m n (Says (Ok None)) said (Replies rs) is h k e = absurd (cc)
 reply-read place m n (Says (Ok None)) said answer is h k e = refl
 reply-read place m n (Says (Ok (Some line))) said (Replies rs) is h k e =
     (at-place 0 place place m.networks line rs n (omega arith) h e).0
-reply-read place m n (Says (Ok (Some line))) said Nothing is h k e = absurd (cc)
-reply-read place m n (Says (Ok (Some line))) said (Tables ns) is h k e = absurd (cc)
-reply-read place m n (Says (Ok (Some line))) said (Faulty f) is h k e = absurd (cc)
-
-event-line : (place : ℕ) (bssid : List ℕ) (line : Line)
-    → option_to_list (event_for place bssid line) ≡ heard place bssid (option_to_list (Some line))
-event-line place bssid line = sym (append-nil (heard_of place bssid line))
+reply-read place m n (Says (Ok (Some line))) said answer is h k e = absurd (cc)
 
 event-said : (place : ℕ) (bssid : List ℕ) (asked : Asked) (said : Option Line) → line_said asked ≡ Some said
     → option_to_list (event_in place bssid asked) ≡ heard place bssid (option_to_list said)
@@ -186,7 +144,7 @@ event-said place bssid (Says (Ok None)) said is =
     let same : None ≡ said = cc in ap (λ (o : Option Line). heard place bssid (option_to_list o)) same
 event-said place bssid (Says (Ok (Some line))) said is =
     let same : Some line ≡ said = cc in
-    event-line place bssid line ∙ ap (λ (o : Option Line). heard place bssid (option_to_list o)) same
+    sym (append-nil (heard_of place bssid line)) ∙ ap (λ (o : Option Line). heard place bssid (option_to_list o)) same
 
 -- the events that the network takes of the lines are those that it hears of them
 taken-all : AloneLaws → Reachable → (s : Setting) (place : ℕ) (m : Moment) (es : List Event) (said : List Asked)
@@ -239,14 +197,13 @@ text-lines : (bssids : List (List ℕ)) (number : ℕ) (parts : List (List ℕ))
     → TextLinesOf bssids parts all
 text-lines bssids number [] all short e = record { each = []; say = refl; all = let none : all ≡ [] = cc in none }
 text-lines bssids number (line ∷ parts) all short e =
-    let says = says-both bssids number line parts all e in
-    let one : said_by bssids line ≡ Ok says.said = not-over bssids number line says.said (nat_lt max_lines number) says.one in
+    let says = says-both (line_of bssids number line) (lines_from bssids (number + 1) parts) all e in
+    let one : said_by bssids line ≡ Ok says.said = not-over number (said_by bssids line) says.said (nat_lt max_lines number) says.one_is in
     let asked : asked_by bssids (line_with line) ≡ Says (Ok says.said) = asked-line bssids line says.said short.0 one in
     let on = text-lines bssids (number + 1) parts says.later short.1 says.rest in
     record {
       each = says.said ∷ on.each;
-      say = ap (λ (a : Asked). line_said a ∷ map line_said (asked_by_all bssids (map line_with parts))) asked
-          ∙ ap (λ (os : List (Option (Option Line))). Some says.said ∷ os) on.say;
+      say = λ i. line_said (asked i) ∷ on.say i;
       all = sym says.both ∙ ap (λ (ls : List Line). option_to_list says.said ++ ls) on.all;
     }
 
@@ -281,20 +238,18 @@ network-sound (n ∷ ns) (suc place) within h = network-sound ns place (omega ar
 abbrev pub CheckedNetworks : Type 0
 CheckedNetworks = (c : RadioConfig) → fault_of c ≡ None → AllByRecursion (λ n. network_fault n ≡ None) c.networks
 
-shown : (c : RadioConfig) (place : ℕ) (said : List Asked) (answers : List Answer) (next : Moment) (es : List Event)
-    (section : Section) → IsAlone (course c said answers) place next → events_at c place said answers ≡ es
-    → section ≡ section_of (setting_at c place) es → IsShown section place answers next
-shown c place said answers next es section alone_there are is =
-    let s : Setting = setting_at c place in
-    record {
-      air = alone_there.air ∙ ap (λ (xs : List Event). (alone s xs).air) are ∙ sym (ap (λ (t : Section). t.air) is);
-      wire = alone_there.wire ∙ ap (λ (xs : List Event). (alone s xs).wire) are ∙ sym (ap (λ (t : Section). t.wire) is);
-      network = alone_after s es;
-      there = alone_there.last ∙ ap (λ (xs : List Event). Some (alone_after s xs)) are;
-      events = sym (ap (λ (t : Section). length t.events) is);
-      table = sym (ap (λ (t : Section). t.table) is);
-      counts = sym (ap (λ (t : Section). t.counts) is);
-    }
+shown : (c : RadioConfig) (place : ℕ) (said : List Asked) (answers : List Answer) (next : Moment) (section : Section)
+    → IsAlone (course c said answers) place next
+    → section ≡ section_of (setting_at c place) (events_at c place said answers) → IsShown section place answers next
+shown c place said answers next section alone_there is = record {
+  air = alone_there.air ∙ sym (ap (λ (t : Section). t.air) is);
+  wire = alone_there.wire ∙ sym (ap (λ (t : Section). t.wire) is);
+  network = alone_after (setting_at c place) (events_at c place said answers);
+  there = alone_there.last;
+  events = sym (ap (λ (t : Section). length t.events) is);
+  table = sym (ap (λ (t : Section). t.table) is);
+  counts = sym (ap (λ (t : Section). t.counts) is);
+}
 
 abbrev pub CheckedEvents : Type 0
 CheckedEvents = (n : NetConfig) → network_fault n ≡ None → n.max_events ≤ 1000000
@@ -323,5 +278,5 @@ is-shown laws reach checked events-checked c said lines place answers next secti
     let is : section ≡ section_of s (own_events place (network_at c place) lines) =
     let one : Some section ≡ Some (section_of s (own_events place (network_at c place) lines)) =
     sym e ∙ section-at c lines place h.there in cc in
-    shown c place said answers next hs section (is-alone laws c said answers next place h.there h.answered) events
-    (is ∙ ap (section_of s) own)
+    shown c place said answers next section (is-alone laws c said answers next place h.there h.answered)
+    (is ∙ ap (section_of s) (own ∙ sym events))

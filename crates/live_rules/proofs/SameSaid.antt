@@ -1,5 +1,5 @@
 -- What is said as a record and as a line is the same.
-use Rattle.std.proofs.Common.{◌≡◌, ℕ, ◌+◌, ◌-◌, ◌*◌, ◌/◌, ◌%◌, ◌<◌, ◌≤◌, Bool, true, false, zero, suc, List, [], ◌∷◌, ◌++◌, length, map, take, drop, get_or, Option, Some, None, Result, Ok, refl, sym, ap, subst, ◌∙◌, arith, add-one, append_assoc, append-nil, length-append, take_at}
+use Rattle.std.proofs.Common.{◌≡◌, ℕ, ◌+◌, ◌-◌, ◌*◌, ◌/◌, ◌%◌, ◌<◌, ◌≤◌, Bool, true, false, zero, suc, List, [], ◌∷◌, ◌++◌, length, map, take, drop, get_or, Option, Some, None, Ok, refl, sym, ap, subst, ◌∙◌, arith, add-one, append_assoc, append-nil, length-append, take_at}
 use Rattle.std.specs.Prelude.{nat_lt, slice_index, if◌then◌else◌}
 use Rattle.std.specs.List.{All, AllByRecursion, position_or_len, range_with_len, suffix_len, slice_split}
 use Rattle.std.specs.Option.{ok_or}
@@ -18,22 +18,18 @@ use Rattle.events.specs.declared.line.Line.TheVariants.{Air, Wire}
 use Rattle.text_io.specs.Faults.{◌>>=◌}
 use Rattle.text_io.specs.Texts.{ended, is_line_feed}
 use Rattle.trace.specs.TraceText.{max_octets, is_space, without_spaces_at_end, without_spaces_at_start, first_word, after_first_word, digits_of, octets_of, within_limit, place_with, place_named}
-use Rattle.trace.specs.declared.fault.LineFault.{LineFault}
 use Rattle.trace.specs.declared.fault.LineFault.TheVariants.{UnknownNetwork, NoAddress}
 use Rattle.live_rules.specs.Asked.{Asked, Says, asked_by, asked_by_all}
 use Rattle.live_rules.specs.BothFaces.{Input, Heard, Wired, Interval, Question, IsInput, then_word, line_for, text_for, record_with, record_for, octets_for}
 use Rattle.live_rules.specs.Records.{IsRecord, AreRecords, record_asks, records_ask, wire_record}
 use Rattle.live_rules.specs.TextLines.{TextLine, Octets, line_with, lines_of_text, max_line}
+use Rattle.live_rules.proofs.RecordLaws.{each-both}
 
 -- ---- characters
 
 -- each is above this
 abbrev AllAbove : ℕ → List ℕ → Type 0
 AllAbove least text = AllByRecursion (λ c. least < c) text
-
-all-both : (least : ℕ) (a b : List ℕ) → AllAbove least a → AllAbove least b → AllAbove least (a ++ b)
-all-both least [] b h k = k
-all-both least (c ∷ a) b h k = (h.0, all-both least a b h.1 k)
 
 all-less : (text : List ℕ) → AllAbove 32 text → AllAbove 31 text
 all-less [] h = tt
@@ -73,37 +69,16 @@ glyph-above d = by (nat_lt d 10)
     by true = omega arith
     by false = omega arith
 
+-- the two digits of an octet, and what follows them
+glyphs-above : (b : ℕ) {After : Type 0} → After
+    → (32 < digit_glyph false (b / 16)) × ((32 < digit_glyph false (b % 16)) × After)
+glyphs-above b after = (glyph-above (b / 16), (glyph-above (b % 16), after))
+
 six-above : (a b c d e f : ℕ) → AllAbove 32 (address_text (a ∷ b ∷ c ∷ d ∷ e ∷ f ∷ []))
 six-above a b c d e f =
-    let g = glyph-above in
-    let colon : 32 < 58 = omega arith in (
-      g (a / 16),
-      (
-        g (a % 16),
-        (
-          colon,
-          (
-            g (b / 16),
-            (
-              g (b % 16),
-              (
-                colon,
-                (
-                  g (c / 16),
-                  (
-                    g (c % 16),
-                    (
-                      colon,
-                      (g (d / 16), (g (d % 16), (colon, (g (e / 16), (g (e % 16), (colon, (g (f / 16), (g (f % 16), tt)))))))),
-                    ),
-                  ),
-                ),
-              ),
-            ),
-          ),
-        ),
-      ),
-    )
+    let colon : 32 < 58 = omega arith in
+    glyphs-above a
+    (colon, glyphs-above b (colon, glyphs-above c (colon, glyphs-above d (colon, glyphs-above e (colon, glyphs-above f tt)))))
 
 -- the octets of an address, one by one
 in_six : (address : List ℕ) → length address ≡ 6 → address ≡ map (slice_index address) (range_with_len 0 6)
@@ -111,16 +86,14 @@ in_six address six = fill_by_all (slice_index address) address 6 0 six (λ k _. 
 
 address-above : (address : List ℕ) → IsAddress address → AllAbove 32 (address_text address)
 address-above address w =
-    let at = slice_index address in
-    subst (λ (a : List ℕ). AllAbove 32 (address_text a)) (sym (in_six address w.six))
-    (six-above (at 0) (at 1) (at 2) (at 3) (at 4) (at 5))
+    let at = slice_index address in rw (in_six address w.six) (six-above (at 0) (at 1) (at 2) (at 3) (at 4) (at 5))
+
+address-short : (address : List ℕ) → IsAddress address → length (address_text address) ≡ 17
+address-short address w = rw (in_six address w.six) refl
 
 digits-kept : (text : List ℕ) → AllAbove 32 text → digits_of text ≡ text
 digits-kept [] h = refl
 digits-kept (c ∷ text) h = rw (not-space c h.0) (ap (λ (l : List ℕ). c ∷ l) (digits-kept text h.1))
-
-not-over : (octets : List ℕ) → length octets ≤ max_octets → nat_lt max_octets (length octets) ≡ false
-not-over octets few = le-ltb max_octets (length octets) few
 
 -- the digits of octets spell them
 octets-back : (octets : List ℕ) → IsBytes octets → length octets ≤ max_octets
@@ -128,7 +101,7 @@ octets-back : (octets : List ℕ) → IsBytes octets → length octets ≤ max_o
 octets-back octets h few =
     ap (λ (t : List ℕ). within_limit (decode_of t)) (digits-kept (encode_lower octets) (digits-above octets h))
     ∙ ap within_limit (decode_of-encode_lower octets h)
-    ∙ rw (not-over octets few) refl
+    ∙ rw (le-ltb max_octets (length octets) few) refl
 
 -- ---- words
 
@@ -183,12 +156,9 @@ ends-so front word some h =
 
 heard-line : (bssids : List (List ℕ)) (digits octets : List ℕ) → AllAbove 32 digits → octets_of digits ≡ Ok octets
     → asked_by bssids (Octets (65 ∷ then_word digits)) ≡ Says (Ok (Some (Air octets)))
-heard-line bssids [] octets h e =
-    ap (λ (r : Result (List ℕ) LineFault). Says ((r >>= λ o. Ok (Air o)) >>= λ said. Ok (Some said))) e
+heard-line bssids [] octets h e = rw e refl
 heard-line bssids (d ∷ ds) octets h e =
-    let same : without_spaces_at_end (65 ∷ 32 ∷ d ∷ ds) ≡ 65 ∷ 32 ∷ d ∷ ds =
-    ends-so (65 ∷ 32 ∷ []) (d ∷ ds) (omega arith) h in
-    rw same (ap (λ (r : Result (List ℕ) LineFault). Says ((r >>= λ o. Ok (Air o)) >>= λ said. Ok (Some said))) e)
+    rw (ends-so (65 ∷ 32 ∷ []) (d ∷ ds) (omega arith) h, e) refl
 
 -- the line of a frame to an address
 abbrev wire_line : List ℕ → List ℕ → List ℕ
@@ -241,8 +211,7 @@ six-record kind a b c d e f octets =
 address-record : (kind : ℕ) (address octets : List ℕ) → IsAddress address → IsRecord (record_with kind address octets)
 address-record kind address octets w =
     let at = slice_index address in
-    subst (λ (a : List ℕ). IsRecord (record_with kind a octets)) (sym (in_six address w.six))
-    (six-record kind (at 0) (at 1) (at 2) (at 3) (at 4) (at 5) octets)
+    rw (in_six address w.six) (six-record kind (at 0) (at 1) (at 2) (at 3) (at 4) (at 5) octets)
 
 record-is : (input : Input) → IsInput input → IsRecord (record_for input)
 record-is (Heard octets) h = six-record 65 0 0 0 0 0 0 octets
@@ -255,33 +224,18 @@ record-is Question h = refl
 heard-same : (bssids : List (List ℕ)) (octets : List ℕ) → IsInput (Heard octets)
     → record_asks bssids (record_for (Heard octets)) ≡ asked_by bssids (Octets (line_for (Heard octets)))
 heard-same bssids octets h =
-    rw (not-over octets h.1)
+    rw (le-ltb max_octets (length octets) h.1)
     (sym (heard-line bssids (encode_lower octets) octets (digits-above octets h.0) (octets-back octets h.0 h.1)))
 
 -- what a record and a line say of a frame to the network at a place, if there is one
 both-wire : (place : Option ℕ) (octets : List ℕ) → length octets ≤ max_octets
     → wire_record place octets ≡ wire_said place octets
 both-wire None octets few = refl
-both-wire (Some p) octets few = rw (not-over octets few) refl
-
-six-asks : (bssids : List (List ℕ)) (a b c d e f : ℕ) (octets : List ℕ)
-    → record_asks bssids (of_six 87 a b c d e f octets)
-    ≡ wire_record (place_with (a ∷ b ∷ c ∷ d ∷ e ∷ f ∷ []) bssids) octets
-six-asks bssids a b c d e f octets = refl
+both-wire (Some p) octets few = rw (le-ltb max_octets (length octets) few) refl
 
 wire-asks : (bssids : List (List ℕ)) (address octets : List ℕ) → IsAddress address
     → record_asks bssids (record_with 87 address octets) ≡ wire_record (place_with address bssids) octets
-wire-asks bssids address octets w =
-    let at = slice_index address in
-    subst
-    (λ (a : List ℕ). record_asks bssids (record_with 87 a octets) ≡ wire_record (place_with a bssids) octets)
-    (sym (in_six address w.six))
-    (six-asks bssids (at 0) (at 1) (at 2) (at 3) (at 4) (at 5) octets)
-
-address-some : (address : List ℕ) → IsAddress address → 0 < length (address_text address)
-address-some address w =
-    let at = slice_index address in
-    subst (λ (a : List ℕ). 0 < length (address_text a)) (sym (in_six address w.six)) (omega arith)
+wire-asks bssids address octets w = rw (in_six address w.six) refl
 
 abbrev pub ComesBack : Type 0
 ComesBack = (address : List ℕ) → IsAddress address → address_of (address_text address) ≡ Some address
@@ -291,7 +245,7 @@ wired-same : ComesBack → (bssids : List (List ℕ)) (address octets : List ℕ
 wired-same back bssids address octets h =
     let word : List ℕ = address_text address in
     let said : asked_by bssids (Octets (wire_line word (encode_lower octets))) ≡ wire_said (place_with address bssids) octets =
-    wired-line bssids address word (encode_lower octets) octets (address-some address h.0) (address-above address h.0)
+    wired-line bssids address word (encode_lower octets) octets (omega (arith, address-short address h.0)) (address-above address h.0)
     (digits-above octets h.1) (back address h.0) (octets-back octets h.1 h.2) in
     wire-asks bssids address octets h.0 ∙ both-wire (place_with address bssids) octets h.2 ∙ sym said
 
@@ -307,8 +261,7 @@ pub all-same : ComesBack → (bssids : List (List ℕ)) (inputs : List Input) �
     ≡ asked_by_all bssids (map (λ input. Octets (line_for input)) inputs)
 all-same back bssids [] h = refl
 all-same back bssids (input ∷ inputs) h =
-    ap (λ (a : Asked). a ∷ records_ask bssids (map record_for inputs)) (one-same back bssids input h.0)
-    ∙ ap (λ (others : List Asked). asked_by bssids (Octets (line_for input)) ∷ others) (all-same back bssids inputs h.1)
+    λ i. one-same back bssids input h.0 i ∷ all-same back bssids inputs h.1 i
 
 -- ---- their octets
 
@@ -360,11 +313,6 @@ then-short : (word : List ℕ) → length (then_word word) ≤ length word + 1
 then-short [] = omega arith
 then-short (c ∷ word) = omega arith
 
-address-short : (address : List ℕ) → IsAddress address → length (address_text address) ≡ 17
-address-short address w =
-    let at = slice_index address in
-    subst (λ (a : List ℕ). length (address_text a) ≡ 17) (sym (in_six address w.six)) refl
-
 line-is : (input : Input) → IsInput input → IsLine (line_for input)
 line-is (Heard octets) h =
     let digits : List ℕ = encode_lower octets in
@@ -380,7 +328,7 @@ line-is (Wired address octets) h =
     length-append (87 ∷ 32 ∷ word) (then_word digits) in
     record {
       some = omega (arith, long);
-      above = all-both 31 (87 ∷ 32 ∷ word) (then_word digits)
+      above = each-both (λ c. 31 < c) (87 ∷ 32 ∷ word) (then_word digits)
           (omega arith, (omega arith, all-less word (address-above address h.0)))
           (then-above digits (digits-above octets h.1));
       short = omega (arith, long, address-short address h.0, then-short digits, length-encode_with lower_digits octets, h.2);
