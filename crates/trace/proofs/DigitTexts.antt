@@ -93,10 +93,8 @@ pub look_more : (text : List ℕ) (character : ℕ) (rest : List ℕ) (is_odd : 
 look_more text character rest is_odd s other digit =
     let same = one_digit character rest other in
     record {
-      digits = λ all.
-          s.digits (subst (AllPass is_hex_digit) (sym same) (All-cons digit_holds character (digits_of rest) digit all));
-      back = λ all.
-          All-tail digit_holds character (digits_of rest) (subst (AllPass is_hex_digit) same (s.back all));
+      digits = λ all. s.digits (rw same (All-cons digit_holds character (digits_of rest) digit all));
+      back = λ all. All-tail digit_holds character (digits_of rest) (rw same at (s.back all));
       count = s.count ∙ ap (λ (ds : List ℕ). (length ds + (if is_odd then 1 else 0)) % 2) same ∙ next is_odd;
     }
   where

@@ -17,11 +17,6 @@ use Rattle.trace.specs.LineLaws.{whole_lines_line, unfinished_line_line, whole_l
 use Rattle.trace.proofs.PieceLaws.{limited, read-end, read-fault, read-more, read-nothing, said_after-none}
 use Rattle.ap_config.specs.Samples.{radio}
 
--- nothing before a text
-pub begins_nothing : (octets text : List ℕ) → length octets ≡ 0 → octets ++ text ≡ text
-begins_nothing [] text none = refl
-begins_nothing (x ∷ xs) text none = absurd (omega arith)
-
 -- ---- a piece in which no line ends
 
 pub held_says : (r : ReaderView) (text : List ℕ) → LacksLineFeed text
@@ -93,11 +88,6 @@ line_is (Err met) P h = absurd h
 line_fault : (answer : Result (Option Line) TraceFault) (met : TraceFault) → as_list answer ≡ Err met → answer ≡ Err met
 line_fault (Ok said) met e = cc
 line_fault (Err other) met e = cc
-
--- what is read is the same
-pub takes_as : (result : Result Unit (ReadFault TraceFault)) (read other : Result (List Line) TraceFault)
-    (was is : RadioConfig → List Line → Type 0) → read ≡ other → Takes result read was is → Takes result other was is
-takes_as result read other was is e h = subst (λ (r : Result (List Line) TraceFault). Takes result r was is) e h
 
 pub remains_none : (r : ReaderView) (piece : List ℕ) (was : RadioConfig → List Line → Type 0) → LacksLineFeed r.unfinished
     → Remains r piece r piece was was

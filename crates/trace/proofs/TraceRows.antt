@@ -42,10 +42,6 @@ pub spaces_among_digits : (config : RadioConfig)
 unfolding hex_on_literals
 spaces_among_digits config = refl
 
-pub no_octets : (config : RadioConfig) → lines_of config (codes "A") ≡ Ok (Air [] ∷ [])
-unfolding hex_on_literals
-no_octets config = refl
-
 pub most_octets_are_read : (config : RadioConfig)
     → lines_of config (codes "A " ++ replicate 8192 48) ≡ Ok (Air (replicate 4096 0) ∷ [])
 unfolding hex_on_literals
@@ -55,18 +51,25 @@ pub one_octet_too_many : (config : RadioConfig) → lines_of config (codes "A " 
 unfolding hex_on_literals
 one_octet_too_many config = refl
 
--- the odd digit comes before the number of octets
-pub one_digit_too_many : (config : RadioConfig) → lines_of config (codes "A " ++ replicate 8195 48) ≡ Err (fault 2 1)
-unfolding hex_on_literals
-one_digit_too_many config = refl
+-- no digits, with spaces after the word or none
+abbrev empty : List (List ℕ)
+empty = codes "A" ∷ (codes "A   " ++ lf) ∷ []
 
-pub odd_digits : (config : RadioConfig) → lines_of config (codes "A 4") ≡ Err (fault 2 1)
+pub no_octets : (config : RadioConfig) → map (lines_of config) empty ≡ replicate 2 (Ok (Air [] ∷ []))
 unfolding hex_on_literals
-odd_digits config = refl
+no_octets config = refl
 
-pub no_digit : (config : RadioConfig) → lines_of config (codes "A 4g") ≡ Err (fault 2 1)
+-- an odd number of digits, or another character, also where they are too many; a tab at the end; a carriage return
+-- before a space, before another, or where the text ends
+abbrev of_no_digits : List (List ℕ)
+of_no_digits =
+    codes "A 4" ∷ (codes "A " ++ replicate 8195 48) ∷ codes "A 4g" ∷ (codes "A g" ++ replicate 8193 48)
+    ∷ (codes "A 00" ++ tab) ∷ (codes "A 00" ++ cr ++ codes " " ++ lf) ∷ (codes "A 00" ++ cr ++ cr ++ lf)
+    ∷ (codes "A 00" ++ cr) ∷ []
+
+pub not_hexadecimal : (config : RadioConfig) → map (lines_of config) of_no_digits ≡ replicate 8 (Err (fault 2 1))
 unfolding hex_on_literals
-no_digit config = refl
+not_hexadecimal config = refl
 
 -- ---- words
 
@@ -80,10 +83,6 @@ of_no_kind =
 
 pub unknown_kinds : (config : RadioConfig) → map (lines_of config) of_no_kind ≡ replicate 15 (Err (fault 1 1))
 unknown_kinds config = refl
-
-pub tab_at_the_end : (config : RadioConfig) → lines_of config (codes "A 00" ++ tab) ≡ Err (fault 2 1)
-unfolding hex_on_literals
-tab_at_the_end config = refl
 
 -- ---- frames on the wire
 
@@ -125,11 +124,14 @@ of_no_address =
 pub no_addresses : (config : RadioConfig) → map (lines_of config) of_no_address ≡ replicate 7 (Err (fault 3 1))
 no_addresses config = refl
 
-pub address_of_no_network : lines_of two (codes "W 02:00:00:00:00:09 00") ≡ Err (fault 4 1)
-address_of_no_network = refl
+-- another address, the broadcast address, and another before odd digits and before too many
+abbrev of_no_network : List (List ℕ)
+of_no_network =
+    codes "W 02:00:00:00:00:09 00" ∷ codes "W ff:ff:ff:ff:ff:ff 00" ∷ codes "W 02:00:00:00:00:09 4"
+    ∷ (codes "W 02:00:00:00:00:09 " ++ replicate 8194 48) ∷ []
 
-pub broadcast_is_no_network : lines_of two (codes "W ff:ff:ff:ff:ff:ff 00") ≡ Err (fault 4 1)
-broadcast_is_no_network = refl
+pub unknown_networks : map (lines_of two) of_no_network ≡ replicate 4 (Err (fault 4 1))
+unknown_networks = refl
 
 pub odd_digits_of_a_wired_frame : lines_of two (codes "W 02:00:00:00:00:01 4") ≡ Err (fault 2 1)
 unfolding hex_on_literals
@@ -139,12 +141,6 @@ pub too_many_octets_of_a_wired_frame : lines_of two (codes "W 02:00:00:00:00:01 
     (fault 5 1)
 unfolding hex_on_literals
 too_many_octets_of_a_wired_frame = refl
-
-pub no_network_with_odd_digits : lines_of two (codes "W 02:00:00:00:00:09 4") ≡ Err (fault 4 1)
-no_network_with_odd_digits = refl
-
-pub no_network_with_too_many_octets : lines_of two (codes "W 02:00:00:00:00:09 " ++ replicate 8194 48) ≡ Err (fault 4 1)
-no_network_with_too_many_octets = refl
 
 -- ---- ticks
 
@@ -187,31 +183,13 @@ first_fault_of_two config = refl
 
 -- ---- the ends of lines
 
-pub carriage_return : (config : RadioConfig) → lines_of config (codes "A 00" ++ cr ++ lf) ≡ Ok (Air (0 ∷ []) ∷ [])
-unfolding hex_on_literals
-carriage_return config = refl
+-- a carriage return before the line feed, with spaces before it or none; spaces where the text ends
+abbrev of_one_octet : List (List ℕ)
+of_one_octet = (codes "A 00" ++ cr ++ lf) ∷ (codes "A 00  " ++ cr ++ lf) ∷ codes "A 00  " ∷ []
 
-pub spaces_before_a_carriage_return : (config : RadioConfig)
-    → lines_of config (codes "A 00  " ++ cr ++ lf) ≡ Ok (Air (0 ∷ []) ∷ [])
+pub ends_are_dropped : (config : RadioConfig) → map (lines_of config) of_one_octet ≡ replicate 3 (Ok (Air (0 ∷ []) ∷ []))
 unfolding hex_on_literals
-spaces_before_a_carriage_return config = refl
-
-pub spaces_after_a_carriage_return : (config : RadioConfig)
-    → lines_of config (codes "A 00" ++ cr ++ codes " " ++ lf) ≡ Err (fault 2 1)
-unfolding hex_on_literals
-spaces_after_a_carriage_return config = refl
-
-pub two_carriage_returns : (config : RadioConfig) → lines_of config (codes "A 00" ++ cr ++ cr ++ lf) ≡ Err (fault 2 1)
-unfolding hex_on_literals
-two_carriage_returns config = refl
-
-pub carriage_return_without_line_feed : (config : RadioConfig) → lines_of config (codes "A 00" ++ cr) ≡ Err (fault 2 1)
-unfolding hex_on_literals
-carriage_return_without_line_feed config = refl
-
-pub spaces_at_the_very_end : (config : RadioConfig) → lines_of config (codes "A 00  ") ≡ Ok (Air (0 ∷ []) ∷ [])
-unfolding hex_on_literals
-spaces_at_the_very_end config = refl
+ends_are_dropped config = refl
 
 -- ---- the number of lines
 
@@ -231,16 +209,6 @@ skipped_line_too_many bssids = refl
 pub fault_before_the_limit : (bssids : List (List ℕ))
     → lines_from bssids 1000000 (codes "X" ∷ codes "X" ∷ []) ≡ Err (fault 1 1000000)
 fault_before_the_limit bssids = refl
-
-pub spaces_alone_after_the_word : (config : RadioConfig) → lines_of config (codes "A   " ++ lf) ≡ Ok (Air [] ∷ [])
-unfolding hex_on_literals
-spaces_alone_after_the_word config = refl
-
--- no digit comes before the number of octets
-pub no_digit_among_too_many : (config : RadioConfig)
-    → lines_of config (codes "A g" ++ replicate 8193 48) ≡ Err (fault 2 1)
-unfolding hex_on_literals
-no_digit_among_too_many config = refl
 
 -- a character of no text
 pub comment_of_any_octets : (config : RadioConfig)
