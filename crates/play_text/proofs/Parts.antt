@@ -1,8 +1,9 @@
 -- Items that are put in two parts.
-use Rattle.std.proofs.Common.{◌≡◌, ℕ, suc, ◌<◌, List, [], ◌∷◌, ◌++◌, take, drop, length, get_or, Option, Result, refl, sym, ap, subst, ◌∙◌, arith}
+use Rattle.std.proofs.Common.{◌≡◌, ℕ, suc, ◌<◌, List, [], ◌∷◌, ◌++◌, take, drop, length, get_or, Option, Result, refl, sym, ap, ◌∙◌, arith}
 use Rattle.std.specs.Prelude.{flat_map, IfOk}
 use Rattle.std.specs.List.{AllZip}
-use Rattle.std.proofs.lemmas.List.{take-append-drop}
+use Rattle.std.proofs.lemmas.List.{nil_from_length, take-append-drop}
+use Rattle.std.proofs.lemmas.Slice.Zip.{AllZip-long}
 use Rattle.std.proofs.lemmas.List.Concat.{flat_map-append}
 use Rattle.text_io.specs.Buffers.{Puts, watch}
 use Rattle.text_io.specs.declared.buffer.Buffered.{Buffered}
@@ -39,23 +40,17 @@ texts_by_place f (part ∷ parts) (text ∷ texts) count each = (
   texts_by_place f parts texts (omega (arith, count)) (λ i d e within. each (suc i) d e (omega (arith, within))),
 )
 
--- the next text is that of the next part
-pub next_text : {X E : Type 0} (f : X → List ℕ) (parts : List X) (texts : List (Result (List ℕ) E))
-    (text : Result (List ℕ) E) (rest : List (Result (List ℕ) E)) → texts ≡ text ∷ rest → AreTexts f parts texts
-    → (part : X) × (later : List X) × (parts ≡ part ∷ later) × IfOk text (λ t. t ≡ f part) × AreTexts f later rest
-next_text {X} f parts texts text rest is all = cut parts (subst (AreTexts f parts) is all)
-  where
-    cut : (ps : List X) → AreTexts f ps (text ∷ rest)
-        → (part : X) × (later : List X) × (ps ≡ part ∷ later) × IfOk text (λ t. t ≡ f part) × AreTexts f later rest
-    cut [] h = absurd h
-    cut (p ∷ ps) h = (p, ps, refl, h.0, h.1)
+-- ---- two lists, of which each pair agrees
 
--- no text is left where no part is
-pub no_text : {X E : Type 0} (f : X → List ℕ) (parts : List X) (texts : List (Result (List ℕ) E)) → length texts ≡ 0
-    → AreTexts f parts texts → parts ≡ []
-no_text f [] texts none all = refl
-no_text f (p ∷ ps) [] none all = absurd all
-no_text f (p ∷ ps) (t ∷ ts) none all = absurd (omega (arith, none))
+-- the next pair, where the second list goes on
+pub next_pair : {X Y : Type 0} (R : X → Y → Type 0) (xs : List X) (ys : List Y) (y : Y) (rest : List Y) → ys ≡ y ∷ rest
+    → AllZip R xs ys → (x : X) × (later : List X) × (xs ≡ x ∷ later) × R x y × AllZip R later rest
+next_pair R [] ys y rest is all = absurd (rw is at all)
+next_pair R (x ∷ xs) ys y rest is all = let both = rw is at all in (x, xs, refl, both.0, both.1)
+
+-- no pair is left
+pub no_pair : {X Y : Type 0} (R : X → Y → Type 0) (xs : List X) (ys : List Y) → length ys ≡ 0 → AllZip R xs ys → xs ≡ []
+no_pair R xs ys none all = nil_from_length xs (omega (arith, none, AllZip-long R xs ys all))
 
 -- the items of all parts
 pub flat_parts : {X : Type 0} (f : X → List ℕ) (parts : List (List X))

@@ -1,7 +1,8 @@
 -- What a play of several traces leaves, by how it ended.
-use Rattle.std.proofs.Common.{◌≡◌, ℕ, suc, ◌+◌, ◌++◌, ◌∷◌, [], true, List, Option, Some, Result, Ok, Err, length, map, refl, sym, ap, ◌∙◌, subst, arith}
+use Rattle.std.proofs.Common.{◌≡◌, ℕ, suc, ◌+◌, ◌++◌, ◌∷◌, [], true, List, Option, Some, Ok, Err, length, map, refl, sym, ap, ◌∙◌, subst, arith}
 use Rattle.std.specs.Prelude.{slice_get, flat_map}
 use Rattle.std.specs.List.{enumerate_from}
+use Rattle.std.proofs.lemmas.Slice.Zip.{AllZip-long}
 use Rattle.std.proofs.KnownBytes.{Keeps-refl}
 use Rattle.std.specs.Io.KnownBytes.{Appends}
 use Rattle.ap_config.specs.declared.config.RadioConfig.{RadioConfig}
@@ -16,14 +17,13 @@ use Rattle.network_report.specs.NetworkText.{network_text}
 use Rattle.network.specs.Section.{section_of}
 use Rattle.events.specs.declared.line.Line.{Line}
 use Rattle.config_text.specs.ConfigurationText.{configuration_of}
-use Rattle.text_io.specs.Endings.{Gives, IsFaultOf, Ends, ending_of}
+use Rattle.text_io.specs.Endings.{IsFaultOf, Ends, ending_of}
 use Rattle.text_io.specs.Faults.{read_as, read_ending, report_as}
 use Rattle.report.specs.Report.{report_text, section_text}
 use Rattle.text_io.specs.Sinks.{report_ending}
 use Rattle.trace.specs.TraceText.{lines_of}
 use Rattle.trace.specs.declared.fault.TraceFault.{TraceFault}
 use Rattle.text_io.specs.declared.read_fault.ReadFault.{ReadFault}
-use Rattle.play_text.specs.Reading.{AreRead}
 use Rattle.text_io.specs.declared.read_fault.ReadFault.TheVariants as reads
 use Rattle.text_io.specs.declared.report_fault.ReportFault.{ReportFault}
 use Rattle.text_io.specs.declared.report_fault.ReportFault.TheVariants as reports
@@ -41,23 +41,6 @@ use Rattle.play_text.specs.declared.fault.PlayTextFault.TheVariants.{Config, Sou
 
 -- ---- the traces
 
--- one trace more was read
-pub lines-more : (c : RadioConfig) (traces : List (List ℕ)) (sources : List (List Line)) (text : List ℕ)
-    (lines : List Line) → AreLines c traces sources → lines_of c text ≡ Ok lines
-    → AreLines c (traces ++ text ∷ []) (sources ++ lines ∷ [])
-lines-more c [] [] text lines h is = (is, tt)
-lines-more c [] (s ∷ sources) text lines h is = absurd h
-lines-more c (t ∷ traces) [] text lines h is = absurd h
-lines-more c (t ∷ traces) (s ∷ sources) text lines h is = (h.0, lines-more c traces sources text lines h.1 is)
-
--- there are as many sources as traces
-pub lines-length : (c : RadioConfig) (traces : List (List ℕ)) (sources : List (List Line)) → AreLines c traces sources
-    → length sources ≡ length traces
-lines-length c [] [] h = refl
-lines-length c [] (s ∷ sources) h = absurd h
-lines-length c (t ∷ traces) [] h = absurd h
-lines-length c (t ∷ traces) (s ∷ sources) h = ap (λ (n : ℕ). suc n) (lines-length c traces sources h.1)
-
 -- the trace after those that were read is at fault
 pub fault_met : (c : RadioConfig) (traces before : List (List ℕ)) (text : List ℕ) (after : List (List ℕ))
     (sources : List (List Line)) (n : ℕ) (e : ReadFault TraceFault) → traces ≡ before ++ text ∷ after
@@ -68,7 +51,7 @@ fault_met c traces before text after sources n (reads.At fault) parts read count
   text = text;
   after = after;
   in_order = parts;
-  place = count ∙ lines-length c before sources read;
+  place = count ∙ AllZip-long (λ text lines. lines_of c text ≡ Ok lines) before sources read;
   sound = (sources, read);
   found = is;
 }
@@ -139,43 +122,6 @@ whole_plays c ct traces sources end text old new able play is written = record {
   allowed = record { c = c; sources = sources; playable = able; end = end; play = play; text = is };
   taken = written;
 }
-
--- ---- traces that were read side by side
-
--- the next answer is that of the next trace
-pub read_next : (c : RadioConfig) (texts : List (List ℕ)) (answers : List (Result (List Line) (ReadFault TraceFault)))
-    (answer : Result (List Line) (ReadFault TraceFault)) (rest : List (Result (List Line) (ReadFault TraceFault)))
-    → answers ≡ answer ∷ rest → AreRead c texts answers
-    → (text : List ℕ) × (later : List (List ℕ)) × (texts ≡ text ∷ later)
-    × Gives (λ lines. lines) read_ending answer (lines_of c text) × AreRead c later rest
-read_next c texts answers answer rest is all = parts texts (subst (AreRead c texts) is all)
-  where
-    parts : (ts : List (List ℕ)) → AreRead c ts (answer ∷ rest)
-        → (text : List ℕ) × (later : List (List ℕ)) × (ts ≡ text ∷ later)
-        × Gives (λ lines. lines) read_ending answer (lines_of c text) × AreRead c later rest
-    parts [] h = absurd h
-    parts (t ∷ ts) h = (t, ts, refl, h.0, h.1)
-
--- what an answer says of its text
-pub read_lines : (c : RadioConfig) (text : List ℕ) (answer : Result (List Line) (ReadFault TraceFault))
-    (lines : List Line) → answer ≡ Ok lines
-    → Gives (λ lines. lines) read_ending answer (lines_of c text) → lines_of c text ≡ Ok lines
-read_lines c text answer lines is gives =
-    subst (λ (a : Result (List Line) (ReadFault TraceFault)). Gives (λ lines. lines) read_ending a (lines_of c text)) is gives
-
-pub read_fault : (c : RadioConfig) (text : List ℕ) (answer : Result (List Line) (ReadFault TraceFault))
-    (fault : ReadFault TraceFault) → answer ≡ Err fault
-    → Gives (λ lines. lines) read_ending answer (lines_of c text) → IsFaultOf (lines_of c text) (read_ending fault)
-read_fault c text answer fault is gives =
-    subst (λ (a : Result (List Line) (ReadFault TraceFault)). Gives (λ lines. lines) read_ending a (lines_of c text)) is gives
-
--- no answer is left where no trace is
-pub read_none : (c : RadioConfig) (texts : List (List ℕ)) (answers : List (Result (List Line) (ReadFault TraceFault)))
-    → length answers ≡ 0 → AreRead c texts answers → texts ≡ []
-read_none c [] [] none all = refl
-read_none c [] (a ∷ others) none all = absurd all
-read_none c (t ∷ ts) [] none all = absurd all
-read_none c (t ∷ ts) (a ∷ others) none all = absurd (omega (arith, none))
 
 -- ---- the report of networks that keep no history
 

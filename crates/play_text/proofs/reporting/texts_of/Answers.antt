@@ -1,10 +1,10 @@
 -- Each text is that of its part.
-use Rattle.std.proofs.Common.{◌≡◌, ◌++◌, ◌∷◌, [], ℕ, List, length, get_or, sym, ap, subst, ◌∙◌, arith, append-nil, append_assoc}
+use Rattle.std.proofs.Common.{◌≡◌, ◌++◌, ◌∷◌, [], ℕ, List, length, sym, ap, subst, ◌∙◌, arith, append-nil, append_assoc}
 use Rattle.std.specs.Prelude.{flat_map, IfOk}
 use Rattle.std.specs.Vec.Iter.{into_iter_items}
 use Rattle.std.proofs.lemmas.List.Concat.{flat_map-append}
 use Rattle.report.specs.Report.{frame_line}
-use Rattle.play_text.proofs.Parts.{AreTexts, texts_by_place, next_text, no_text, flat_parts}
+use Rattle.play_text.proofs.Parts.{texts_by_place, next_pair, no_pair, flat_parts}
 use Rattle.play_text.proofs.reporting.texts_of.Goals as goal
 
 pub loop-text-init : goal.loop-text-init
@@ -17,19 +17,18 @@ loop-text-init g c =
       parts,
       c.in_ok-parts.ensures,
       ap (flat_map (λ t. t)) c.in_ok-all.ensures.items,
-      subst (AreTexts f parts) (sym c.into_iter-text-iterator.ensures.into_iter_gives.0)
+      rw c.into_iter-text-iterator.ensures.into_iter_gives.0
           (texts_by_place f parts c.in_ok-texts.texts.items count
           (λ i d e within.
           let given = (c.in_ok-texts.ensures.each i e within).1 in
-          subst (λ (p : List (List ℕ)). IfOk (get_or c.in_ok-texts.texts.items i e) (λ t. t ≡ f p)) (sym (given.job_is d))
-          given.call.met)),
+          rw (given.job_is d) given.call.met)),
     )
 
 pub loop-text-preserved : goal.loop-text-preserved
 loop-text-preserved g c =
     let f : List (List ℕ) → List ℕ = λ part. flat_map (frame_line c.args.word.now) part in
     let (before, after, whole, texts, rest) = c.loop-text.invariant in
-    let next = next_text f after _ c.in-Some.text (into_iter_items c.next.new.self) c.in-Some.ensures.steps.0 rest in
+    let next = next_pair (λ part text. IfOk text (λ t. t ≡ f part)) after _ c.in-Some.text (into_iter_items c.next.new.self) c.in-Some.ensures.steps.0 rest in
     let part : List (List ℕ) = next.0 in
     let later : List (List (List ℕ)) = next.1 in
     let is : c.in_ok-text.field-0 ≡ f part = subst (λ r. IfOk r (λ t. t ≡ f part)) c.in_ok-text.was next.3 in (
@@ -54,7 +53,7 @@ returns g c =
     omega (arith, c.loop-text.text-iterator.rest.ok, c.in-None.ensures.steps.0) in
     let all : before ≡ before ++ after =
     sym (append-nil before) ∙ ap (λ (ps : List (List (List ℕ))). before ++ ps)
-    (sym (no_text f after (into_iter_items c.loop-text.text-iterator) left rest)) in
+    (sym (no_pair (λ part text. IfOk text (λ t. t ≡ f part)) after (into_iter_items c.loop-text.text-iterator) left rest)) in
     texts ∙ ap (flat_map f) all
     ∙ flat_parts (frame_line c.args.word.now) (before ++ after)
     ∙ ap (flat_map (frame_line c.args.word.now)) whole

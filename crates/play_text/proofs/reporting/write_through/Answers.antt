@@ -17,28 +17,20 @@ loop-network-preserved g c =
     c.loop-network.invariant
     c.put_section.ensures
 
-pub returns-clause-ends : goal.returns-clause-ends
-returns-clause-ends g c =
+pub returns : goal.returns
+returns g c =
     let w = c.new-buffered.ensures in
     let put =
     Puts-items network_text c.args.networks.now c.loop-network.network-index c.loop-network-test.false
     c.loop-network.invariant in
     let same_sink = c.flush.ensures.puts.same_sink ∙ put.same_sink ∙ w.same_sink in
+    let written =
+    Puts-flushed c.flush.result c.args.out.now c.new-buffered.result _ c.flush.new.self _ w.sink w.fresh w.empty put
+    c.flush.ensures in
     let ends : Ends (ending_of write_ending c.flush.result) (Ok (flat_map network_text c.args.networks.now)) (g.W.Sink.taken c.args.out.now)
     (g.W.Sink.taken c.flush.new.self.sink.now) =
-    (Puts-flushed c.flush.result c.args.out.now c.new-buffered.result _ c.flush.new.self _ w.sink w.fresh w.empty put
-    c.flush.ensures).0 in
-    search rules
-
-pub returns-clause-failures : goal.returns-clause-failures
-returns-clause-failures g c =
-    let w = c.new-buffered.ensures in
-    let put =
-    Puts-items network_text c.args.networks.now c.loop-network.network-index c.loop-network-test.false
-    c.loop-network.invariant in
-    let same_sink = c.flush.ensures.puts.same_sink ∙ put.same_sink ∙ w.same_sink in
+    written.0 in
     let failures : g.W.Sink.failed c.flush.new.self.sink.now
     ≡ g.W.Sink.failed c.args.out.now + failures_of write_ending c.flush.result =
-    (Puts-flushed c.flush.result c.args.out.now c.new-buffered.result _ c.flush.new.self _ w.sink w.fresh w.empty put
-    c.flush.ensures).1 in
-    search rules
+    written.1 in
+    record { ends = search rules; failures = search rules }
