@@ -1,8 +1,7 @@
-use Rattle.std.proofs.Common.{length, ap, ◌∙◌}
-use Rattle.network.specs.Network.{alone}
+use Rattle.std.proofs.Common.{length, ap}
 use Rattle.versions.specs.FirstVersion as first
 use Rattle.versions.specs.FirstVersion.{FirstNetwork}
-use Rattle.versions.proofs.FirstVersions.{first-version, table-at-first}
+use Rattle.versions.proofs.FirstVersions.{first-version}
 use Rattle.versions.proofs.first_version.Goals as goal
 
 pub returns-clause-air : goal.returns-clause-air
@@ -12,8 +11,7 @@ pub returns-clause-wire : goal.returns-clause-wire
 returns-clause-wire c s es relays keeps = ap (λ (n : FirstNetwork). n.wire) (first-version s relays (λ n. c.nothing_ages.ensures s n keeps) es)
 
 pub returns-clause-table : goal.returns-clause-table
-returns-clause-table c s es relays keeps =
-    table-at-first (alone s es) ∙ ap first.table_of (first-version s relays (λ n. c.nothing_ages.ensures s n keeps) es)
+returns-clause-table c s es relays keeps = ap first.table_of (first-version s relays (λ n. c.nothing_ages.ensures s n keeps) es)
 
 pub returns-clause-counts : goal.returns-clause-counts
 returns-clause-counts c s es relays keeps = ap (first.counts_of (length es)) (first-version s relays (λ n. c.nothing_ages.ensures s n keeps) es)
