@@ -1,34 +1,24 @@
 -- What the definitions say of some requests to authenticate, and of their answers.
-use Rattle.std.proofs.Common.{◌≡◌, true, false, [], ◌∷◌, refl}
+use Rattle.std.proofs.Common.{◌≡◌, ℕ, Bool, true, false, [], ◌∷◌, refl}
 use Rattle.mac_frame.specs.Samples.{network, station}
 use Rattle.association.specs.Samples.{other_station, frame}
 use Rattle.association.specs.Authentication.{auth_status, authentication}
+use Rattle.association.proofs.Rows.{Computes}
 
 -- ---- statuses
 
-open_system_is_served : auth_status 0 1 true ≡ 0
-open_system_is_served = refl
-
-shared_key_is_not_supported : auth_status 1 1 true ≡ 13
-shared_key_is_not_supported = refl
-
-a_third_step_is_out_of_order : auth_status 0 3 true ≡ 14
-a_third_step_is_out_of_order = refl
-
-a_second_step_is_out_of_order : auth_status 0 2 true ≡ 14
-a_second_step_is_out_of_order = refl
-
-a_full_network_refuses : auth_status 0 1 false ≡ 1
-a_full_network_refuses = refl
-
-the_algorithm_comes_before_the_step : auth_status 1 3 true ≡ 13
-the_algorithm_comes_before_the_step = refl
-
-the_algorithm_comes_before_the_room : auth_status 3 1 false ≡ 13
-the_algorithm_comes_before_the_room = refl
-
-the_step_comes_before_the_room : auth_status 0 0 false ≡ 14
-the_step_comes_before_the_room = refl
+-- of an algorithm and a step, and of whether there is room
+pub statuses : Computes (λ (asked : ℕ × ℕ × Bool). auth_status asked.0 asked.1 asked.2) (
+    ("open system", (0, 1, true), 0)
+    ∷ ("shared key", (1, 1, true), 13)
+    ∷ ("a third step", (0, 3, true), 14)
+    ∷ ("a second step", (0, 2, true), 14)
+    ∷ ("a full network", (0, 1, false), 1)
+    ∷ ("the algorithm before the step", (1, 3, true), 13)
+    ∷ ("the algorithm before the room", (3, 1, false), 13)
+    ∷ ("the step before the room", (0, 0, false), 14)
+    ∷ [])
+statuses = refl
 
 -- ---- answers
 

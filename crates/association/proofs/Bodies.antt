@@ -1,10 +1,10 @@
 -- What the body of each kind of request says, field by field, is what is read of it, and the reverse.
 use Rattle.std.proofs.Common.{◌≡◌, ℕ, ◌+◌, ◌<◌, ◌≤◌, Bool, true, false, ltb, get_or, List, [], ◌++◌, length, take, drop}
-use Rattle.std.proofs.Common.{Option, Some, None, Result, Ok, Err, inl, inr, refl, sym, ap, subst, ◌∙◌, arith}
-use Rattle.std.proofs.Common.{append_assoc, length-append, length-drop}
+use Rattle.std.proofs.Common.{Option, Some, None, Result, Ok, Err, refl, sym, ap, subst, ◌∙◌, arith, append_assoc}
+use Rattle.std.proofs.Common.{length-append, length-drop}
 use Rattle.std.specs.Prelude.{if◌then◌else◌}
 use Rattle.std.specs.Int.{w16, from_le_bytes}
-use Rattle.std.proofs.lemmas.Bool.{lt-ltb, le-ltb, both_ways, cases_lt}
+use Rattle.std.proofs.lemmas.Bool.{le-ltb, ltb-false}
 use Rattle.std.proofs.lemmas.List.{take-append-drop, drop-drop, get_or-drop, length-take-le}
 use Rattle.std.proofs.Math.Seq.{drop-append_seam, take-append_seam}
 use Rattle.mac_frame.specs.declared.frame.Unread.{Unread}
@@ -80,10 +80,6 @@ enough : {A : Type 0} (fixed : ℕ) (body : List ℕ) (read : Result A Unread) �
 enough fixed body read long =
     let fits : ltb (length body) fixed ≡ false = le-ltb (length body) fixed long in rw fits refl
 
-not-short : (m n : ℕ) → ltb m n ≡ false → n ≤ m
-not-short m n e =
-    elim (cases_lt m n) [ inl less ↦ absurd (both_ways (ltb m n) e (lt-ltb m n less)) | inr more ↦ more ]
-
 fixed-there : {A : Type 0} (fixed : ℕ) (body : List ℕ) (read : Result A Unread) (a : A)
     → with_fixed fixed body read ≡ Ok a → (fixed ≤ length body) × (read ≡ Ok a)
 fixed-there {A} fixed body read a h = by (ltb (length body) fixed) refl h
@@ -91,7 +87,7 @@ fixed-there {A} fixed body read a h = by (ltb (length body) fixed) refl h
     by : (b : Bool) → ltb (length body) fixed ≡ b → (if b then Err Body else read) ≡ Ok a
         → (fixed ≤ length body) × (read ≡ Ok a)
     by true short e = absurd (cc)
-    by false fits e = (not-short (length body) fixed fits, e)
+    by false fits e = (ltb-false (length body) fixed fits, e)
 
 -- ---- a probe request
 

@@ -4,6 +4,7 @@ use Rattle.mac_frame.specs.Samples.{network, station}
 use Rattle.elements.specs.Elements.{Pair}
 use Rattle.association.specs.Samples.{other_station, frame, four_rates, ssid}
 use Rattle.association.specs.Joining.{assoc_status, aid_field, association_response}
+use Rattle.association.proofs.Rows.{Computes}
 
 -- ---- statuses
 
@@ -11,46 +12,28 @@ use Rattle.association.specs.Joining.{assoc_status, aid_field, association_respo
 abbrev named : List Pair
 named = (0, ssid) ∷ (1, 0x02 ∷ 0x04 ∷ 0x0b ∷ 0x16 ∷ []) ∷ []
 
-a_station_with_the_basic_rates_is_served : assoc_status ssid four_rates true named ≡ 0
-a_station_with_the_basic_rates_is_served = refl
-
-a_station_without_a_basic_rate_is_refused :
-    assoc_status ssid four_rates true ((0, ssid) ∷ (1, 0x02 ∷ 0x0b ∷ 0x16 ∷ []) ∷ []) ≡ 18
-a_station_without_a_basic_rate_is_refused = refl
-
-a_basic_rate_may_stand_in_element_50 :
-    assoc_status ssid four_rates true ((0, ssid) ∷ (1, 0x02 ∷ 0x0b ∷ 0x16 ∷ []) ∷ (50, 0x04 ∷ []) ∷ []) ≡ 0
-a_basic_rate_may_stand_in_element_50 = refl
-
-only_basic_rates_are_wanted : assoc_status ssid four_rates true ((0, ssid) ∷ (1, 0x02 ∷ 0x04 ∷ []) ∷ []) ≡ 0
-only_basic_rates_are_wanted = refl
+where_there_is_room : Computes (assoc_status ssid four_rates true) (
+    ("the basic rates", named, 0)
+    ∷ ("a basic rate is missing", (0, ssid) ∷ (1, 0x02 ∷ 0x0b ∷ 0x16 ∷ []) ∷ [], 18)
+    ∷ ("it stands in element 50", (0, ssid) ∷ (1, 0x02 ∷ 0x0b ∷ 0x16 ∷ []) ∷ (50, 0x04 ∷ []) ∷ [], 0)
+    ∷ ("the basic rates alone", (0, ssid) ∷ (1, 0x02 ∷ 0x04 ∷ []) ∷ [], 0)
+    ∷ ("no SSID", [], 1)
+    ∷ ("an empty SSID", (0, []) ∷ (1, four_rates) ∷ [], 1)
+    ∷ ("another SSID", (0, 108 ∷ 97 ∷ []) ∷ (1, four_rates) ∷ [], 1)
+    ∷ ("another SSID before it", (0, 108 ∷ []) ∷ named, 1)
+    ∷ ("no rates", (0, ssid) ∷ [], 18)
+    ∷ [])
+where_there_is_room = refl
 
 a_network_without_basic_rates_wants_none : assoc_status ssid (0x0b ∷ 0x16 ∷ []) true ((0, ssid) ∷ []) ≡ 0
 a_network_without_basic_rates_wants_none = refl
 
-a_missing_ssid_is_refused : assoc_status ssid four_rates true [] ≡ 1
-a_missing_ssid_is_refused = refl
-
-an_empty_ssid_is_refused : assoc_status ssid four_rates true ((0, []) ∷ (1, four_rates) ∷ []) ≡ 1
-an_empty_ssid_is_refused = refl
-
-another_ssid_is_refused : assoc_status ssid four_rates true ((0, 108 ∷ 97 ∷ []) ∷ (1, four_rates) ∷ []) ≡ 1
-another_ssid_is_refused = refl
-
-the_first_ssid_counts : assoc_status ssid four_rates true ((0, 108 ∷ []) ∷ named) ≡ 1
-the_first_ssid_counts = refl
-
-missing_rates_are_refused : assoc_status ssid four_rates true ((0, ssid) ∷ []) ≡ 18
-missing_rates_are_refused = refl
-
-a_full_network_refuses : assoc_status ssid four_rates false named ≡ 17
-a_full_network_refuses = refl
-
-the_rates_come_before_the_room : assoc_status ssid four_rates false ((0, ssid) ∷ (1, 0x02 ∷ []) ∷ []) ≡ 18
-the_rates_come_before_the_room = refl
-
-the_ssid_comes_before_the_rates : assoc_status ssid four_rates false ((0, []) ∷ (1, 0x02 ∷ []) ∷ []) ≡ 1
-the_ssid_comes_before_the_rates = refl
+where_there_is_none : Computes (assoc_status ssid four_rates false) (
+    ("the basic rates", named, 17)
+    ∷ ("the rates before the room", (0, ssid) ∷ (1, 0x02 ∷ []) ∷ [], 18)
+    ∷ ("the SSID before the rates", (0, []) ∷ (1, 0x02 ∷ []) ∷ [], 1)
+    ∷ [])
+where_there_is_none = refl
 
 -- ---- answers
 

@@ -1,3 +1,4 @@
+pub mod Rows
 pub mod AuthenticationRows
 pub mod JoiningRows
 pub mod LeavingRows

@@ -1,12 +1,12 @@
 -- A request, by the frame of a string.
-use Rattle.std.proofs.Common.{◌≡◌, ℕ, ◌<◌, Bool, true, false, List, Result, Ok, Err, refl, ap, subst, ◌∙◌}
+use Rattle.std.proofs.Common.{◌≡◌, ℕ, ◌<◌, Bool, true, List, Result, Ok, Err, refl, ap, subst, ◌∙◌}
 use Rattle.std.specs.Prelude.{IfOk, IsOkAnd, MatchResult, slice_index}
 use Rattle.mac_frame.specs.Frame.{Frame, IsFrame, frame_of}
 use Rattle.mac_frame.specs.Rx as heard
 use Rattle.mac_frame.specs.declared.frame.Unread.{Unread}
 use Rattle.association.specs.Asked.{shown}
-use Rattle.association.specs.Request.{Request, Probe, Auth, Assoc, Disassoc, Deauth, Msdu, Null, Poll, sender, IsAsked}
-use Rattle.association.specs.Request.{IsRequest, request_in, request_read, request_of}
+use Rattle.association.specs.Request.{Request, Assoc, Msdu, Null, Poll, sender, IsAsked, IsRequest, request_in}
+use Rattle.association.specs.Request.{request_read, request_of}
 use Rattle.association.specs.declared.request.Request.{Request as Asked}
 use Rattle.association.proofs.Bodies.{ReadsElements, FindsElements}
 use Rattle.association.proofs.Requests.{subtype_of, Says, says-read, read-says}
@@ -31,15 +31,11 @@ abbrev IsManaged : List ℕ → List ℕ → Request → Type 0
 IsManaged bss x r = IsAsked bss x (subtype_of r) (sender r) (λ body. Says body r)
 
 managed : (bss x : List ℕ) (r : Request) → IsManaged bss x r → IsRequest bss x r
-managed bss x (Probe from ssid) w = w
-managed bss x (Auth from algorithm step) w = w
-managed bss x (Assoc from true listen elements) w = w
-managed bss x (Assoc from false listen elements) w = w
-managed bss x (Disassoc from) w = w
-managed bss x (Deauth from) w = w
 managed bss x (Msdu from doze to body) w = absurd w.says
 managed bss x (Null from doze) w = absurd w.says
 managed bss x (Poll from aid) w = absurd w.says
+managed bss x (Assoc from true listen elements) w = w
+managed bss x _ w = w
 
 -- the frame, and what is read of it
 pub record StandsOn (bss x : List ℕ) (r : Request) : Type 0 where
@@ -56,18 +52,13 @@ on-management reads bss x r w =
     }
 
 pub stands-on : ReadsElements → (bss x : List ℕ) (r : Request) → IsRequest bss x r → StandsOn bss x r
-stands-on reads bss x (Probe from ssid) w = on-management reads bss x (Probe from ssid) w
-stands-on reads bss x (Auth from algorithm step) w = on-management reads bss x (Auth from algorithm step) w
-stands-on reads bss x (Assoc from true listen elements) w =
-    on-management reads bss x (Assoc from true listen elements) w
-stands-on reads bss x (Assoc from false listen elements) w =
-    on-management reads bss x (Assoc from false listen elements) w
-stands-on reads bss x (Disassoc from) w = on-management reads bss x (Disassoc from) w
-stands-on reads bss x (Deauth from) w = on-management reads bss x (Deauth from) w
 stands-on reads bss x (Msdu from doze to body) w =
     record { heard_frame = heard.Msdu from doze to body; frame = w; read = refl }
 stands-on reads bss x (Null from doze) w = record { heard_frame = heard.Null from doze; frame = w; read = refl }
 stands-on reads bss x (Poll from aid) w = record { heard_frame = heard.Poll from aid; frame = w; read = refl }
+stands-on reads bss x (Assoc from true listen elements) w =
+    on-management reads bss x (Assoc from true listen elements) w
+stands-on reads bss x r w = on-management reads bss x r w
 
 -- ---- a request is what the function gives, and the reverse
 
@@ -128,6 +119,3 @@ pub of-frame : (bss x : List ℕ) (f : Frame) (read : Result Asked Unread) → f
     → IsReading bss x read
 of-frame bss x f (Ok request) is h = ap request_read is ∙ h
 of-frame bss x f (Err fault) is h = ap request_read is ∙ h
-
-pub of-fault : (bss x : List ℕ) (fault : Unread) → frame_of bss x ≡ Err fault → request_of bss x ≡ Err fault
-of-fault bss x fault is = ap request_read is

@@ -10,6 +10,7 @@ use Rattle.station_state.specs.declared.class.Class.TheVariants.{One, Two, Three
 use Rattle.association.specs.Asked.{class_of}
 use Rattle.association.specs.Request.{Request, Probe, Auth, Assoc, Disassoc, Deauth, Msdu, Null, Poll, request_of}
 use Rattle.association.specs.Samples.{ssid}
+use Rattle.association.proofs.Rows.{Computes}
 
 -- a management frame to the network, by its first octet
 abbrev managed : ℕ → List ℕ → List ℕ
@@ -21,13 +22,15 @@ managed control body = frame_of_parts control 0 network station network 0 body
 abbrev authentication : List ℕ
 authentication = managed 0xb0 (0 ∷ 0 ∷ 1 ∷ 0 ∷ 0 ∷ 0 ∷ [])
 
-pub an_authentication_is_read : request_of network authentication ≡ Ok (Auth station 0 1)
-an_authentication_is_read = refl
-
-pub numbers_are_read_low_octet_first :
-    request_of network (managed 0xb0 (0x01 ∷ 0x02 ∷ 0x03 ∷ 0x04 ∷ 0xff ∷ 0xff ∷ 0x10 ∷ []))
-    ≡ Ok (Auth station 0x0201 0x0403)
-numbers_are_read_low_octet_first = refl
+pub authentications : Computes (request_of network) (
+    ("open system", authentication, Ok (Auth station 0 1))
+    ∷ (
+      "numbers, low octet first",
+      managed 0xb0 (0x01 ∷ 0x02 ∷ 0x03 ∷ 0x04 ∷ 0xff ∷ 0xff ∷ 0x10 ∷ []),
+      Ok (Auth station 0x0201 0x0403),
+    )
+    ∷ [])
+authentications = refl
 
 -- what is read of the first octets, for each of these lengths
 abbrev cut_at : List ℕ → List ℕ → List (Result Request Unread)
@@ -93,84 +96,51 @@ ten_octets_are_a_request_without_elements = refl
 
 -- ---- leaving
 
-pub a_disassociation_is_read : request_of network (managed 0xa0 (8 ∷ 0 ∷ [])) ≡ Ok (Disassoc station)
-a_disassociation_is_read = refl
-
-pub a_deauthentication_is_read : request_of network (managed 0xc0 (3 ∷ 0 ∷ [])) ≡ Ok (Deauth station)
-a_deauthentication_is_read = refl
-
-pub what_follows_a_reason_is_ignored : request_of network (managed 0xc0 (3 ∷ 0 ∷ 0xdd ∷ 0xff ∷ []))
-    ≡ Ok (Deauth station)
-what_follows_a_reason_is_ignored = refl
-
-pub half_a_reason_is_refused : request_of network (managed 0xa0 (8 ∷ [])) ≡ Err Body
-half_a_reason_is_refused = refl
+pub notices : Computes (request_of network) (
+    ("a disassociation", managed 0xa0 (8 ∷ 0 ∷ []), Ok (Disassoc station))
+    ∷ ("a deauthentication", managed 0xc0 (3 ∷ 0 ∷ []), Ok (Deauth station))
+    ∷ ("octets after a reason", managed 0xc0 (3 ∷ 0 ∷ 0xdd ∷ 0xff ∷ []), Ok (Deauth station))
+    ∷ ("half a reason", managed 0xa0 (8 ∷ []), Err Body)
+    ∷ [])
+notices = refl
 
 -- ---- data and polls
 
-pub a_unit_is_read : request_of network (frame_of_parts 0x08 0x01 network station host 0 (0xaa ∷ 0xaa ∷ []))
-    ≡ Ok (Msdu station false host (0xaa ∷ 0xaa ∷ []))
-a_unit_is_read = refl
+-- a unit to the host on the wire
+abbrev unit : List ℕ → List ℕ
+unit body = frame_of_parts 0x08 0x01 network station host 0 body
 
-pub a_unit_of_a_station_that_dozes_is_read :
-    request_of network (frame_of_parts 0x08 0x11 network station broadcast 0 []) ≡ Ok (Msdu station true broadcast [])
-a_unit_of_a_station_that_dozes_is_read = refl
+abbrev poll : (flags : ℕ) → List ℕ
+poll flags = (0xa4 ∷ flags ∷ 0x01 ∷ 0xc0 ∷ []) ++ network ++ station
 
-pub a_unit_is_no_list_of_elements : request_of network (frame_of_parts 0x08 0x01 network station host 0 (0x00 ∷ []))
-    ≡ Ok (Msdu station false host (0x00 ∷ []))
-a_unit_is_no_list_of_elements = refl
+pub units_and_polls : Computes (request_of network) (
+    ("a unit", unit (0xaa ∷ 0xaa ∷ []), Ok (Msdu station false host (0xaa ∷ 0xaa ∷ [])))
+    ∷ ("dozing", frame_of_parts 0x08 0x11 network station broadcast 0 [], Ok (Msdu station true broadcast []))
+    ∷ ("no list of elements", unit (0x00 ∷ []), Ok (Msdu station false host (0x00 ∷ [])))
+    ∷ ("a null", frame_of_parts 0x48 0x11 network station network 0 [], Ok (Null station true))
+    ∷ ("a poll", poll 0, Ok (Poll station 1))
+    ∷ ("a poll of 15 octets", take 15 (poll 0), Err Short)
+    ∷ [])
+units_and_polls = refl
 
-pub a_null_is_read : request_of network (frame_of_parts 0x48 0x11 network station network 0 []) ≡ Ok (Null station true)
-a_null_is_read = refl
+-- a fault of the frame is a fault of the request
+pub faults_of_frames : Computes (request_of network) (
+    ("a protected unit", frame_of_parts 0x08 0x41 network station host 0 [], Err Flags)
+    ∷ ("a poll to the distribution system", poll 0x01, Err Direction)
+    ∷ ("to all", frame_of_parts 0xb0 0 broadcast station network 0 (0 ∷ 0 ∷ 1 ∷ 0 ∷ 0 ∷ 0 ∷ []), Err Address)
+    ∷ ("too long, before its body is read", managed 0xc0 (replicate 2305 0), Err TooLong)
+    ∷ ("an association response", managed 0x10 [], Err Kind)
+    ∷ [])
+faults_of_frames = refl
 
-pub a_poll_is_read : request_of network ((0xa4 ∷ 0x00 ∷ 0x01 ∷ 0xc0 ∷ []) ++ network ++ station) ≡ Ok (Poll station 1)
-a_poll_is_read = refl
-
-pub a_poll_of_15_octets_is_short : request_of network (take 15 ((0xa4 ∷ 0x00 ∷ 0x01 ∷ 0xc0 ∷ []) ++ network ++ station))
-    ≡ Err Short
-a_poll_of_15_octets_is_short = refl
-
--- ---- a fault of the frame is a fault of the request
-
-pub a_protected_unit_is_refused : request_of network (frame_of_parts 0x08 0x41 network station host 0 []) ≡ Err Flags
-a_protected_unit_is_refused = refl
-
-pub a_poll_to_the_distribution_system_is_refused :
-    request_of network ((0xa4 ∷ 0x01 ∷ 0x01 ∷ 0xc0 ∷ []) ++ network ++ station) ≡ Err Direction
-a_poll_to_the_distribution_system_is_refused = refl
-
-pub an_authentication_to_all_is_refused :
-    request_of network (frame_of_parts 0xb0 0 broadcast station network 0 (0 ∷ 0 ∷ 1 ∷ 0 ∷ 0 ∷ 0 ∷ [])) ≡ Err Address
-an_authentication_to_all_is_refused = refl
-
-pub a_frame_is_too_long_before_its_body_is_read : request_of network (managed 0xc0 (replicate 2305 0)) ≡ Err TooLong
-a_frame_is_too_long_before_its_body_is_read = refl
-
-pub an_association_response_is_no_request : request_of network (managed 0x10 []) ≡ Err Kind
-an_association_response_is_no_request = refl
-
--- ---- classes
-
-pub a_probe_is_of_class_1 : class_of (Probe station None) ≡ One
-a_probe_is_of_class_1 = refl
-
-pub an_authentication_is_of_class_1 : class_of (Auth station 0 1) ≡ One
-an_authentication_is_of_class_1 = refl
-
-pub a_deauthentication_is_of_class_1 : class_of (Deauth station) ≡ One
-a_deauthentication_is_of_class_1 = refl
-
-pub an_association_request_is_of_class_2 : class_of (Assoc station false 10 []) ≡ Two
-an_association_request_is_of_class_2 = refl
-
-pub a_disassociation_is_of_class_2 : class_of (Disassoc station) ≡ Two
-a_disassociation_is_of_class_2 = refl
-
-pub a_unit_is_of_class_3 : class_of (Msdu station false host []) ≡ Three
-a_unit_is_of_class_3 = refl
-
-pub a_null_is_of_class_3 : class_of (Null station true) ≡ Three
-a_null_is_of_class_3 = refl
-
-pub a_poll_is_of_class_3 : class_of (Poll station 1) ≡ Three
-a_poll_is_of_class_3 = refl
+pub classes : Computes class_of (
+    ("a probe request", Probe station None, One)
+    ∷ ("an authentication", Auth station 0 1, One)
+    ∷ ("a deauthentication", Deauth station, One)
+    ∷ ("an association request", Assoc station false 10 [], Two)
+    ∷ ("a disassociation", Disassoc station, Two)
+    ∷ ("a unit", Msdu station false host [], Three)
+    ∷ ("a null", Null station true, Three)
+    ∷ ("a poll", Poll station 1, Three)
+    ∷ [])
+classes = refl
