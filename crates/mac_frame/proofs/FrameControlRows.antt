@@ -2,47 +2,25 @@
 use Rattle.std.proofs.Common.{◌≡◌, true, [], ◌∷◌, refl}
 use Rattle.mac_frame.specs.FrameControl.{control_of, octets_of, plain}
 use Rattle.mac_frame.specs.declared.frame_control.FrameType.TheVariants.{Management, Control, Data, Extension}
+use Rattle.mac_frame.proofs.Rows.{Computes}
 
--- ---- read, one field at a time
-
-pub a_probe_request_is_type_0_subtype_4 : control_of (0x40 ∷ 0x00 ∷ []) ≡ plain Management 4
-a_probe_request_is_type_0_subtype_4 = refl
-
-pub a_ps_poll_is_type_1_subtype_10 : control_of (0xa4 ∷ 0x00 ∷ []) ≡ plain Control 10
-a_ps_poll_is_type_1_subtype_10 = refl
-
-pub a_null_is_type_2_subtype_4 : control_of (0x48 ∷ 0x00 ∷ []) ≡ plain Data 4
-a_null_is_type_2_subtype_4 = refl
-
-pub type_3_is_an_extension : control_of (0x0c ∷ 0x00 ∷ []) ≡ plain Extension 0
-type_3_is_an_extension = refl
-
-pub the_lowest_bits_are_the_version : control_of (0x03 ∷ 0x00 ∷ []) ≡ record (plain Management 0) { version = 3 }
-the_lowest_bits_are_the_version = refl
-
-pub bit_8_is_to_ds : control_of (0x00 ∷ 0x01 ∷ []) ≡ record (plain Management 0) { to_ds = true }
-bit_8_is_to_ds = refl
-
-pub bit_9_is_from_ds : control_of (0x00 ∷ 0x02 ∷ []) ≡ record (plain Management 0) { from_ds = true }
-bit_9_is_from_ds = refl
-
-pub bit_10_is_more_fragments : control_of (0x00 ∷ 0x04 ∷ []) ≡ record (plain Management 0) { more_fragments = true }
-bit_10_is_more_fragments = refl
-
-pub bit_11_is_retry : control_of (0x00 ∷ 0x08 ∷ []) ≡ record (plain Management 0) { retry = true }
-bit_11_is_retry = refl
-
-pub bit_12_is_power_management : control_of (0x00 ∷ 0x10 ∷ []) ≡ record (plain Management 0) { power_management = true }
-bit_12_is_power_management = refl
-
-pub bit_13_is_more_data : control_of (0x00 ∷ 0x20 ∷ []) ≡ record (plain Management 0) { more_data = true }
-bit_13_is_more_data = refl
-
-pub bit_14_is_protected_frame : control_of (0x00 ∷ 0x40 ∷ []) ≡ record (plain Management 0) { protected = true }
-bit_14_is_protected_frame = refl
-
-pub bit_15_is_order : control_of (0x00 ∷ 0x80 ∷ []) ≡ record (plain Management 0) { order = true }
-bit_15_is_order = refl
+-- read, one field at a time
+pub what_is_read : Computes control_of (
+    ("a probe request", 0x40 ∷ 0x00 ∷ [], plain Management 4)
+    ∷ ("a PS-Poll", 0xa4 ∷ 0x00 ∷ [], plain Control 10)
+    ∷ ("a null", 0x48 ∷ 0x00 ∷ [], plain Data 4)
+    ∷ ("type 3", 0x0c ∷ 0x00 ∷ [], plain Extension 0)
+    ∷ ("the lowest bits", 0x03 ∷ 0x00 ∷ [], record (plain Management 0) { version = 3 })
+    ∷ ("bit 8", 0x00 ∷ 0x01 ∷ [], record (plain Management 0) { to_ds = true })
+    ∷ ("bit 9", 0x00 ∷ 0x02 ∷ [], record (plain Management 0) { from_ds = true })
+    ∷ ("bit 10", 0x00 ∷ 0x04 ∷ [], record (plain Management 0) { more_fragments = true })
+    ∷ ("bit 11", 0x00 ∷ 0x08 ∷ [], record (plain Management 0) { retry = true })
+    ∷ ("bit 12", 0x00 ∷ 0x10 ∷ [], record (plain Management 0) { power_management = true })
+    ∷ ("bit 13", 0x00 ∷ 0x20 ∷ [], record (plain Management 0) { more_data = true })
+    ∷ ("bit 14", 0x00 ∷ 0x40 ∷ [], record (plain Management 0) { protected = true })
+    ∷ ("bit 15", 0x00 ∷ 0x80 ∷ [], record (plain Management 0) { order = true })
+    ∷ [])
+what_is_read = refl
 
 -- ---- written
 

@@ -14,8 +14,7 @@ use Rattle.mac_frame.specs.PsPoll.{is_ps_poll_read, ps_poll_of}
 use Rattle.mac_frame.specs.Frame.{Frame, Mgmt, Msdu, Null, Poll, shown, IsFrame, is_short, frame_of}
 use Rattle.mac_frame.specs.declared.frame.Rx.{Rx}
 use Rattle.mac_frame.specs.declared.frame_control.FrameControl.{FrameControl}
-use Rattle.mac_frame.specs.declared.frame_control.FrameType.{FrameType}
-use Rattle.mac_frame.specs.declared.frame_control.FrameType.TheVariants.{Management, Control, Data}
+use Rattle.mac_frame.specs.declared.frame_control.FrameType.TheVariants.{Control}
 use Rattle.mac_frame.specs.declared.frame.Unread.{Unread}
 use Rattle.mac_frame.specs.declared.frame.Unread.TheVariants.{Short, Version, Kind}
 use Rattle.mac_frame.proofs.FrameTypes.{where_is_management, where_is_control, where_is_data}
@@ -51,15 +50,6 @@ twenty_four x short other =
 
 -- ---- the kinds
 
--- a frame of another type is none of these
-no_management : (x : List ℕ) (type : FrameType) → (control_at x).kind ≡ type → is_management type ≡ false
-    → is_management_read (control_at x) ≡ false
-no_management x type is other = and_left _ _ (ap is_management is ∙ other)
-
-no_data : (x : List ℕ) (type : FrameType) → (control_at x).kind ≡ type → is_data type ≡ false
-    → is_data_read (control_at x) ≡ false
-no_data x type is other = and_left _ _ (ap is_data is ∙ other)
-
 -- the function, by the answers of its tests
 abbrev ladder : (short version is_management is_data is_poll : Bool) (m d p : Result Frame Unread) → Result Frame Unread
 ladder short version is_management is_data is_poll m d p =
@@ -85,7 +75,7 @@ read_as_data bss x c same long zero_version read =
     let type = where_is_data (control_at x).kind (and_parts _ _ data_is).0 in
     let short = not_short x long in
     let version = not_from_true _ (eq-eqb (control_at x).version 0 version_is) in
-    let other = no_management x Data type refl in
+    let other = and_left _ _ (ap is_management type) in
     λ i. ladder (short i) (version i) (other i) (data_is i) (is_ps_poll_read (control_at x)) (management_of bss x)
     (data_of bss x) (ps_poll_of bss x)
 
@@ -97,8 +87,8 @@ read_as_poll bss x c same long zero_version poll =
     let type = where_is_control (control_at x).kind (and_parts _ _ poll_is).0 in
     let short = no_short_control x long type in
     let version = not_from_true _ (eq-eqb (control_at x).version 0 version_is) in
-    let other = no_management x Control type refl in
-    let another = no_data x Control type refl in
+    let other = and_left _ _ (ap is_management type) in
+    let another = and_left _ _ (ap is_data type) in
     λ i. ladder (short i) (version i) (other i) (another i) (poll_is i) (management_of bss x) (data_of bss x)
     (ps_poll_of bss x)
 
@@ -134,11 +124,6 @@ is_read bss x (Poll from aid) w =
 
 -- ---- what the function gives is a frame
 
--- by the type, no control frame
-no_control : (x : List ℕ) (type : FrameType) → (control_at x).kind ≡ type → is_control type ≡ false
-    → is_control (control_at x).kind ≡ false
-no_control x type is other = ap is_control is ∙ other
-
 pub is_a_frame : (bss x : List ℕ) (f : Frame) → frame_of bss x ≡ Ok f → IsFrame bss x f
 is_a_frame bss x f e =
     let short = not_taken (is_short x) Short _ f e in
@@ -146,14 +131,13 @@ is_a_frame bss x f e =
     let zero_version = eqb-true (control_at x).version 0 (not-false _ version.0) in
     elim (taken (is_management_read (control_at x)) (management_of bss x) _ f version.1) [
       | inl m ↦
-          let long =
-          twenty_four x short.0
-          (no_control x Management (where_is_management (control_at x).kind (and_parts _ _ m.0).0) refl) in
+          let type = where_is_management (control_at x).kind (and_parts _ _ m.0).0 in
+          let long = twenty_four x short.0 (ap is_control type) in
           management.frame_where_read bss x long zero_version m.0 f m.1
       | inr m ↦ elim (taken (is_data_read (control_at x)) (data_of bss x) _ f m.1) [
         | inl d ↦
-            let long =
-            twenty_four x short.0 (no_control x Data (where_is_data (control_at x).kind (and_parts _ _ d.0).0) refl) in
+            let type = where_is_data (control_at x).kind (and_parts _ _ d.0).0 in
+            let long = twenty_four x short.0 (ap is_control type) in
             data_frames.frame_where_read bss x long zero_version d.0 f d.1
         | inr d ↦ elim (taken (is_ps_poll_read (control_at x)) (ps_poll_of bss x) (Err Kind) f d.1) [
           | inl p ↦ polls.frame_where_read bss x (sixteen x short.0) zero_version p.0 f p.1
@@ -165,10 +149,7 @@ is_a_frame bss x f e =
 -- ---- what follows
 
 pub is_one : (bss x : List ℕ) (f g : Frame) → IsFrame bss x f → IsFrame bss x g → f ≡ g
-is_one bss x f g v w =
-    let read = is_read bss x f v in
-    let read_too = is_read bss x g w in
-    cc
+is_one bss x f g v w = cc (is_read bss x f v, is_read bss x g w)
 
 -- whom a frame is sent to
 abbrev IsAddressed : List ℕ → List ℕ → Type 0
@@ -215,9 +196,7 @@ unit_octets bss x from doze to body w =
 
 -- no frame where the function gives a fault
 pub none_at_fault : (bss x : List ℕ) (f : Frame) (u : Unread) → frame_of bss x ≡ Err u → IsFrame bss x f → ⊥
-none_at_fault bss x f u e w =
-    let read = is_read bss x f w in
-    cc
+none_at_fault bss x f u e w = cc (e, is_read bss x f w)
 
 -- what is read, or the fault, is the function's
 abbrev IsReading : List ℕ → List ℕ → Result Rx Unread → Type 0
@@ -232,7 +211,5 @@ reads_a_frame bss x (Err fault) e = tt
 -- what is a frame is read
 pub reads_each_frame : (bss x : List ℕ) (r : Result Rx Unread) → IsReading bss x r → (f : Frame) → IsFrame bss x f
     → IsOkAnd r (λ rx. shown rx ≡ f)
-reads_each_frame bss x (Ok rx) e f w =
-    let read = is_read bss x f w in
-    cc
+reads_each_frame bss x (Ok rx) e f w = cc (e, is_read bss x f w)
 reads_each_frame bss x (Err fault) e f w = absurd (none_at_fault bss x f fault e w)

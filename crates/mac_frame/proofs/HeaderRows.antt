@@ -12,6 +12,7 @@ use Rattle.mac_frame.specs.declared.management.TheConstants.{BEACON, CAPABILITY,
 use Rattle.mac_frame.specs.declared.management.TheConstants.{PROBE_REQUEST, PROBE_RESPONSE, REASSOCIATION_REQUEST}
 use Rattle.mac_frame.specs.declared.management.TheConstants.{REASSOCIATION_RESPONSE}
 use Rattle.mac_frame.specs.Samples.{network, station}
+use Rattle.mac_frame.proofs.Rows.{Computes}
 
 abbrev probe_response : List ℕ
 probe_response =
@@ -41,32 +42,16 @@ ess_alone_is_the_lowest_bit = refl
 pub the_written_capability_is_ess_alone : to_le_bytes w16 CAPABILITY ≡ capability
 the_written_capability_is_ess_alone = refl
 
-pub the_probe_request_is_the_standards : PROBE_REQUEST ≡ probe_request_subtype
-the_probe_request_is_the_standards = refl
-
-pub the_probe_response_is_the_standards : PROBE_RESPONSE ≡ probe_response_subtype
-the_probe_response_is_the_standards = refl
-
-pub the_beacon_is_the_standards : BEACON ≡ beacon_subtype
-the_beacon_is_the_standards = refl
-
-pub the_association_request_is_the_standards : ASSOCIATION_REQUEST ≡ association_request_subtype
-the_association_request_is_the_standards = refl
-
-pub the_association_response_is_the_standards : ASSOCIATION_RESPONSE ≡ association_response_subtype
-the_association_response_is_the_standards = refl
-
-pub the_reassociation_request_is_the_standards : REASSOCIATION_REQUEST ≡ reassociation_request_subtype
-the_reassociation_request_is_the_standards = refl
-
-pub the_reassociation_response_is_the_standards : REASSOCIATION_RESPONSE ≡ reassociation_response_subtype
-the_reassociation_response_is_the_standards = refl
-
-pub the_disassociation_is_the_standards : DISASSOCIATION ≡ disassociation_subtype
-the_disassociation_is_the_standards = refl
-
-pub the_authentication_is_the_standards : AUTHENTICATION ≡ authentication_subtype
-the_authentication_is_the_standards = refl
-
-pub the_deauthentication_is_the_standards : DEAUTHENTICATION ≡ deauthentication_subtype
-the_deauthentication_is_the_standards = refl
+pub the_subtypes_are_the_standards : Computes (λ (subtype : ℕ). subtype) (
+    ("an association request", ASSOCIATION_REQUEST, association_request_subtype)
+    ∷ ("an association response", ASSOCIATION_RESPONSE, association_response_subtype)
+    ∷ ("a reassociation request", REASSOCIATION_REQUEST, reassociation_request_subtype)
+    ∷ ("a reassociation response", REASSOCIATION_RESPONSE, reassociation_response_subtype)
+    ∷ ("a probe request", PROBE_REQUEST, probe_request_subtype)
+    ∷ ("a probe response", PROBE_RESPONSE, probe_response_subtype)
+    ∷ ("a beacon", BEACON, beacon_subtype)
+    ∷ ("a disassociation", DISASSOCIATION, disassociation_subtype)
+    ∷ ("an authentication", AUTHENTICATION, authentication_subtype)
+    ∷ ("a deauthentication", DEAUTHENTICATION, deauthentication_subtype)
+    ∷ [])
+the_subtypes_are_the_standards = refl

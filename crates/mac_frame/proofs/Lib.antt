@@ -9,6 +9,7 @@ pub mod ManagementFrames
 pub mod DataFrames
 pub mod PsPollFrames
 pub mod Frames
+pub mod Rows
 pub mod AddressRows
 pub mod FrameControlRows
 pub mod HeaderRows
