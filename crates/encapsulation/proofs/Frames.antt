@@ -189,13 +189,8 @@ is_a_frame y w e =
 -- ---- what follows
 
 pub is_one : (y : List ℕ) (v w : Ethernet) → IsEthernet y v → IsEthernet y w → v ≡ w
-is_one y v w h k =
-    let read = is_read y v h in
-    let read_too = is_read y w k in
-    cc
+is_one y v w h k = cc (is_read y v h, is_read y w k)
 
 -- what is read is the only frame
 pub is_the_read : (y : List ℕ) (v w : Ethernet) → ethernet_of y ≡ Ok v → IsEthernet y w → v ≡ w
-is_the_read y v w e h =
-    let read = is_read y w h in
-    cc
+is_the_read y v w e h = cc (e, is_read y w h)
