@@ -1,5 +1,5 @@
 -- What the definitions say of some beacons.
-use Rattle.std.proofs.Common.{◌≡◌, ℕ, Bool, true, false, List, [], ◌∷◌, ◌++◌, refl}
+use Rattle.std.proofs.Common.{◌≡◌, ℕ, Bool, true, false, List, [], ◌∷◌, ◌++◌, map, refl}
 use Rattle.tim.specs.Tim.{tim_octets, partial_of, from_first_pair, up_to_last, virtual_bitmap, octet_at, bits_from}
 use Rattle.beacon.specs.Advert.{Announced, timestamp, fixed_fields, network_elements}
 use Rattle.beacon.specs.Beacon.{dtim_count, beacon_tim, beacon_body, beacon}
@@ -39,21 +39,9 @@ tim_stands_between_channel_and_extended_rates members = refl
 -- ---- DTIM Count
 
 -- the first beacon is a DTIM, and so is each third after it
-count_of_the_first_beacon : dtim_count 1 3 ≡ 0
+counts_of_period_3 : map (λ (clock : ℕ). dtim_count clock 3) (1 ∷ 2 ∷ 3 ∷ 4 ∷ []) ≡ 0 ∷ 2 ∷ 1 ∷ 0 ∷ []
 unfolding dtim_count
-count_of_the_first_beacon = refl
-
-count_of_the_second_beacon : dtim_count 2 3 ≡ 2
-unfolding dtim_count
-count_of_the_second_beacon = refl
-
-count_of_the_third_beacon : dtim_count 3 3 ≡ 1
-unfolding dtim_count
-count_of_the_third_beacon = refl
-
-count_of_the_fourth_beacon : dtim_count 4 3 ≡ 0
-unfolding dtim_count
-count_of_the_fourth_beacon = refl
+counts_of_period_3 = refl
 
 each_beacon_of_period_1_is_a_dtim : dtim_count 7 1 ≡ 0
 unfolding dtim_count

@@ -6,15 +6,6 @@ use Rattle.beacon.specs.Advert.{timestamp, fixed_fields, network_elements}
 use Rattle.beacon.specs.ProbeResponse.{probe_response_body, probe_response}
 use Rattle.beacon.proofs.Samples.{lab, four_rates, nine_rates}
 
-body_with_four_rates :
-    probe_response_body (lab four_rates)
-    ≡ 0 ∷ 0 ∷ 0 ∷ 0 ∷ 0 ∷ 0 ∷ 0 ∷ 0 ∷ 0x64 ∷ 0x00 ∷ 0x01 ∷ 0x00
-    ∷ 0x00 ∷ 0x03 ∷ 0x6c ∷ 0x61 ∷ 0x62
-    ∷ 0x01 ∷ 0x04 ∷ 0x82 ∷ 0x84 ∷ 0x0b ∷ 0x16
-    ∷ 0x03 ∷ 0x01 ∷ 0x06 ∷ []
-unfolding timestamp fixed_fields network_elements
-body_with_four_rates = refl
-
 frame_with_four_rates :
     probe_response (lab four_rates) station 0
     ≡ 0x50 ∷ 0x00 ∷ 0x00 ∷ 0x00
