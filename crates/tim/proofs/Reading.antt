@@ -1,7 +1,8 @@
 -- The tests by which a TIM is read are met exactly by what shows something.
-use Rattle.std.proofs.Common.{◌≡◌, ◌==◌, ◌↔◌, ◌⊎◌, ℕ, zero, suc, ◌+◌, ◌-◌, ◌*◌, ◌/◌, ◌%◌, ◌<◌, ◌≤◌, Bool, true, false, ◌&&◌, nat_lt, IsTrue, List, [], ◌∷◌, length, get_or, refl, sym, ap, ◌∙◌, subst, inl, inr, ⊎_elim, arith}
+use Rattle.std.proofs.Common.{◌≡◌, ◌==◌, ◌↔◌, ◌⊎◌, ℕ, zero, suc, ◌+◌, ◌-◌, ◌*◌, ◌/◌, ◌%◌, ◌<◌, ◌≤◌, Bool, true, false, ◌&&◌, nat_lt, IsTrue, List, [], ◌∷◌, length, get_or, refl, sym, ◌∙◌, subst, inl, inr, ⊎_elim, arith}
 use Rattle.std.specs.Int.{bit_at, from_bool}
 use Rattle.std.proofs.lemmas.Bool.{cases_lt, le-leb, leb-true, lt-ltb, ltb-true, eqb-true, eq-eqb, ne_eqb, and_parts, and_from, or_cases, or_left, or_right, not-true, not_from_true, not_from_false, false_from_ne_true, false≢true}
+use Rattle.std.proofs.lemmas.Bool.Decides.{nat_tests}
 use Rattle.std.proofs.lemmas.Nat.Bits.{bit_at_lowest}
 use Rattle.tim.specs.Tim.{IsAid, first_place, HasNumber, ShowsTim, tim_id}
 use Rattle.tim.specs.Spelling.{is_placed, is_trimmed, is_spelled}
@@ -132,10 +133,7 @@ test-from_spelled count period control octets counted at_0 s =
 
 -- the lowest bit, as a truth value
 lowest_bit : (control : ℕ) → bit_at control 0 ≡ from_bool (control % 2 == 1)
-lowest_bit control = bit_at_lowest control ∙ ⊎_elim
-    (λ even. let zero_is : control % 2 ≡ 0 = omega arith in zero_is ∙ sym (ap from_bool (ne_eqb (control % 2) 1 (λ one. omega (arith, one)))))
-    (λ more. let odd : control % 2 ≡ 1 = omega arith in odd ∙ sym (ap from_bool (eq-eqb (control % 2) 1 odd)))
-    (cases_lt (control % 2) 1)
+lowest_bit control = bit_at_lowest control ∙ grind (arith, nat_tests)
 
 -- what passes the tests shows the numbers that its octets have
 pub read_shows : (t : List ℕ) (count period control half : ℕ) (octets : List ℕ) (members : ℕ → Bool) → t ≡ tim_id ∷ (length octets + 3) ∷ count ∷ period ∷ control ∷ octets → ((place : ℕ) → get_or t place 0 < 256) → is_spelled count period control octets ≡ true → half ≡ control / 2 → ((n : ℕ) → IsTrue (members n) ↔ HasNumber (2 * half) octets n) → ShowsTim t count period (control % 2 == 1) members

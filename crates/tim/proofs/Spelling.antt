@@ -154,10 +154,7 @@ sent_at-lt first octets place s = ⊎_elim
 
 -- two bits are one where each is 1 with the other
 pub same_bit : (a b : ℕ) → a < 2 → b < 2 → (a ≡ 1 → b ≡ 1) → (b ≡ 1 → a ≡ 1) → a ≡ b
-same_bit a b p q to back = ⊎_elim
-    (λ a_none. ⊎_elim (λ b_none. omega arith) (λ b_some. absurd (omega (arith, back (omega arith)))) (cases_lt b 1))
-    (λ a_some. let b_is = to (omega arith) in omega arith)
-    (cases_lt a 1)
+same_bit a b p q to back = grind arith
 
 -- the octets have the same numbers
 abbrev pub SameShown : ℕ → List ℕ → ℕ → List ℕ → Type 0
