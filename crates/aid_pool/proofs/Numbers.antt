@@ -1,11 +1,12 @@
 -- The set of the numbers whose marks are set, one number at a time.
-use Rattle.std.proofs.Common.{◌≡◌, ℕ, zero, suc, ◌+◌, ◌-◌, ◌<◌, ◌≤◌, Bool, true, false, not, ◌&&◌, ◌||◌, cond, eqb, filter, List, ◌∷◌, refl, inl, inr, sym, ap, ◌∙◌, arith}
+use Rattle.std.proofs.Common.{◌≡◌, ℕ, zero, suc, ◌+◌, ◌-◌, ◌<◌, ◌≤◌, Bool, true, false, not, ◌&&◌, ◌||◌, eqb, filter, List, refl, inl, inr, sym, ap, ◌∙◌, arith}
 use Rattle.std.specs.List.{range_with_len}
 use Rattle.std.specs.Ordering.{nat_cmp}
 use Rattle.std.specs.Cmp.{nat_cmp_total, unsigned_tied}
 use Rattle.std.specs.FinSet as set
 use Rattle.std.specs.FinSet.{FinSet, contains-empty, contains-insert, contains-remove, len-insert, len-remove, same_set, nat_cmp-IsAntisymmetric}
 use Rattle.std.proofs.lemmas.Bool.{eq-eqb, ne_eqb, cases_lt, cases_eq, cases_Bool, both_ways}
+use Rattle.std.proofs.lemmas.Bool.Decides.{nat_tests}
 use Rattle.aid_pool.specs.Pool.{Pool}
 use Rattle.aid_pool.specs.Marks.{has_mark, numbers_of}
 
@@ -28,30 +29,13 @@ same_numbers = same_set nat_cmp_total nat_cmp-IsAntisymmetric
 abbrev passing : (ℕ → Bool) → ℕ → ℕ → Numbers
 passing test from count = set.from_list (filter test (range_with_len from count))
 
-or_none : (b : Bool) → (b || false) ≡ b
-or_none true = refl
-or_none false = refl
-
-and_passed : (b c : Bool) → (b || c) ≡ ((b && true) || c)
-and_passed true c = refl
-and_passed false c = refl
-
-and_failed : (b c : Bool) → c ≡ ((b && false) || c)
-and_failed true c = refl
-and_failed false c = refl
-
 -- one more number in front
 passing_more : (test : ℕ → Bool) (a n q : ℕ) → set.contains (passing test a (suc n)) q ≡ ((eqb q a && test a) || set.contains (passing test (a + 1) n) q)
-passing_more test a n q =
-    elim (test a) as (λ b. set.contains (set.from_list {R = nat_cmp} (cond b (a ∷ filter test (range_with_len (a + 1) n)) (filter test (range_with_len (a + 1) n)))) q ≡ ((eqb q a && b) || set.contains (passing test (a + 1) n) q)) [
-      | true ↦ contains_inserted (passing test (a + 1) n) a q ∙ and_passed (eqb q a) (set.contains (passing test (a + 1) n) q)
-      | false ↦ and_failed (eqb q a) (set.contains (passing test (a + 1) n) q)
-    ]
+passing_more test a n q = grind (arith, contains_inserted (passing test (a + 1) n) a q)
 
 -- a number that isn't the first
 passing_other : (test : ℕ → Bool) (a n q : ℕ) → (q ≡ a → ⊥) → set.contains (passing test a (suc n)) q ≡ set.contains (passing test (a + 1) n) q
-passing_other test a n q other =
-    passing_more test a n q ∙ ap (λ b. (b && test a) || set.contains (passing test (a + 1) n) q) (ne_eqb q a other)
+passing_other test a n q other = grind (arith, nat_tests, other, passing_more test a n q)
 
 before_all : (test : ℕ → Bool) (n a q : ℕ) → q < a → set.contains (passing test a n) q ≡ false
 before_all test zero a q below = contains-empty nat_cmp q
@@ -65,16 +49,7 @@ past_all test (suc n) a q past =
 
 within_all : (test : ℕ → Bool) (n a q : ℕ) → a ≤ q → q < a + n → set.contains (passing test a n) q ≡ test q
 within_all test zero a q from to = absurd (omega arith)
-within_all test (suc n) a q from to =
-    elim (cases_eq q a) [
-      | inl same ↦
-          passing_more test a n q
-          ∙ ap (λ b. (b && test a) || set.contains (passing test (a + 1) n) q) (eq-eqb q a same)
-          ∙ ap (λ b. test a || b) (before_all test n (a + 1) q (omega arith))
-          ∙ or_none (test a)
-          ∙ ap test (sym same)
-      | inr other ↦ passing_other test a n q other ∙ within_all test n (a + 1) q (omega arith) (omega arith)
-    ]
+within_all test (suc n) a q from to = grind (arith, nat_tests, passing_more test a n q, before_all test n (a + 1) q, within_all test n (a + 1) q)
 
 -- ---- the set of the marks that are set
 
@@ -95,16 +70,11 @@ not_contained words q outside =
 
 -- a number in the set is an identifier
 pub contained_within : (words : List ℕ) (q : ℕ) → set.contains (numbers_of words) q ≡ true → (1 ≤ q) × (q ≤ 2007)
-contained_within words q out = (
-  elim (cases_lt q 1) [
-    | inl none ↦ absurd (both_ways _ (not_contained words q (λ some fits. omega arith)) out)
-    | inr some ↦ some
-  ],
-  elim (cases_lt 2007 q) [
-    | inl past ↦ absurd (both_ways _ (not_contained words q (λ some fits. omega arith)) out)
-    | inr fits ↦ fits
-  ],
-)
+contained_within words q out =
+    let inside : (1 ≤ q → q ≤ 2007 → ⊥) → ⊥ = λ outside. both_ways _ (not_contained words q outside) out in (
+      elim (cases_lt q 1) [ inl none ↦ absurd (inside (λ some fits. omega arith)) | inr some ↦ some ],
+      elim (cases_lt 2007 q) [ inl past ↦ absurd (inside (λ some fits. omega arith)) | inr fits ↦ fits ],
+    )
 
 -- ---- a mark is set or cleared
 
@@ -123,28 +93,20 @@ same_beside words new q same =
 pub numbers_of-marked : (words new : List ℕ) (k : ℕ) → 1 ≤ k → k ≤ 2007 → ((q : ℕ) → has_mark new q ≡ (eqb q k || has_mark words q)) → numbers_of new ≡ set.insert (numbers_of words) k
 numbers_of-marked words new k some fits marked =
     same_numbers _ _ (λ q. elim (cases_eq q k) [
-      | inl same ↦
-          contains-numbers_of new q (omega arith) (omega arith)
-          ∙ marked q
-          ∙ ap (λ b. b || has_mark words q) (eq-eqb q k same)
-          ∙ sym (contains_inserted (numbers_of words) k q ∙ ap (λ b. b || set.contains (numbers_of words) q) (eq-eqb q k same))
+      | inl same ↦ cc (contains-numbers_of new q (omega arith) (omega arith), marked q, contains_inserted (numbers_of words) k q, eq-eqb q k same)
       | inr other ↦
-          same_beside words new q (marked q ∙ ap (λ b. b || has_mark words q) (ne_eqb q k other))
-          ∙ sym (contains_inserted (numbers_of words) k q ∙ ap (λ b. b || set.contains (numbers_of words) q) (ne_eqb q k other))
+          let stays : has_mark new q ≡ has_mark words q = cc (marked q, ne_eqb q k other) in
+          cc (same_beside words new q stays, contains_inserted (numbers_of words) k q, ne_eqb q k other)
     ])
 
 -- a number whose mark is cleared leaves
 pub numbers_of-cleared : (words new : List ℕ) (k : ℕ) → 1 ≤ k → k ≤ 2007 → ((q : ℕ) → has_mark new q ≡ (not (eqb q k) && has_mark words q)) → numbers_of new ≡ set.remove (numbers_of words) k
 numbers_of-cleared words new k some fits cleared =
     same_numbers _ _ (λ q. elim (cases_eq q k) [
-      | inl same ↦
-          contains-numbers_of new q (omega arith) (omega arith)
-          ∙ cleared q
-          ∙ ap (λ b. not b && has_mark words q) (eq-eqb q k same)
-          ∙ sym (contains_removed (numbers_of words) k q ∙ ap (λ b. not b && set.contains (numbers_of words) q) (eq-eqb q k same))
+      | inl same ↦ cc (contains-numbers_of new q (omega arith) (omega arith), cleared q, contains_removed (numbers_of words) k q, eq-eqb q k same)
       | inr other ↦
-          same_beside words new q (cleared q ∙ ap (λ b. not b && has_mark words q) (ne_eqb q k other))
-          ∙ sym (contains_removed (numbers_of words) k q ∙ ap (λ b. not b && set.contains (numbers_of words) q) (ne_eqb q k other))
+          let stays : has_mark new q ≡ has_mark words q = cc (cleared q, ne_eqb q k other) in
+          cc (same_beside words new q stays, contains_removed (numbers_of words) k q, ne_eqb q k other)
     ])
 
 -- no mark of an identifier is set

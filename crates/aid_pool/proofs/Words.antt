@@ -1,13 +1,14 @@
 -- The marks of a list of words, one at a time, and the first that isn't set.
-use Rattle.std.proofs.Common.{◌≡◌, ℕ, ◌+◌, ◌-◌, ◌*◌, ◌/◌, ◌%◌, ◌^◌, ◌<◌, ◌≤◌, ◌≢◌, Bool, true, false, not, ◌&&◌, ◌||◌, cond, eqb, List, length, get_or, set as set_at, replicate, Some, None, w64, bit_and, bit_or, refl, inl, inr, sym, ap, ◌∙◌, arith}
+use Rattle.std.proofs.Common.{◌≡◌, ℕ, ◌+◌, ◌-◌, ◌*◌, ◌/◌, ◌%◌, ◌^◌, ◌<◌, ◌≤◌, ◌≢◌, Bool, true, false, not, ◌&&◌, ◌||◌, cond, eqb, List, length, get_or, set as set_at, replicate, Some, None, w64, bit_and, bit_or, inl, inr, sym, ap, ◌∙◌, arith}
 use Rattle.std.specs.Int.{bit_at, bit_not}
 use Rattle.std.specs.List.{position, position_or_len}
 use Rattle.std.proofs.lemmas.Bool.{eq-eqb, ne_eqb, eqb-true, eqb-false, cases_lt, cases_eq, not-true, not-false, lt-ltb}
-use Rattle.std.proofs.lemmas.List.{get_or-set_other, get_or-replicate, get_or_past, length-replicate}
+use Rattle.std.proofs.lemmas.List.{get_or-set_other, length-replicate}
+use Rattle.std.proofs.lemmas.Bool.Decides.{nat_tests}
 use Rattle.std.proofs.lemmas.List.Quantifiers.{position-Some}
 use Rattle.std.proofs.lemmas.List.Sums.{fails_before_first}
 use Rattle.std.proofs.lemmas.Option.{none-some}
-use Rattle.std.proofs.lemmas.Grind.{get_or-set_at}
+use Rattle.std.proofs.lemmas.Grind.{common_steps, get_or-set_at}
 use Rattle.std.proofs.lemmas.Nat.Bits.{bit_at-zero, bit_at_above, bit_at_ones, bit_at_set_same, bit_at_set_other, bit_at_clear_same, bit_at_clear_other}
 use Rattle.aid_pool.specs.Marks.{has_mark, has_clear_mark, IsFirstClear}
 
@@ -29,31 +30,14 @@ mark_beside words place word q other = ap (λ w. bit_at w (q % 64)) (get_or-set_
 -- one mark of that word is the mark of number k after it, and the others are as before
 one_mark : (words : List ℕ) (k word bit : ℕ) → k / 64 < length words → bit_at word (k % 64) ≡ bit → ((i : ℕ) → i < 64 → i ≢ k % 64 → bit_at word i ≡ bit_at (get_or words (k / 64) 0) i) → (q : ℕ) → mark (set_at words (k / 64) word) q ≡ cond (eqb q k) bit (mark words q)
 one_mark words k word bit within is others q =
-    elim (cases_eq q k) [
-      | inl same ↦
-          let place : q / 64 ≡ k / 64 = ap (λ n. n / 64) same in
-          mark_in_word words (k / 64) word q place within
-          ∙ ap (λ n. bit_at word (n % 64)) same
-          ∙ is
-          ∙ sym (ap (λ b. cond b bit (mark words q)) (eq-eqb q k same))
-      | inr other ↦
-          elim (cases_eq (q / 64) (k / 64)) [
-            | inl place ↦
-                mark_in_word words (k / 64) word q place within
-                ∙ others (q % 64) (omega arith) (omega arith)
-                ∙ ap (λ p. bit_at (get_or words p 0) (q % 64)) (sym place)
-            | inr away ↦ mark_beside words (k / 64) word q away
-          ]
-          ∙ sym (ap (λ b. cond b bit (mark words q)) (ne_eqb q k other))
-    ]
+    let beside = others (q % 64) (omega arith) in
+    grind (arith, nat_tests, get_or-set_at words (k / 64) (q / 64) word 0, get_or-set_other words (k / 64) (q / 64) word 0, beside)
 
 or_marked : (b : Bool) (m : ℕ) → eqb (cond b 1 m) 1 ≡ (b || eqb m 1)
-or_marked true m = refl
-or_marked false m = refl
+or_marked b m = grind arith
 
 and_cleared : (b : Bool) (m : ℕ) → eqb (cond b 0 m) 1 ≡ (not b && eqb m 1)
-and_cleared true m = refl
-and_cleared false m = refl
+and_cleared b m = grind arith
 
 -- the mark of number k is set
 pub marked : (words : List ℕ) (k : ℕ) → k / 64 < length words → (q : ℕ) → has_mark (set_at words (k / 64) (bit_or (get_or words (k / 64) 0) (1 * 2 ^ (k % 64) % 2 ^ 64))) q ≡ (eqb q k || has_mark words q)
@@ -74,13 +58,7 @@ cleared words k within q =
 -- ---- words of which no mark is set but that of number 0
 
 mark-zeros : (n q : ℕ) → mark (replicate n 0) q ≡ 0
-mark-zeros n q =
-    ap (λ w. bit_at w (q % 64))
-    (elim (cases_lt (q / 64) n) [
-      | inl within ↦ get_or-replicate n (q / 64) 0 0 within
-      | inr past ↦ get_or_past (replicate n 0) (q / 64) 0 (omega (arith, length-replicate {A = ℕ} n 0))
-    ])
-    ∙ bit_at-zero (q % 64)
+mark-zeros n q = let none : get_or {A = ℕ} (replicate n 0) (q / 64) 0 ≡ 0 = grind (arith, common_steps) in rw none (bit_at-zero (q % 64))
 
 pub only_number_0 : (n q : ℕ) → 0 < n → 1 ≤ q → has_mark (set_at (replicate n 0) 0 1) q ≡ false
 only_number_0 n q some other =
