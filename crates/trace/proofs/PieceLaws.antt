@@ -54,8 +54,7 @@ pub read_on : (config : RadioConfig) (text later : List ℕ) (said : List Line) 
 read_on config text later said r h =
     let others : List (List ℕ) = lines (unfinished_line text ++ later) in
     let count : 1 + length (whole_lines text) ≡ length (whole_lines text) + 1 = omega arith in
-    ap (lines_from (bssids_of config) 1) (lines-append text later)
-    ∙ rw (lines_from-append (bssids_of config) 1 (whole_lines text) others, h.answered, count) refl
+    rw (lines-append text later, lines_from-append (bssids_of config) 1 (whole_lines text) others, h.answered, count) refl
 
 -- ---- a line too many
 
@@ -76,10 +75,6 @@ lines-has_first x xs =
       | false ↦ lines_of_parts-has_first x parts.0 parts.1
     ])
 
-too_many : (bssids : List (List ℕ)) (number : ℕ) (some : List (List ℕ)) → nat_lt max_lines number ≡ true
-    → HasFirst some → lines_from bssids number some ≡ Err (fault_in number TooMany)
-too_many bssids number some over h = rw (h.2, over) refl
-
 -- what is answered where the line of a number is one too many, or not
 abbrev pub limited : Bool → ℕ → List Line → Result (List Line) TraceFault
 limited over number said = if over then Err (fault_in number TooMany) else Ok said
@@ -95,8 +90,7 @@ begun_fault bssids number octets later said met e = by octets (nat_lt max_lines 
         → lines_from bssids number (lines (os ++ later)) ≡ Err met
     by [] true is e = cc
     by (x ∷ xs) true is e =
-        too_many bssids number (lines (x ∷ xs ++ later)) is (lines-has_first x (xs ++ later))
-        ∙ (rw (lt-ltb 0 (length (x ∷ xs)) (omega arith)) at e)
+        rw ((lines-has_first x (xs ++ later)).2, is) (rw (lt-ltb 0 (length (x ∷ xs)) (omega arith)) at e)
     by os false is e = cc
 
 -- ---- piece by piece
@@ -125,8 +119,8 @@ read-more config text piece said more r h e =
     record {
       state = rw (h.state, here, whole, unfinished_line-append text piece) refl;
       answered =
-          ap (lines_from bssids 1) (whole_lines-append text piece)
-          ∙ rw (lines_from-append bssids 1 (whole_lines text) (whole_lines on), h.answered, count)
+          rw
+          (whole_lines-append text piece, lines_from-append bssids 1 (whole_lines text) (whole_lines on), h.answered, count)
           (ap (said_after said) (answered_more (lines_from bssids (length (whole_lines text) + 1) (whole_lines on)) _ _ more here));
     }
 
@@ -148,15 +142,11 @@ read-fault config text piece later said r met h e =
     let number : ℕ = length (whole_lines text) + 1 in
     let here : answer_to (reader_after bssids text) piece ≡ Err met = rw h.state at e in
     let count : length (whole_lines text) + length (whole_lines on) + 1 ≡ number + length (whole_lines on) = omega arith in
-    ap (lines_of config) (append_assoc text piece later)
-    ∙ read_on config text (piece ++ later) said r h
-    ∙ ap
-    (said_after said)
-    (ap (λ (t : List ℕ). lines_from bssids number (lines t)) (sym (append_assoc (unfinished_line text) piece later))
-    ∙ ap (lines_from bssids number) (lines-append on later)
-    ∙ lines_from-append bssids number (whole_lines on) (lines (unfinished_line on ++ later))
-    ∙ faulty bssids number (whole_lines on) (unfinished_line on) later (lines_from bssids number (whole_lines on)) met
-    (rw count at here))
+    rw
+    (append_assoc text piece later, read_on config text (piece ++ later) said r h, ← append_assoc (unfinished_line text) piece later, lines-append on later, lines_from-append bssids number (whole_lines on) (lines (unfinished_line on ++ later)))
+    (ap (said_after said)
+    (faulty bssids number (whole_lines on) (unfinished_line on) later (lines_from bssids number (whole_lines on)) met
+    (rw count at here)))
 
 -- ---- the end
 

@@ -1,5 +1,5 @@
 -- What the steps of reading a piece rest on.
-use Rattle.std.proofs.Common.{◌≡◌, ℕ, ◌+◌, Bool, true, false, List, [], ◌∷◌, ◌++◌, length, Option, Some, Result, Ok, Err, None, IsOkAnd, MatchOption, MatchResult, OnOk, OnErr, length-append, refl, ap, sym, subst, ◌∙◌, append_assoc, append-nil, arith}
+use Rattle.std.proofs.Common.{◌≡◌, ℕ, ◌+◌, Bool, true, false, List, [], ◌∷◌, ◌++◌, length, Option, Some, Result, Ok, Err, None, IsOkAnd, MatchOption, MatchResult, OnOk, OnErr, length-append, refl, ap, sym, ◌∙◌, append_assoc, append-nil, arith}
 use Rattle.std.specs.Option.{option_to_list}
 use Rattle.std.proofs.lemmas.List.Elements.{All-append}
 use Rattle.std.specs.Str.Lines.{strip_carriage_return}
@@ -48,30 +48,31 @@ limit_after first (Err met) over number = refl
 -- the unfinished line ends and says this, and a text comes after it
 line_then : (r : ReaderView) (end text : List ℕ) (said : Option Line) → LacksLineFeed r.unfinished → LacksLineFeed end
     → line_of r.bssids (r.ended_lines + 1) (strip_carriage_return (r.unfinished ++ end)) ≡ Ok said
-    → said_in r (r.unfinished ++ ended end ++ text) ≡ said_after (option_to_list said) (said_in (after_line r) text)
+    → said_in r (r.unfinished ++ (ended end ++ text)) ≡ said_after (option_to_list said) (said_in (after_line r) text)
 line_then r end text said before after e =
     let line : List ℕ = strip_carriage_return (r.unfinished ++ end) in
     let number : r.ended_lines + length (line ∷ whole_lines text) + 1 ≡ r.ended_lines + 1 + length (whole_lines text) + 1 =
     omega arith in
     rw
-    (whole_lines_line r.unfinished end text before after, unfinished_line_line r.unfinished end text before after, e, number)
+    (← append_assoc r.unfinished (ended end) text, whole_lines_line r.unfinished end text before after, unfinished_line_line r.unfinished end text before after, e, number)
     (limit_after (option_to_list said) (lines_from r.bssids (r.ended_lines + 1 + 1) (whole_lines text)) _ _)
 
 -- it ends and has a fault
 line_refused : (r : ReaderView) (end text : List ℕ) (met : TraceFault) → LacksLineFeed r.unfinished → LacksLineFeed end
     → line_of r.bssids (r.ended_lines + 1) (strip_carriage_return (r.unfinished ++ end)) ≡ Err met
-    → said_in r (r.unfinished ++ ended end ++ text) ≡ Err met
-line_refused r end text met before after e = rw (whole_lines_line r.unfinished end text before after, e) refl
+    → said_in r (r.unfinished ++ (ended end ++ text)) ≡ Err met
+line_refused r end text met before after e =
+    rw (← append_assoc r.unfinished (ended end) text, whole_lines_line r.unfinished end text before after, e) refl
 
 -- the reader then
 line_past : (r : ReaderView) (end text : List ℕ) → LacksLineFeed r.unfinished → LacksLineFeed end
-    → past (after_line r) text ≡ past r (r.unfinished ++ ended end ++ text)
+    → past (after_line r) text ≡ past r (r.unfinished ++ (ended end ++ text))
 line_past r end text before after =
     let line : List ℕ = strip_carriage_return (r.unfinished ++ end) in
     let number : r.ended_lines + length (line ∷ whole_lines text) ≡ r.ended_lines + 1 + length (whole_lines text) =
     omega arith in
     rw
-    (whole_lines_line r.unfinished end text before after, unfinished_line_line r.unfinished end text before after, number)
+    (← append_assoc r.unfinished (ended end) text, whole_lines_line r.unfinished end text before after, unfinished_line_line r.unfinished end text before after, number)
     refl
 
 -- an answer, where there is one
@@ -95,7 +96,7 @@ remains_none r piece was lacks = record {
   said = [];
   says = sym (said_after-none (said_in r (r.unfinished ++ piece)));
   goes = refl;
-  took = λ c said h. subst (λ (all : List Line). was c all) (sym (append-nil said)) h;
+  took = λ c said h. rw (append-nil said) h;
   same = refl;
   lacks = lacks;
 }
@@ -107,23 +108,17 @@ pub remains_more : (first : ReaderView) (piece : List ℕ) (now : ReaderView) (e
     (λ more. TakesMore more is is')
     → next ≡ after_line now → Remains first piece next later was is'
 remains_more first piece now end later next was is is' s lacks takes same =
-    let parted = sym (append_assoc now.unfinished (ended end) later) in
     let a = line_is (line_of now.bssids (now.ended_lines + 1) (strip_carriage_return (now.unfinished ++ end))) (λ more. TakesMore more is is') takes in
-    subst
-    (λ (r : ReaderView). Remains first piece r later was is')
-    (sym same)
+    rw same
     (record {
       said = s.said ++ option_to_list a.0;
       says =
           s.says
-          ∙ ap (said_after s.said) (ap (said_in now) parted ∙ line_then now end later a.0 s.lacks lacks a.1)
+          ∙ ap (said_after s.said) (line_then now end later a.0 s.lacks lacks a.1)
           ∙ said_after-assoc s.said (option_to_list a.0) (said_in (after_line now) later);
-      goes = line_past now end later s.lacks lacks ∙ ap (past now) (sym parted) ∙ s.goes;
+      goes = line_past now end later s.lacks lacks ∙ s.goes;
       took = λ c said h.
-          subst
-          (λ (all : List Line). is' c all)
-          (append_assoc said s.said (option_to_list a.0))
-          (a.2 c (said ++ s.said) (s.took c said h));
+          rw (append_assoc said s.said (option_to_list a.0)) at (a.2 c (said ++ s.said) (s.took c said h));
       same = ap (λ (r : ReaderView). record r { ended_lines = now.ended_lines + 1; unfinished = [] }) s.same;
       lacks = λ k d low e. absurd (omega (arith, low));
     })
@@ -141,11 +136,7 @@ remains_fault first piece now end later next was is is' fault s lacks h same =
       takes =
           same_fault (as_list line) (said_in first (first.unfinished ++ piece)) fault h
           (λ met e.
-          s.says
-          ∙ ap
-          (said_after s.said)
-          (ap (said_in now) (sym (append_assoc now.unfinished (ended end) later))
-          ∙ line_refused now end later met s.lacks lacks (line_fault line met e)));
+          s.says ∙ ap (said_after s.said) (line_refused now end later met s.lacks lacks (line_fault line met e)));
       goes = tt;
       same =
           same
@@ -167,9 +158,6 @@ remains_or first piece now end later next was is is' (Err fault) s lacks takes o
     remains_fault first piece now end later next was is is' fault s lacks takes same
 
 -- no line ends in the rest
-abbrev HasKept : ReaderView → ReaderView → Type 0
-HasKept first now = now ≡ record first { ended_lines = now.ended_lines; unfinished = now.unfinished }
-
 pub remains_end : (first : ReaderView) (piece : List ℕ) (now : ReaderView) (rest : List ℕ) (next : ReaderView)
     (was is : RadioConfig → List Line → Type 0) (result : Result Unit (ReadFault TraceFault))
     → Remains first piece now rest was is → LacksLineFeed rest
@@ -182,12 +170,9 @@ remains_end first piece now rest next was is (Ok u) s lacks gives ok err =
     let all : said_in first (first.unfinished ++ piece) ≡ Ok s.said =
     s.says ∙ ap (said_after s.said) (held ∙ gives) ∙ ap (λ (ls : List Line). Ok ls) (append-nil s.said) in
     record {
-      takes =
-          subst (λ (read : Result (List Line) TraceFault). IsOkAnd read (λ more. TakesMore more was is)) (sym all) s.took;
+      takes = rw all s.took;
       goes = ok ∙ held_past now (now.unfinished ++ rest) none ∙ s.goes;
-      same =
-          subst (HasKept first) (sym ok)
-          (ap (λ (r : ReaderView). record r { unfinished = now.unfinished ++ rest }) s.same);
+      same = rw ok (ap (λ (r : ReaderView). record r { unfinished = now.unfinished ++ rest }) s.same);
     }
 remains_end first piece now rest next was is (Err fault) s lacks gives ok err =
     let none = All-append (λ octet. octet ≡ 10 → ⊥) now.unfinished rest s.lacks lacks in
@@ -198,7 +183,7 @@ remains_end first piece now rest next was is (Err fault) s lacks gives ok err =
           fault gives
           (λ met e. s.says ∙ ap (said_after s.said) (held ∙ e));
       goes = tt;
-      same = subst (HasKept first) (sym err) s.same;
+      same = rw err s.same;
     }
 
 -- ---- lines that are kept
@@ -243,8 +228,7 @@ pub taken_on : (c : RadioConfig) (text piece : List ℕ) (r r' : ReaderView) (wa
 taken_on c text piece r r' was is (Ok u) takes after h =
     let a = answer_is (answer_to r piece) (λ more. TakesMore more was is) takes in (
       h.0 ++ a.0,
-      subst (λ (s : ReaderView). HasRead c (text ++ piece) (h.0 ++ a.0) s) (sym after)
-          (read-more c text piece h.0 a.0 r h.1 a.1),
+      rw after (read-more c text piece h.0 a.0 r h.1 a.1),
       a.2 c h.0 h.2,
     )
 taken_on c text piece r r' was is (Err fault) takes after h =
@@ -277,4 +261,4 @@ taken_at_end c text r was is (Err fault) takes h =
 pub taken_first : (c : RadioConfig) (r : ReaderView) (taken : List Line → Type 0) → r ≡ new_reader (bssids_of c)
     → taken [] → AreTakenSoFar c [] r taken
 taken_first c r taken new none =
-    ([], subst (λ (s : ReaderView). HasRead c [] [] s) (sym new) (read-nothing c), none)
+    ([], rw new (read-nothing c), none)
