@@ -29,10 +29,7 @@ line-only : (place : ℕ) (ns : List NetworkState) (line : Line) (rs : List (Opt
 line-only place [] line rs h k = h
 line-only place (n ∷ ns) line [] h k = absurd h
 line-only place (n ∷ ns) line (r ∷ rs) h k =
-    ap (λ (s : Option Reply). s ∷ rs) (reply-if-only n (event_at place n line) r h.0 k.0)
-    ∙ ap
-    (λ (rest : List (Option Reply)). reply_if n (event_at place n line) ∷ rest)
-    (line-only (place + 1) ns line rs h.1 k.1)
+    λ i. reply-if-only n (event_at place n line) r h.0 k.0 i ∷ line-only (place + 1) ns line rs h.1 k.1 i
 
 answer-only : (m : Moment) (asked : Asked) (answer : Answer) → MayAnswer m asked answer → IsUnrefused answer
     → answer ≡ answer_of m asked

@@ -1,6 +1,6 @@
 -- What is written of a network is what it does alone.
-use Rattle.std.proofs.Common.{◌≡◌, ℕ, suc, zero, ◌<◌, List, [], ◌∷◌, ◌++◌, length, map, take, Option, Some, None, Ok, Err, refl, sym, ap, subst, ◌∙◌}
-use Rattle.std.specs.Prelude.{slice_get, option_map}
+use Rattle.std.proofs.Common.{◌≡◌, ℕ, suc, zero, ◌<◌, List, [], ◌∷◌, ◌++◌, length, map, take, Some, None, Ok, Err, refl, sym, ap, subst, ◌∙◌}
+use Rattle.std.specs.Prelude.{slice_get}
 use Rattle.std.proofs.lemmas.Option.{slice_get-get_or, slice_get-map}
 use Rattle.network.specs.Network.{Network}
 use Rattle.ap_config.specs.declared.setting.Setting.{Setting}
@@ -25,10 +25,9 @@ bssids-first c (n ∷ ns) = ap (λ (bs : List (List ℕ)). n.bssid ∷ bs) (bssi
 pub network-first : (c : RadioConfig) (place : ℕ) → place < length c.networks
     → slice_get (first_moment c).networks place ≡ Some (new_network (setting_at c place))
 network-first c place within =
-    slice_get-map (λ n. new_network (setting_in c n)) c.networks place
-    ∙ ap
-    (λ (o : Option NetConfig). option_map (λ n. new_network (setting_in c n)) o)
-    (slice_get-get_or c.networks place no_network within)
+    rw
+    (slice_get-map (λ n. new_network (setting_in c n)) c.networks place, slice_get-get_or c.networks place no_network within)
+    refl
 
 -- ---- after some lines
 
@@ -88,10 +87,7 @@ is-alone laws c said answers next place within h =
 
 setting-alike : (c d : RadioConfig) (p q : ℕ) → c.channel ≡ d.channel → c.interval ≡ d.interval
     → network_at c p ≡ network_at d q → setting_at c p ≡ setting_at d q
-setting-alike c d p q channel interval network =
-    ap (λ n. record (setting_at c p) { channel = n }) channel
-    ∙ ap (λ n. record (setting_at c p) { channel = d.channel; interval = n }) interval
-    ∙ ap (λ (n : NetConfig). record (setting_at d q) { network = n }) network
+setting-alike c d p q channel interval network = rw (channel, interval, network) refl
 
 abbrev pub Isolated : Type 0
 Isolated =

@@ -77,29 +77,6 @@ pub record OwnAlone (s : Setting) (place : ℕ) (es : List Event) (said : List A
   pub wire : (alone s (es ++ events_taken place s.network.bssid said answers)).wire
       ≡ (alone s es).wire ++ wire_at place answers
 
-own-more : (s : Setting) (place : ℕ) (es : List Event) (asked : Asked) (said : List Asked) (answer : Answer)
-    (answers : List Answer) (next : Moment)
-    → RepliesAlone s es (event_in place s.network.bssid asked) (reply_in place answer)
-    → OwnAlone s place (es ++ option_to_list (taken_if (event_in place s.network.bssid asked) (reply_in place answer))) said
-    answers next
-    → OwnAlone s place es (asked ∷ said) (answer ∷ answers) next
-own-more s place es asked said answer answers next one on =
-    let event : Option Event = event_in place s.network.bssid asked in
-    let some : List Event = option_to_list (taken_if event (reply_in place answer)) in
-    let more : List Event = events_taken place s.network.bssid said answers in
-    let all : (es ++ some) ++ more ≡ es ++ (some ++ more) = append_assoc es some more in
-    record {
-      there = on.there ∙ ap (λ (xs : List Event). Some (alone_after s xs)) all;
-      air =
-          ap (λ (xs : List Event). (alone s xs).air) (sym all) ∙ on.air
-          ∙ ap (λ (fs : List (List ℕ)). fs ++ air_at place answers) one.air
-          ∙ append_assoc (alone s es).air (air_in (reply_in place answer)) (air_at place answers);
-      wire =
-          ap (λ (xs : List Event). (alone s xs).wire) (sym all) ∙ on.wire
-          ∙ ap (λ (fs : List (List ℕ)). fs ++ wire_at place answers) one.wire
-          ∙ append_assoc (alone s es).wire (wire_in (reply_in place answer)) (wire_at place answers);
-    }
-
 -- what one of them leads to
 pub record OneTaken (s : Setting) (place : ℕ) (m : Moment) (es : List Event) (asked : Asked) (answer : Answer) : Type 0
   where
@@ -119,18 +96,25 @@ one-taken laws s place m es asked answer h e =
 pub own : AloneLaws → (s : Setting) (place : ℕ) (m : Moment) (es : List Event) (said : List Asked)
     (answers : List Answer) (next : Moment) → Answers m said answers next
     → slice_get m.networks place ≡ Some (alone_after s es) → OwnAlone s place es said answers next
-own laws s place m es [] [] next h e =
-    let none : es ++ [] ≡ es = append-nil es in
-    record {
-      there = ap (λ (o : Moment). slice_get o.networks place) h ∙ e
-          ∙ ap (λ (xs : List Event). Some (alone_after s xs)) (sym none);
-      air = ap (λ (xs : List Event). (alone s xs).air) none ∙ sym (append-nil (alone s es).air);
-      wire = ap (λ (xs : List Event). (alone s xs).wire) none ∙ sym (append-nil (alone s es).wire);
-    }
+own laws s place m es [] [] next h e = record {
+  there = rw (h, append-nil es) e;
+  air = rw (append-nil es) (sym (append-nil (alone s es).air));
+  wire = rw (append-nil es) (sym (append-nil (alone s es).wire));
+}
 own laws s place m es [] (answer ∷ answers) next h e = absurd h
 own laws s place m es (asked ∷ said) [] next h e = absurd h
 own laws s place m es (asked ∷ said) (answer ∷ answers) next h e =
     let one = one-taken laws s place m es asked answer h.0 e in
-    let some : List Event = option_to_list (taken_if (event_in place s.network.bssid asked) (reply_in place answer)) in
+    let reply : Option Reply = reply_in place answer in
+    let some : List Event = option_to_list (taken_if (event_in place s.network.bssid asked) reply) in
     let on = own laws s place (after_answer m asked answer) (es ++ some) said answers next h.1 one.there in
-    own-more s place es asked said answer answers next one.alone_there on
+    let all : (es ++ some) ++ events_taken place s.network.bssid said answers
+    ≡ es ++ (some ++ events_taken place s.network.bssid said answers) =
+    append_assoc es some (events_taken place s.network.bssid said answers) in
+    record {
+      there = on.there ∙ ap (λ (xs : List Event). Some (alone_after s xs)) all;
+      air =
+          rw (← all, on.air, one.alone_there.air) (append_assoc (alone s es).air (air_in reply) (air_at place answers));
+      wire =
+          rw (← all, on.wire, one.alone_there.wire) (append_assoc (alone s es).wire (wire_in reply) (wire_at place answers));
+    }

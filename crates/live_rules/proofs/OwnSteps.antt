@@ -24,9 +24,7 @@ alone_after-none laws s = ap (λ (n : Network). let m : NetworkState = record { 
 
 -- the network with all that it sent before
 whole : (n : Network) → sent_before n.air n.wire (unsent n) ≡ n
-whole n =
-    ap (λ (fs : List (List ℕ)). record n { air = fs; wire = n.wire ++ [] }) (append-nil n.air)
-    ∙ ap (λ (fs : List (List ℕ)). record n { wire = fs }) (append-nil n.wire)
+whole n = rw (append-nil n.air, append-nil n.wire) refl
 
 -- one event more
 alone-more : AloneLaws → (s : Setting) (es : List Event) (e : Event)
@@ -75,14 +73,10 @@ pub record RepliesAlone (s : Setting) (es : List Event) (event : Option Event) (
 stays : (s : Setting) (es : List Event) (event : Option Event) (reply : Option Reply) → taken_if event reply ≡ None
     → air_in reply ≡ [] → wire_in reply ≡ [] → RepliesAlone s es event reply
 stays s es event reply none air wire =
-    let same : es ++ option_to_list (taken_if event reply) ≡ es =
-    ap (λ (o : Option Event). es ++ option_to_list o) none ∙ append-nil es in
     record {
-      after = ap (after_if (alone_after s es)) none ∙ ap (alone_after s) (sym same);
-      air = ap (λ (xs : List Event). (alone s xs).air) same ∙ sym (append-nil (alone s es).air)
-          ∙ ap (λ (fs : List (List ℕ)). (alone s es).air ++ fs) (sym air);
-      wire = ap (λ (xs : List Event). (alone s xs).wire) same ∙ sym (append-nil (alone s es).wire)
-          ∙ ap (λ (fs : List (List ℕ)). (alone s es).wire ++ fs) (sym wire);
+      after = rw (none, append-nil es) refl;
+      air = rw (none, append-nil es, air, append-nil (alone s es).air) refl;
+      wire = rw (none, append-nil es, wire, append-nil (alone s es).wire) refl;
     }
 
 -- it may reply so, if it replies at all

@@ -133,8 +133,5 @@ all-lines text =
     let all : lines text ≡ whole_lines text ++ lines line =
     ap lines (sym (append-nil text)) ∙ lines-append text []
     ∙ ap (λ (l : List ℕ). whole_lines text ++ lines l) (append-nil line) in
-    ap (map line_with) all
-    ∙ map-append line_with (whole_lines text) (lines line)
-    ∙ ap
-    (λ ls. ended_lines text ++ ls)
-    (ap (λ c. map line_with (lines_of_parts c)) (cut-unfinished text) ∙ last-parts line)
+    rw (all, map-append line_with (whole_lines text) (lines line), cut-unfinished text)
+    (ap (λ ls. ended_lines text ++ ls) (last-parts line))

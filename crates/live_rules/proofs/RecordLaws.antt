@@ -73,10 +73,9 @@ pub records-more : (octets piece : List ℕ) (records more : List (List ℕ)) (p
     → AreRecords (octets ++ piece) (records ++ more) rest
 records-more octets piece records more partial rest h k = record {
   all =
-      ap (λ (l : List ℕ). l ++ piece) h.all ∙ append_assoc (all_octets records) partial piece
-      ∙ ap (λ (l : List ℕ). all_octets records ++ l) k.all
-      ∙ sym (append_assoc (all_octets records) (all_octets more) rest)
-      ∙ ap (λ (l : List ℕ). l ++ rest) (sym (flat_map-append (λ octets. octets) records more));
+      rw
+      (h.all, append_assoc (all_octets records) partial piece, k.all, flat_map-append (λ octets. octets) records more)
+      (sym (append_assoc (all_octets records) (all_octets more) rest));
   each = each-both IsRecord records more h.each k.each;
   rest = k.rest;
 }

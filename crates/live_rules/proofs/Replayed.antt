@@ -181,9 +181,7 @@ taken-all laws reach s place m es (asked ∷ said) (x ∷ each) (answer ∷ answ
     (omega (arith, few, count, length-append es first))
     (after.there ∙ ap (λ (xs : List Event). Some (alone_after s (es ++ xs))) some)
     rest h.1 k.1 in
-    ap (λ (xs : List Event). xs ++ events_taken place bssid said answers) some
-    ∙ ap (λ (xs : List Event). first ++ xs) on
-    ∙ sym both
+    rw (some, on) (sym both)
 
 -- ---- a text that is a trace
 
@@ -213,8 +211,7 @@ trace-lines c text ls h =
     let on = text-lines (bssids_of c) 1 (lines text) ls h.short h.read in
     record {
       each = on.each;
-      say = ap (λ (bs : List (List ℕ)). map line_said (asked_by_all bs (map line_with (lines text)))) (bssids-first c c.networks)
-          ∙ on.say;
+      say = rw (bssids-first c c.networks) on.say;
       all = on.all;
     }
 

@@ -22,7 +22,7 @@ use Rattle.trace.specs.declared.fault.LineFault.TheVariants.{UnknownNetwork, NoA
 use Rattle.live_rules.specs.Asked.{Asked, Says, asked_by, asked_by_all}
 use Rattle.live_rules.specs.BothFaces.{Input, Heard, Wired, Interval, Question, IsInput, then_word, line_for, text_for, record_with, record_for, octets_for}
 use Rattle.live_rules.specs.Records.{IsRecord, AreRecords, record_asks, records_ask, wire_record}
-use Rattle.live_rules.specs.TextLines.{TextLine, Octets, line_with, lines_of_text, max_line}
+use Rattle.live_rules.specs.TextLines.{TextLine, Octets, lines_of_text, max_line}
 use Rattle.live_rules.proofs.RecordLaws.{each-both}
 
 -- ---- characters
@@ -336,14 +336,10 @@ line-is (Wired address octets) h =
 line-is Interval h = record { some = omega arith; above = (omega arith, tt); short = omega arith }
 line-is Question h = record { some = omega arith; above = (omega arith, tt); short = omega arith }
 
-within-line : (line : List ℕ) → length line ≤ max_line → line_with line ≡ Octets line
-within-line line short = rw (le-ltb max_line (length line) short) refl
-
 pub text-is : (inputs : List Input) → AllByRecursion IsInput inputs
     → lines_of_text (text_for inputs) ≡ map (λ input. Octets (line_for input)) inputs
 text-is [] h = refl
 text-is (input ∷ inputs) h =
     let l : IsLine (line_for input) = line-is input h.0 in
-    ap (map line_with) (line-first (line_for input) (text_for inputs) l.some l.above)
-    ∙ ap (λ (t : TextLine). t ∷ lines_of_text (text_for inputs)) (within-line (line_for input) l.short)
-    ∙ ap (λ (ts : List TextLine). Octets (line_for input) ∷ ts) (text-is inputs h.1)
+    rw (line-first (line_for input) (text_for inputs) l.some l.above, le-ltb max_line (length (line_for input)) l.short)
+    (ap (λ (ts : List TextLine). Octets (line_for input) ∷ ts) (text-is inputs h.1))
