@@ -1,10 +1,9 @@
 -- What each part of a run leaves, as the end of the whole.
-use Rattle.std.proofs.Common.{◌≡◌, ℕ, List, Option, Result, Ok, Err, ap, ◌∙◌}
+use Rattle.std.proofs.Common.{◌≡◌, ℕ, List, Option, Result, Ok, Err, refl}
 use Rattle.std.proofs.KnownBytes.{Keeps-refl}
 use Rattle.ap_config.specs.declared.config.RadioConfig.{RadioConfig}
 use Rattle.ap_config.specs.declared.config.ConfigFault.{ConfigFault}
 use Rattle.events.specs.declared.section.Section.{Section}
-use Rattle.events.specs.declared.line.Line.{Line}
 use Rattle.config_text.specs.ConfigurationText.{configuration_of}
 use Rattle.text_io.specs.Endings.{IsFaultOf, Ends, ending_of}
 use Rattle.text_io.specs.Faults.{read_as, read_ending, report_as}
@@ -17,8 +16,7 @@ use Rattle.text_io.specs.declared.read_fault.ReadFault.TheVariants as reads
 use Rattle.text_io.specs.declared.report_fault.ReportFault.{ReportFault}
 use Rattle.text_io.specs.declared.report_fault.ReportFault.TheVariants as reports
 use Rattle.text_io.specs.EndingLaws.{nothing_written, part_written, part_kept}
-use Rattle.replay.specs.Answer.{answered, replayed, answer_of, text_ending}
-use Rattle.network.specs.Section.{sections_of_lines}
+use Rattle.replay.specs.Answer.{answer_of, text_ending}
 use Rattle.replay.specs.Stream.{AreSectionsOf}
 use Rattle.replay.specs.declared.fault.TextFault.{TextFault}
 use Rattle.replay.specs.declared.fault.TextFault.TheVariants as texts
@@ -39,7 +37,7 @@ pub config_ends : (e : ReadFault ConfigFault) (ct tt : List ℕ) (old : Option (
     → Ends (ending_of {A = Unit} text_ending (Err (read_as texts.Config texts.NoMemory e))) (answer_of ct tt) old old
 unfolding answer_of
 config_ends (reads.At fault) ct tt old h =
-    (ap (λ (r : Result RadioConfig ConfigFault). answered r tt) h, Keeps-refl old)
+    (rw h refl, Keeps-refl old)
 config_ends reads.NoMemory ct tt old h = nothing_written (answer_of ct tt) old
 
 -- a fault of the trace
@@ -49,18 +47,11 @@ pub trace_ends : (e : ReadFault TraceFault) (c : RadioConfig) (ct tt : List ℕ)
     old
 unfolding answer_of
 trace_ends (reads.At fault) c ct tt old read h =
-    (ap (λ (r : Result RadioConfig ConfigFault). answered r tt) read ∙ ap (replayed c) h, Keeps-refl old)
+    (rw (read, h) refl, Keeps-refl old)
 trace_ends reads.NoMemory c ct tt old read h = nothing_written (answer_of ct tt) old
 
--- the report, where neither is at fault
-answer_of-read : (c : RadioConfig) (ls : List Line) (ct tt : List ℕ) → configuration_of ct ≡ Ok c
-    → lines_of c tt ≡ Ok ls
-    → answer_of ct tt ≡ Ok (report_text (sections_of_lines c ls))
-unfolding answer_of
-answer_of-read c ls ct tt read lines =
-    ap (λ (r : Result RadioConfig ConfigFault). answered r tt) read ∙ ap (replayed c) lines
-
--- the same by the sections of a trace
+-- the report of the sections of a trace, where neither is at fault
 pub answer_of-sections : (c : RadioConfig) (sections : List Section) (ct tt : List ℕ) → configuration_of ct ≡ Ok c
     → AreSectionsOf c tt sections → answer_of ct tt ≡ Ok (report_text sections)
-answer_of-sections c sections ct tt read are = rw are.2 (answer_of-read c are.0 ct tt read are.1)
+unfolding answer_of
+answer_of-sections c sections ct tt read are = rw (read, are.1, are.2) refl

@@ -1,5 +1,5 @@
 -- What each part of a check leaves, as the end of the whole.
-use Rattle.std.proofs.Common.{◌≡◌, ℕ, List, length, Option, Result, Ok, Err, ap}
+use Rattle.std.proofs.Common.{◌≡◌, ℕ, List, length, Option, Ok, Err, refl}
 use Rattle.std.proofs.KnownBytes.{Keeps-refl}
 use Rattle.ap_config.specs.declared.config.RadioConfig.{RadioConfig}
 use Rattle.ap_config.specs.declared.config.ConfigFault.{ConfigFault}
@@ -11,7 +11,7 @@ use Rattle.text_io.specs.declared.read_fault.ReadFault.{ReadFault}
 use Rattle.text_io.specs.declared.read_fault.ReadFault.TheVariants.{At, NoMemory}
 use Rattle.text_io.specs.EndingLaws.{nothing_written}
 use Rattle.replay.specs.Answer.{text_ending}
-use Rattle.replay.specs.Checking.{checked, check_of}
+use Rattle.replay.specs.Checking.{check_of}
 use Rattle.replay.specs.declared.fault.TextFault.TheVariants as texts
 
 -- a fault of the configuration
@@ -19,11 +19,11 @@ pub fault_ends : (e : ReadFault ConfigFault) (text : List ℕ) (old : Option (Li
     → IsFaultOf (configuration_of text) (read_ending e)
     → Ends (ending_of {A = Unit} text_ending (Err (read_as texts.Config texts.NoMemory e))) (check_of text) old old
 unfolding check_of
-fault_ends (At fault) text old h = (ap (λ (r : Result RadioConfig ConfigFault). checked r) h, Keeps-refl old)
+fault_ends (At fault) text old h = (rw h refl, Keeps-refl old)
 fault_ends NoMemory text old h = nothing_written (check_of text) old
 
 -- the number of networks, where there is no fault
 pub check_of-read : (c : RadioConfig) (line text : List ℕ) → configuration_of text ≡ Ok c
     → line ≡ count_line (length c.networks) → check_of text ≡ Ok line
 unfolding check_of
-check_of-read c line text read same = rw same (ap (λ (r : Result RadioConfig ConfigFault). checked r) read)
+check_of-read c line text read same = rw (same, read) refl

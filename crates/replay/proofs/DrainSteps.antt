@@ -1,5 +1,5 @@
 -- The frames that wait at a place leave, one at a time.
-use Rattle.std.proofs.Common.{◌≡◌, ℕ, ◌<◌, ◌++◌, ◌∷◌, [], List, length, set, sym, ap, ◌∙◌, arith, inl, inr}
+use Rattle.std.proofs.Common.{◌≡◌, ℕ, ◌<◌, ◌++◌, ◌∷◌, [], List, length, set, sym, ap, ◌∙◌, arith, inl, inr, refl}
 use Rattle.std.proofs.Common.{append_assoc}
 use Rattle.std.proofs.lemmas.Bool.{cases_lt}
 use Rattle.std.proofs.lemmas.List.{set-set, set-get_or, length-set, get_or-set_same, get_or_past}
@@ -31,14 +31,9 @@ pub with_waiting-twice : (r : RadioView) (place : ℕ) (frames others : List (Li
     → with_waiting (with_waiting r place frames) place others ≡ with_waiting r place others
 with_waiting-twice r place frames others lt =
     let n : NetworkView = view_at r place in
-    let same : set (set r.networks place (record n { waiting = frames })) place
-    (record (view_at (with_waiting r place frames) place) { waiting = others })
-    ≡ set r.networks place (record n { waiting = others })
-    = ap
-    (λ (v : NetworkView). set (set r.networks place (record n { waiting = frames })) place (record v { waiting = others }))
-    (view_at-with_waiting r place frames lt)
-    ∙ set-set r.networks place (record n { waiting = frames }) (record n { waiting = others }) in
-    ap (λ (ns : List NetworkView). record r { networks = ns }) same
+    rw
+    (view_at-with_waiting r place frames lt, set-set r.networks place (record n { waiting = frames }) (record n { waiting = others }))
+    refl
 
 pub with_waiting-same : (r : RadioView) (place : ℕ) → with_waiting r place (view_at r place).waiting ≡ r
 with_waiting-same r place =

@@ -93,9 +93,8 @@ AreOthersTo-more text start len others found is =
     ap joined_parts at.rest ∙ joined_parts-other line rest at.lacks is in
     record {
       within = let inside : start + len < length text = at.within in omega arith;
-      before = others.before ∙ ap (λ p. take start text ++ p.0) parts
-          ∙ sym (append_assoc (take start text) (ended line) (joined_parts rest).0)
-          ∙ ap (λ y. y ++ (joined_parts rest).0) (sym at.prefix);
+      before = others.before
+          ∙ rw (parts, at.prefix) (sym (append_assoc (take start text) (ended line) (joined_parts rest).0));
       after = others.after ∙ ap (λ p. p.1) parts;
     }
 
@@ -110,9 +109,7 @@ parts_from : (text before after : List ℕ) → before ≡ (joined_parts text).0
 parts_from text before after before_is after_is = record {
   before_is = before_is;
   after_is = after_is;
-  joined =
-      subst (λ x. IsJoined text x after) (sym before_is)
-      (subst (λ y. IsJoined text (joined_parts text).0 y) (sym after_is) (IsJoined-joined_parts text));
+  joined = rw (before_is, after_is) (IsJoined-joined_parts text);
 }
 
 -- the first part ends at start

@@ -1,5 +1,5 @@
 -- A line is taken at one place after another.
-use Rattle.std.proofs.Common.{◌≡◌, ℕ, ◌+◌, ◌<◌, ◌≤◌, Bool, true, false, cond, ltb, List, [], ◌∷◌, ◌++◌, Option, Some, None, length, refl, sym, ap, ◌∙◌, subst, arith, append-nil, inl, inr}
+use Rattle.std.proofs.Common.{◌≡◌, ℕ, ◌+◌, ◌<◌, ◌≤◌, Bool, true, false, cond, ltb, List, [], ◌∷◌, ◌++◌, Some, None, length, refl, sym, ap, ◌∙◌, arith, append-nil, inl, inr}
 use Rattle.std.specs.Prelude.{option_to_list}
 use Rattle.std.proofs.lemmas.Bool.{cases_lt}
 use Rattle.ap_config.specs.Places.{network_at}
@@ -16,8 +16,7 @@ use Rattle.replay.specs.Replay.{TakesAt, TakesLine, TakesOf}
 pub taken-some : (place : ℕ) (n : NetConfig) (history : List Event) (line : Line) (e : Event)
     → event_for place n.bssid line ≡ Some e
     → cond (ltb (length history) n.max_events) (e ∷ []) [] ≡ taken_of place n history line
-taken-some place n history line e some =
-    ap (λ (o : Option Event). cond (ltb (length history) n.max_events) (option_to_list o) []) (sym some)
+taken-some place n history line e some = rw some refl
 
 none-either : (b : Bool) → cond b (option_to_list {X = Event} None) [] ≡ []
 none-either true = refl
@@ -27,11 +26,7 @@ none-either false = refl
 pub taken-none : (place : ℕ) (n : NetConfig) (history : List Event) (line : Line) → event_for place n.bssid line ≡ None
     → history ≡ history ++ taken_of place n history line
 taken-none place n history line none =
-    sym (append-nil history)
-    ∙ ap (λ (new : List Event). history ++ new)
-    (sym
-    (ap (λ (o : Option Event). cond (ltb (length history) n.max_events) (option_to_list o) []) none
-    ∙ none-either (ltb (length history) n.max_events)))
+    rw (none, none-either (ltb (length history) n.max_events)) (sym (append-nil history))
 
 -- ---- one place
 
@@ -81,11 +76,7 @@ takes-next place line r0 r1 r2 b t = record {
   below = λ k low. elim (cases_lt k place) [
     | inl less ↦ t.others k (omega (arith, less)) ∙ b.below k less
     | inr high ↦
-        let same : place ≡ k = omega (arith, low, high) in
-        subst
-        (λ (p : ℕ). (view_at r2 p).history ≡ (view_at r0 p).history ++ taken_of p (network_at r0.config p) (view_at r0 p).history line)
-        same
-        here
+        let same : place ≡ k = omega (arith, low, high) in rw same at here
   ];
   rest = λ k high. t.others k (omega (arith, high)) ∙ b.rest k (omega (arith, high));
 }

@@ -1,5 +1,5 @@
 -- The networks without their histories take a line.
-use Rattle.std.proofs.Common.{◌≡◌, ℕ, zero, suc, ◌+◌, List, [], ◌∷◌, ◌++◌, length, map, get_or, subst}
+use Rattle.std.proofs.Common.{◌≡◌, ℕ, zero, suc, ◌+◌, List, [], ◌∷◌, ◌++◌, length, map, get_or}
 use Rattle.std.proofs.Common.{Option, Some, None, refl, sym, ap, ◌∙◌}
 use Rattle.std.specs.Prelude.{flat_map}
 use Rattle.std.specs.List.{AllByRecursion, range_with_len}
@@ -74,11 +74,7 @@ networks-line c said line old new a b was takes =
     (event_for k (network_at c k).bssid line) refl h
     ∙ ap (after_events (setting_at c k)) (sym (own_events-push k (network_at c k) said line)))
     (length c.networks) 0 new a b
-    (subst
-    (λ (ns : List NetworkWithFrames).
-    Takes (dispatch (λ n. n.network.setting.network.bssid) (λ e n _. TakesUnlessFull e n.old n.new) line 0) ns new (change a b))
-    was
-    takes)
+    (rw was at takes)
 
 -- every network may take a line
 pub all-may : (ns : List NetworkWithFrames) → AllByRecursion (λ _. Unit {0}) ns

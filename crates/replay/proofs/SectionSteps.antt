@@ -1,5 +1,5 @@
 -- What the networks took, line after line, and their sections in the end.
-use Rattle.std.proofs.Common.{◌≡◌, ℕ, zero, suc, ◌+◌, ◌<◌, ◌≤◌, ◌++◌, ◌∷◌, [], List, Option, Some, None, IsSomeAnd, Result, Ok, Err, IfOk, length, map, get_or, refl, sym, ap, ◌∙◌, subst, arith, inl, inr}
+use Rattle.std.proofs.Common.{◌≡◌, ℕ, zero, suc, ◌+◌, ◌<◌, ◌≤◌, ◌++◌, ◌∷◌, [], List, Option, Some, None, IsSomeAnd, Result, Ok, Err, IfOk, length, map, get_or, refl, sym, ap, ◌∙◌, arith, inl, inr}
 use Rattle.std.specs.List.{range_with_len, zip}
 use Rattle.std.proofs.lemmas.List.FromFn.{fill_by_all}
 use Rattle.std.proofs.lemmas.Slice.Zip.{get_or-zip, length-zip}
@@ -18,7 +18,7 @@ use Rattle.ap_config.specs.declared.config.RadioConfig.{RadioConfig}
 use Rattle.events.specs.declared.event.Event.{Event}
 use Rattle.events.specs.declared.section.Section.{Section}
 use Rattle.ap_config.specs.declared.setting.Setting.{Setting}
-use Rattle.events.specs.Lines.{own_events, taken_of}
+use Rattle.events.specs.Lines.{own_events}
 use Rattle.events.specs.declared.line.Line.{Line}
 use Rattle.replay.specs.Frames.{FrameLists, sent_at, none_sent}
 use Rattle.replay.specs.Replay.{HasTaken, IsDrained, TakesLine, sections_at}
@@ -58,8 +58,7 @@ fresh_drained c r sent sound radio_is sent_is =
       waiting = λ place lt. ap (λ (n : NetworkView). n.waiting) (fresh_view c place);
       air = λ place lt. sent-none (length c.networks) place ∙ sym (air-fresh c place);
     } in
-    subst (λ (v : RadioView). IsDrained v sent) (sym radio_is)
-    (subst (λ (l : FrameLists). IsDrained (fresh_radio c) l) (sym sent_is) fresh)
+    rw (radio_is, sent_is) fresh
 
 -- a line more
 pub history-more : (c : RadioConfig) (old new : RadioView) (lines : List Line) (line : Line) (place : ℕ)
@@ -67,14 +66,8 @@ pub history-more : (c : RadioConfig) (old new : RadioView) (lines : List Line) (
     → (view_at old place).history ≡ own_events place (network_at c place) lines → place < length c.networks
     → (view_at new place).history ≡ own_events place (network_at c place) (lines ++ line ∷ [])
 history-more c old new lines line place config taken history lt =
-    let n : NetConfig = network_at c place in
-    let there : place < length old.config.networks =
-    subst (λ (d : RadioConfig). place < length d.networks) (sym config) lt in
-    let adds : List Event → NetConfig → List Event = λ es m. es ++ taken_of place m es line in
-    taken.each place there
-    ∙ ap (λ (d : RadioConfig). adds (view_at old place).history (network_at d place)) config
-    ∙ ap (λ (es : List Event). adds es n) history
-    ∙ sym (own_events-push place n lines line)
+    let there : place < length old.config.networks = rw config lt in
+    taken.each place there ∙ rw (config, history) (sym (own_events-push place (network_at c place) lines line))
 
 -- two functions that agree on a range
 map-same : (f g : ℕ → Section) (a n : ℕ) → ((k : ℕ) → a ≤ k → k < a + n → f k ≡ g k)
@@ -92,12 +85,9 @@ pub sections_of-taken : (c : RadioConfig) (r : RadioView) (lines : List Line) �
 sections_of-taken c r lines config history =
     let f : ℕ → Section = λ place. section_of (setting_at c place) (view_at r place).history in
     let g : ℕ → Section = λ place. section_of (setting_at c place) (own_events place (network_at c place) lines) in
-    let each : (k : ℕ) → k < length c.networks → f k ≡ g k =
-    λ k lt. ap (λ (es : List Event). section_of (setting_at c k) es) (history k lt) in
-    ap
-    (λ (d : RadioConfig). map (λ place. section_of (setting_at d place) (view_at r place).history) (range_with_len 0 (length d.networks)))
-    config
-    ∙ map-same f g 0 (length c.networks) (λ k low lt. each k (omega arith))
+    rw config
+    (map-same f g 0 (length c.networks)
+    (λ k low lt. ap (λ (es : List Event). section_of (setting_at c k) es) (history k (omega arith))))
 
 -- ---- a replay, line by line
 
@@ -109,7 +99,7 @@ replay-none c replay is =
       config = refl;
       history = λ place lt. history-fresh c place ∙ sym (own_events-none place (network_at c place));
     } in
-    subst (λ (r : Option RadioView). IsSomeAnd r (HasTaken c [])) (sym is) fresh
+    rw is fresh
 
 -- after one more line
 pub replay-more : (c : RadioConfig) (old new : Option RadioView) (lines : List Line) (line : Line)
@@ -158,14 +148,7 @@ section_at r sent nets place d settings views there within =
     sym (get_or-map shown nets place nobody unused within)
     ∙ ap (λ (l : List NetworkView). get_or l place unused) views in
     let history : s.history ≡ (view_at r place).history = ap (λ (v : NetworkView). v.history) view in
-    let same : section_of s.setting s.history ≡ section_of (setting_at r.config place) (view_at r place).history =
-    ap (λ (t : Setting). section_of t s.history) setting
-    ∙ ap (λ (h : List Event). section_of (setting_at r.config place) h) history in
-    let air : sent_at sent place ≡ (alone s.setting s.history).air =
-    d.air place there
-    ∙ ap (λ (t : Setting). (alone t (view_at r place).history).air) (sym setting)
-    ∙ ap (λ (h : List Event). (alone s.setting h).air) (sym history) in
-    ap (λ (frames : List (List ℕ)). section_with frames s) air ∙ same
+    rw (d.air place there, setting, history) refl
 
 pub sections_made : (r : RadioView) (sent : FrameLists) (nets : List BssView) (airs : List (Vec (List ℕ) Global))
     → IsDrained r sent → map (λ s. s.setting) nets ≡ settings_of r.config → map shown nets ≡ r.networks

@@ -8,11 +8,11 @@ use Rattle.events.specs.declared.line.Line.{Line}
 use Rattle.events.specs.declared.section.Section.{Section}
 use Rattle.network.specs.Section.{sections_of_lines}
 use Rattle.config_text.specs.ConfigurationText.{configuration_of}
-use Rattle.text_io.specs.Endings.{Well, Refused, OutOfMemory, IsFaultOf, Ends, failures_of, ending_of}
+use Rattle.text_io.specs.Endings.{Ending, Well, Refused, OutOfMemory, WriteFailed, IsFaultOf, Ends, failures_of, ending_of}
 use Rattle.text_io.specs.Faults.{read_as, read_ending, report_as}
 use Rattle.report.specs.Report.{report_text}
 use Rattle.text_io.specs.Sinks.{report_ending}
-use Rattle.text_io.specs.Streams.{SourceChange, SourceView, SinkView, Streams, Reads, changed}
+use Rattle.text_io.specs.Streams.{FailsAt, SourceChange, SourceView, SinkView, Streams, Reads, changed}
 use Rattle.trace.specs.TraceText.{lines_of}
 use Rattle.trace.specs.declared.fault.TraceFault.{TraceFault}
 use Rattle.text_io.specs.declared.read_fault.ReadFault.{ReadFault}
@@ -31,34 +31,29 @@ use Rattle.replay.proofs.StreamSteps.{counted-none}
 
 -- ---- the reads
 
--- none was made, since memory ran out
-pub unread : {F : Type 0} (source : SourceView) → Reads {F = F} OutOfMemory max_reads (changed source source) []
-unread source = record {
+-- none was made, where a call that made none may end so
+pub unread : {F : Type 0} (ending : Ending F) (source : SourceView) → FailsAt ending max_reads 0 (changed source source)
+    → Reads ending max_reads (changed source source) []
+unread ending source failed = record {
   taken = Consumes-nil source.left;
   made = 0;
   within = omega arith;
   counted = counted-none source.reads;
-  failed = refl;
+  failed = failed;
 }
 
--- none was made, since a fault came before
-pub unread-fault : {F : Type 0} (fault : F) (source : SourceView) → Reads (Refused fault) max_reads (changed source source) []
-unread-fault fault source = record {
-  taken = Consumes-nil source.left;
-  made = 0;
-  within = omega arith;
-  counted = counted-none source.reads;
-  failed = refl;
-}
+-- the same reads in a call that ended in another way
+reads-as : {F G : Type 0} {ending : Ending F} (other : Ending G) {source : SourceChange} {text : List ℕ}
+    (r : Reads ending max_reads source text) → FailsAt other max_reads r.made source → Reads other max_reads source text
+reads-as other r failed =
+    record { taken = r.taken; made = r.made; within = r.within; counted = r.counted; failed = failed }
 
 -- all were made, and the trace has a fault, or memory ran out
 pub reads-then : {F : Type 0} (e : ReadFault TraceFault) (old new : SourceView) (text : List ℕ)
     → Reads {F = F} Well max_reads (changed old new) text
     → Reads (stream_ending (read_as Trace NoMemory e)) max_reads (changed old new) text
-reads-then (reads.At fault) old new text r =
-    record { taken = r.taken; made = r.made; within = r.within; counted = r.counted; failed = r.failed }
-reads-then reads.NoMemory old new text r =
-    record { taken = r.taken; made = r.made; within = r.within; counted = r.counted; failed = r.failed }
+reads-then (reads.At fault) old new text r = reads-as (Refused (Trace fault)) r r.failed
+reads-then reads.NoMemory old new text r = reads-as OutOfMemory r r.failed
 
 -- the fault is that of the trace
 pub is_fault : (c : RadioConfig) (text : List ℕ) (e : ReadFault TraceFault) → StopsIn c text
@@ -77,14 +72,14 @@ pub config_runs : (e : ReadFault ConfigFault) (ct : List ℕ) (old : Streams)
     → IsFaultOf (configuration_of ct) (read_ending e) → RunsStream (Err (read_as Config NoMemory e)) ct old old
 config_runs (reads.At fault) ct old h = record {
   text = [];
-  reads = unread-fault (Config fault) old.source;
+  reads = unread (Refused (Config fault)) old.source refl;
   stops = tt;
   end = ((config_ends (reads.At fault) ct [] old.sink.taken h).0, refl, Keeps-refl old.sink.taken);
   failures = none_failed old.sink.failed;
 }
 config_runs reads.NoMemory ct old h = record {
   text = [];
-  reads = unread old.source;
+  reads = unread OutOfMemory old.source refl;
   stops = tt;
   end = inl (Keeps-refl old.sink.taken);
   failures = none_failed old.sink.failed;
@@ -130,13 +125,7 @@ report_runs items made reports.Write c ct old new is s part failures =
     let answer = answer_of-sections c (items made) ct s.text is s.end.1 in
     record {
       text = s.text;
-      reads = record {
-        taken = s.reads.taken;
-        made = s.reads.made;
-        within = s.reads.within;
-        counted = s.reads.counted;
-        failed = s.reads.failed;
-      };
+      reads = reads-as WriteFailed s.reads s.reads.failed;
       stops = tt;
       end = (s.end.0, part_written (answer_of ct s.text) _ _ _ answer part);
       failures = failures;
@@ -145,13 +134,7 @@ report_runs items made reports.NoMemory c ct old new is s part failures =
     let answer = answer_of-sections c (items made) ct s.text is s.end.1 in
     record {
       text = s.text;
-      reads = record {
-        taken = s.reads.taken;
-        made = s.reads.made;
-        within = s.reads.within;
-        counted = s.reads.counted;
-        failed = s.reads.failed;
-      };
+      reads = reads-as OutOfMemory s.reads s.reads.failed;
       stops = tt;
       end = inr (s.end.0, part_written (answer_of ct s.text) _ _ _ answer part);
       failures = failures;

@@ -1,7 +1,6 @@
 -- What the steps of reading a stream rest on.
-use Rattle.std.proofs.Common.{◌≡◌, ℕ, ◌+◌, ◌≤◌, List, [], ◌++◌, length, take, drop, Option, Some, Result, Ok, Err, refl, ap, sym, subst, ◌∙◌, arith, append_assoc, append-nil}
+use Rattle.std.proofs.Common.{◌≡◌, ℕ, ◌+◌, ◌≤◌, List, [], ◌++◌, length, refl, sym, ◌∙◌, arith, append-nil}
 use Rattle.std.proofs.KnownBytes.{Consumes-nil, Consumes-trans}
-use Rattle.std.specs.Prelude.{◌-◌, ◌^◌, max, min}
 use Rattle.std.specs.Io.KnownBytes.{Consumes}
 use Rattle.ap_config.specs.declared.config.RadioConfig.{RadioConfig}
 use Rattle.events.specs.declared.line.Line.{Line}
@@ -21,19 +20,12 @@ pub record SoFar (c : RadioConfig) (old new : SourceView) (count : ℕ) (lines :
   pub replayed : AreTakenSoFar c text lines taken
 
 -- no read is counted, and then one more
-none_more : (most reads : ℕ) → reads ≡ max reads (min (reads + 0) most)
-none_more most reads = omega arith
-
-one_more : (most old mid new count : ℕ) → mid ≡ max old (min (old + count) most) → new ≡ max mid (min (mid + 1) most)
-    → new ≡ max old (min (old + (count + 1)) most)
-one_more most old mid new count before here = omega (arith, before, here)
-
 pub counted-none : (reads : ℕ) → reads ≡ reads_after reads 0
-counted-none reads = none_more (2 ^ 64 - 1) reads
+counted-none reads = omega arith
 
 pub counted-more : (old mid new count : ℕ) → mid ≡ reads_after old count → new ≡ reads_after mid 1
     → new ≡ reads_after old (count + 1)
-counted-more old mid new count before here = one_more (2 ^ 64 - 1) old mid new count before here
+counted-more old mid new count before here = omega (arith, before, here)
 
 pub so_far-none : (c : RadioConfig) (source : SourceView) (lines : ReaderView) (taken : List Line → Type 0)
     → AreTakenSoFar c [] lines taken → SoFar c source source 0 lines taken

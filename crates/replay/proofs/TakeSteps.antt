@@ -1,5 +1,5 @@
 -- A network takes an event, and its frames leave.
-use Rattle.std.proofs.Common.{◌≡◌, ◌≢◌, ℕ, ◌<◌, ◌++◌, ◌∷◌, [], List, Result, Ok, Err, OnOk, length, set, refl, sym, ap, ◌∙◌, subst, arith, inl, inr}
+use Rattle.std.proofs.Common.{◌≡◌, ◌≢◌, ℕ, ◌<◌, ◌++◌, ◌∷◌, [], List, Result, Ok, Err, OnOk, length, set, refl, sym, ap, ◌∙◌, arith, inl, inr}
 use Rattle.std.proofs.lemmas.Bool.{cases_eq, lt-ltb}
 use Rattle.std.proofs.lemmas.List.{set-set, length-set, get_or-set_same, get_or-set_other}
 use Rattle.network.specs.Network.{alone}
@@ -26,9 +26,8 @@ pub at_each : (r : RadioView) (place : ℕ) (n : NetworkView) (Q : ℕ → Netwo
 at_each r place n Q within here others other =
     elim (cases_eq other place) [
       | inl e ↦
-          subst (λ p. Q p (view_at (with_network r place n) p)) (sym e)
-          (subst (Q place) (sym (get_or-set_same r.networks place n unused within)) here)
-      | inr ne ↦ subst (Q other) (sym (get_or-set_other r.networks place other n unused ne)) (others other ne)
+          rw (e, get_or-set_same r.networks place n unused within) here
+      | inr ne ↦ rw (get_or-set_other r.networks place other n unused ne) (others other ne)
     ]
 
 took_emptied : (r : RadioView) (place : ℕ) (e : Event) → place < length r.networks
@@ -38,12 +37,7 @@ took_emptied r place e within =
       history = (view_at r place).history ++ e ∷ [];
       waiting = (view_at r place).waiting ++ sent_by (setting_at r.config place) (view_at r place).history e;
     } in
-    let there : view_at (took place e r) place ≡ n = get_or-set_same r.networks place n unused within in
-    let same : set (set r.networks place n) place (record (view_at (took place e r) place) { waiting = [] }) ≡ set
-    r.networks place (grown r place e) =
-    ap (λ (v : NetworkView). set (set r.networks place n) place (record v { waiting = [] })) there
-    ∙ set-set r.networks place n (grown r place e) in
-    ap (λ (ns : List NetworkView). record r { networks = ns }) same
+    rw (get_or-set_same r.networks place n unused within, set-set r.networks place n (grown r place e)) refl
 
 -- the frames that left at a place, with those of the event
 took_sent : (r : RadioView) (frames : FrameLists) (place : ℕ) (e : Event) → IsDrained r frames
@@ -104,7 +98,7 @@ took_drained r0 l0 place e r1 r2 l2 d there room took_is emptied_is sent_is law 
           refl;
       others = λ other ne. ap (λ (v : NetworkView). v.history) (get_or-set_other r0.networks place other n unused ne);
     } in
-    (subst (λ (r : RadioView). IsDrained r l2) (sym view) (subst (λ (l : FrameLists). IsDrained after l) (sym left_by_now) drained), subst (λ (r : RadioView). TakesAt place e r0 r) (sym view) takes)
+    (rw (view, left_by_now) drained, rw view takes)
 
 -- what follows of two facts that hold where a call went well
 pub on_ok_both : {T E P Q R : Type 0} (r : Result T E) → (P → Q → R) → OnOk r P → OnOk r Q → OnOk r R

@@ -1,6 +1,7 @@
-use Rattle.std.proofs.Common.{◌≡◌, [], sym, subst}
+use Rattle.std.proofs.Common.{◌≡◌, [], refl}
 use Rattle.std.proofs.lemmas.Result.{err_from_is_err_and}
-use Rattle.trace.specs.Pieces.{ReaderView, HasRead, AreTakenSoFar}
+use Rattle.text_io.specs.Endings.{OutOfMemory}
+use Rattle.trace.specs.Pieces.{AreTakenSoFar}
 use Rattle.network_report.specs.NetworkText.{networks_after_lines}
 use Rattle.replay.proofs.StreamEnds.{unread}
 use Rattle.replay.proofs.run.stream.networks_of_stream.Goals as goal
@@ -8,12 +9,12 @@ use Rattle.replay.proofs.run.stream.networks_of_stream.Goals as goal
 pub returns-in_err-lines : goal.returns-in_err-lines
 returns-in_err-lines g c =
     let p = err_from_is_err_and c.from_residual.result c.from_residual.ensures.1 in
-    rw (p.1, p.2) (record { text = []; reads = unread _; end = tt })
+    rw (p.1, p.2) (record { text = []; reads = unread OutOfMemory _ refl; end = tt })
 
 pub returns-in_err-networks : goal.returns-in_err-networks
 returns-in_err-networks g c =
     let p = err_from_is_err_and c.from_residual-in_err-networks.result c.from_residual-in_err-networks.ensures.1 in
-    rw (p.1, p.2) (record { text = []; reads = unread _; end = tt })
+    rw (p.1, p.2) (record { text = []; reads = unread OutOfMemory _ refl; end = tt })
 
 pub returns-in_err-take_whole : goal.returns-in_err-take_whole
 returns-in_err-take_whole g c =
@@ -22,8 +23,7 @@ returns-in_err-take_whole g c =
     let started : AreTakenSoFar c.args.config [] c.in_ok-lines.lines
     (λ said. c.in_ok-networks.networks.networks ≡ networks_after_lines c.args.config said) = (
       [],
-      subst (λ (r : ReaderView). HasRead c.args.config [] [] r) (sym c.in_ok-lines.ensures)
-          (c.piece_by_piece.ensures.new c.args.config),
+      rw c.in_ok-lines.ensures (c.piece_by_piece.ensures.new c.args.config),
       c.in_ok-networks.ensures,
     ) in
     let s = c.in_err-take_whole.ensures c.args.config started in
@@ -34,8 +34,7 @@ returns g c =
     let started : AreTakenSoFar c.args.config [] c.in_ok-lines.lines
     (λ said. c.in_ok-networks.networks.networks ≡ networks_after_lines c.args.config said) = (
       [],
-      subst (λ (r : ReaderView). HasRead c.args.config [] [] r) (sym c.in_ok-lines.ensures)
-          (c.piece_by_piece.ensures.new c.args.config),
+      rw c.in_ok-lines.ensures (c.piece_by_piece.ensures.new c.args.config),
       c.in_ok-networks.ensures,
     ) in
     let s = c.in_ok-take_whole.ensures c.args.config started in

@@ -1,4 +1,4 @@
-use Rattle.std.proofs.Common.{◌≡◌, ◌∙◌, ◌+◌, ◌≤◌, ◌++◌, ℕ, List, [], take, length, ap, subst, refl, inl, inr, arith}
+use Rattle.std.proofs.Common.{◌≡◌, ◌∙◌, ◌+◌, ◌≤◌, ◌++◌, ℕ, List, [], take, length, ap, refl, inl, inr, arith}
 use Rattle.std.proofs.Common.{append-nil, Option}
 use Rattle.std.proofs.KnownBytes.{Consumes-trans, Consumes-kept}
 use Rattle.std.proofs.lemmas.List.{length-replicate, length-take-le}
@@ -53,29 +53,23 @@ returns-in_default g c config h =
 pub returns-then-count-eq0 : goal.returns-then-count-eq0
 returns-then-count-eq0 g c config h =
     let s = c.loop.invariant.so_far config h in
-    let none : c.in-Ok.count ≡ 0 = c.if-count-eq0.true in
     let first : Option (List ℕ) = g.R.Source.left c.args.source.now in
     let before : Option (List ℕ) = g.R.Source.left c.loop.source in
     let after : Option (List ℕ) = g.R.Source.left c.read_some.new.self in
-    let took : Consumes before after [] =
-    subst (λ (n : ℕ). Consumes before after (take n c.read_some.new.buffer)) none c.in-Ok.ensures.prefix.1 in
+    let took : Consumes before after [] = rw c.if-count-eq0.true at c.in-Ok.ensures.prefix.1 in
     let kept : g.R.Source.failed c.read_some.new.self ≡ g.R.Source.failed c.loop.source =
     omega (arith, c.in-Ok.ensures.failures) in
     let within : c.loop.counter + 1 ≤ 4294967295 = omega (arith, c.loop-test.true) in
     record {
       text = s.text;
       reads = record {
-        taken =
-            subst
-            (λ (t : List ℕ). Consumes first after t)
-            (append-nil s.text)
-            (Consumes-trans first before after s.text [] s.read took);
+        taken = rw append-nil at (Consumes-trans first before after s.text [] s.read took);
         made = c.loop.counter + 1;
         within = within;
         counted = counted-more _ _ _ c.loop.counter s.counted c.in-Ok.ensures.reads;
         failed = kept ∙ s.failed;
       };
-      end = (c.in-Ok.ensures.end none, s.replayed);
+      end = (c.in-Ok.ensures.end c.if-count-eq0.true, s.replayed);
     }
 
 pub returns-in_err-take_piece : goal.returns-in_err-take_piece
