@@ -10,15 +10,13 @@ use Rattle.air_queue.specs.Passes.{NetPassView, ClosedView, HasEach, IsDrained}
 use Rattle.air_queue.specs.Rule.{IsRadio, IsRadioWith, Accounts, left_of, networks_of, taken_in_of, after_taking}
 use Rattle.air_queue.specs.declared.known.Known.{Known}
 use Rattle.air_queue.specs.declared.known.Known.TheVariants.{Network, Radio, Spent}
-use Rattle.air_queue.proofs.Takings.{radio_with, left_in, is_radio, networks_in, each_in}
+use Rattle.air_queue.proofs.Takings.{radio_is, radio_with, left_in, is_radio, networks_in, each_in}
 
 pub radio_after : (v : Known) (passes : List NetPassView) → IsRadio v → IsRadio (after_taking v passes)
 radio_after v passes is = is_radio (left_of v) (after_taking v passes) (left_in (left_of v) v passes (radio_with v is))
 
 with_left : (out : List AirItem) (v : Known) → IsRadioWith out v → left_of v ≡ out
-with_left out (Network place pushed) is = absurd is
-with_left out (Radio left networks taken_in) is = is
-with_left out Spent is = absurd is
+with_left out v is = ap left_of (radio_is out v is)
 
 pub left_after : (v : Known) (passes : List NetPassView) → IsRadio v → left_of (after_taking v passes) ≡ left_of v
 left_after v passes is = with_left (left_of v) (after_taking v passes) (left_in (left_of v) v passes (radio_with v is))

@@ -12,7 +12,7 @@ use Rattle.crossbeam_queue.proofs.Lists.{at_set, set_here, set_else, at_longer, 
 use Rattle.events.specs.Items.{items_of}
 use Rattle.events.specs.declared.air_item.AirItem.{AirItem}
 use Rattle.air_queue.specs.Passes.{TakenIn}
-use Rattle.air_queue.specs.Rule.{IsKept, IsNetworkAt, IsRadioWith, Accounts, pushed_by, networks_of, taken_in_of, fresh, giving, given, pushing, leaving, taking_in}
+use Rattle.air_queue.specs.Rule.{IsKept, IsNetworkAt, IsRadioWith, Accounts, left_of, pushed_by, networks_of, taken_in_of, fresh, giving, given, pushing, leaving, taking_in}
 use Rattle.air_queue.specs.declared.known.Known.{Known}
 use Rattle.air_queue.specs.declared.known.Known.TheVariants.{Network, Radio, Spent}
 use Rattle.air_queue.proofs.Items.{items_of-here, items_of-other, items_of-none, below_more}
@@ -35,47 +35,28 @@ at_more [] a b (suc i) e = absurd (some-ne-none b (sym e))
 at_more (x ∷ xs) a b zero e = inl e
 at_more (x ∷ xs) a b (suc i) e = ⊎_elim (λ t. inl t) (λ t. inr (ap suc t.0, t.1)) (at_more xs a b i e)
 
--- ---- kinds of pass
-
-abbrev kind : Known → ℕ
-kind (Network place pushed) = 0
-kind (Radio left networks taken_in) = 1
-kind Spent = 2
+-- ---- the place of a pass
 
 abbrev place_of : Known → ℕ
 place_of (Network place pushed) = place
 place_of (Radio left networks taken_in) = 0
 place_of Spent = 0
 
-abbrev left_of : Known → List AirItem
-left_of (Network place pushed) = []
-left_of (Radio left networks taken_in) = left
-left_of Spent = []
-
-radio-network : (left : List AirItem) (networks : ℕ) (taken_in : TakenIn) (place : ℕ) (pushed : List (List ℕ)) → Radio left networks taken_in ≡ Network place pushed → ⊥
-radio-network left networks taken_in place pushed e = let h : 1 ≡ 0 = ap kind e in absurd (omega (arith, h))
-
-spent-network : (place : ℕ) (pushed : List (List ℕ)) → Spent ≡ Network place pushed → ⊥
-spent-network place pushed e = let h : 2 ≡ 0 = ap kind e in absurd (omega (arith, h))
-
-spent-radio : (left : List AirItem) (networks : ℕ) (taken_in : TakenIn) → Spent ≡ Radio left networks taken_in → ⊥
-spent-radio left networks taken_in e = let h : 2 ≡ 1 = ap kind e in absurd (omega (arith, h))
-
-abbrev count : Option (List (List ℕ)) → ℕ
-count None = 0
-count (Some fs) = 1
-
-some-none : (fs : List (List ℕ)) → Some fs ≡ None → ⊥
-some-none fs e = let h : 1 ≡ 0 = ap count e in absurd (omega (arith, h))
-
-one_some : (fs gs : List (List ℕ)) → Some fs ≡ Some gs → fs ≡ gs
-one_some fs gs e = ap (λ o. unwrap_or o fs) e
-
 -- ---- lists of items
 
 All_at : (P : AirItem → Type 0) (xs : List AirItem) (x : AirItem) (ys : List AirItem) → All P (xs ++ x ∷ ys) → P x
 All_at P [] x ys all = All-head P x ys all
 All_at P (y ∷ xs) x ys all = All_at P xs x ys (All-tail P y (xs ++ x ∷ ys) all)
+
+-- ---- the radio's pass
+
+-- there is one, so it knows what the rule says
+radio_knows : {items : List AirItem} {passes : List Known} {left : List AirItem} {networks : ℕ} {taken_in : TakenIn} → (h : IsKept items passes) (port : ℕ) → get_elem? passes port ≡ some (Radio left networks taken_in) → Radio h.left h.networks h.taken_in ≡ Radio left networks taken_in
+radio_knows {passes = passes} h port at = one_value passes port _ _ (ap (get_elem? passes) (h.one_radio port _ _ _ at) ∙ h.radio_pass) at
+
+-- and it is no network's
+no_seat : (passes : List Known) (port seat : ℕ) {left : List AirItem} {networks place : ℕ} {taken_in : TakenIn} {pushed : List (List ℕ)} → get_elem? passes port ≡ some (Radio left networks taken_in) → get_elem? passes seat ≡ some (Network place pushed) → seat ≡ port → ⊥
+no_seat passes port seat at there e = cc (ap (get_elem? passes) e, at, there)
 
 -- ---- a new queue
 
@@ -92,7 +73,7 @@ begins = record {
   seat = λ place. 0;
   net_pass = λ place below none. absurd (omega (arith, below));
   one_net_pass = λ number place pushed at. absurd (alone number place pushed at);
-  taken_in_pass = λ place pushed is. absurd (some-none pushed (sym is ∙ finite.get-empty _ place));
+  taken_in_pass = λ place pushed is. absurd (cc (is, finite.get-empty _ place));
   placed = All-nil _;
 }
   where
@@ -101,8 +82,8 @@ begins = record {
     first (suc number) v at = absurd (some-ne-none v (sym at))
 
     alone : (number place : ℕ) (pushed : List (List ℕ)) → get_elem? (fresh ∷ []) number ≡ some (Network place pushed) → ⊥
-    alone zero place pushed at = radio-network [] 0 finite.empty place pushed (some-injective _ _ at)
-    alone (suc number) place pushed at = some-ne-none (Network place pushed) (sym at)
+    alone zero place pushed at = cc
+    alone (suc number) place pushed at = cc
 
 -- ---- a push that adds
 
@@ -125,7 +106,7 @@ network_pushes n port place pushed item here items passes room h at = (w, kept, 
     other q ne = items_of-other q h.all item (λ e. ne (sym e ∙ here))
 
     not_radio : h.radio ≡ port → ⊥
-    not_radio e = radio-network h.left h.networks h.taken_in place pushed (one_value passes port _ _ (subst (λ k. get_elem? passes k ≡ some (Radio h.left h.networks h.taken_in)) e h.radio_pass) at)
+    not_radio e = cc (ap (get_elem? passes) e, h.radio_pass, at)
 
     not_seat : (q : ℕ) → (q ≡ place → ⊥) → (fs : List (List ℕ)) → get_elem? passes (h.seat q) ≡ some (Network q fs) → h.seat q ≡ port → ⊥
     not_seat q ne fs there e = ne (ap place_of (one_value passes port _ _ (subst (λ k. get_elem? passes k ≡ some (Network q fs)) e there) at))
@@ -158,7 +139,7 @@ network_pushes n port place pushed item here items passes room h at = (w, kept, 
 
     taken_in_pass : (q : ℕ) (fs : List (List ℕ)) → finite.get h.taken_in q ≡ Some fs → (q < h.networks) × (fs ≡ items_of q all)
     taken_in_pass q fs is =
-        let ne : q ≡ place → ⊥ = λ e. some-none fs (sym is ∙ ap (finite.get h.taken_in) e ∙ mine.2) in
+        let ne : q ≡ place → ⊥ = λ e. cc (is, ap (finite.get h.taken_in) e, mine.2) in
         ((h.taken_in_pass q fs is).0, (h.taken_in_pass q fs is).1 ∙ sym (other q ne))
 
     kept : IsKept (items ++ item ∷ []) (set passes port w)
@@ -172,7 +153,7 @@ network_pushes n port place pushed item here items passes room h at = (w, kept, 
       radio_pass = set_else passes port h.radio w not_radio ∙ h.radio_pass;
       one_radio =
           λ number out given taken there. ⊎_elim
-          (λ t. absurd (radio-network out given taken place _ (sym t.1)))
+          (λ t. absurd (cc t.1))
           (λ t. h.one_radio number out given taken t.1)
           (at_set passes port number w (Radio out given taken) there);
       seat = h.seat;
@@ -184,8 +165,7 @@ network_pushes n port place pushed item here items passes room h at = (w, kept, 
 
 pub pushes : (n port : ℕ) (v : Known) (item : AirItem) → IsNetworkAt item.place v → Pushes IsKept n port v item (λ w. w ≡ pushing v item)
 pushes n port (Network place pushed) item here = network_pushes n port place pushed item (sym here)
-pushes n port (Radio left networks taken_in) item here = absurd here
-pushes n port Spent item here = absurd here
+pushes n port v item here = absurd here
 
 -- ---- a pop that takes
 
@@ -199,7 +179,7 @@ radio_pops port left networks taken_in item items passes h at = (w, kept, (refl,
     mine = h.one_radio port left networks taken_in at
 
     same : Radio left networks taken_in ≡ Radio h.left h.networks h.taken_in
-    same = one_value passes port _ _ at (subst (λ k. get_elem? passes k ≡ some (Radio h.left h.networks h.taken_in)) (sym mine) h.radio_pass)
+    same = sym (radio_knows h port at)
 
     parts : h.all ≡ (left ++ item ∷ []) ++ items
     parts = h.parts ∙ ap (λ (xs : List AirItem). xs ++ item ∷ items) (sym (ap left_of same)) ∙ sym (append_assoc left (item ∷ []) items)
@@ -208,9 +188,6 @@ radio_pops port left networks taken_in item items passes h at = (w, kept, (refl,
     below =
         let lt = All_at (λ (x : AirItem). x.place < h.networks) h.left item items (subst (All (λ (x : AirItem). x.place < h.networks)) h.parts h.placed) in
         subst (λ k. item.place < k) (sym (ap networks_of same)) lt
-
-    not_seat : (q : ℕ) (fs : List (List ℕ)) → get_elem? passes (h.seat q) ≡ some (Network q fs) → h.seat q ≡ port → ⊥
-    not_seat q fs there e = radio-network left networks taken_in q fs (one_value passes port _ _ at (subst (λ k. get_elem? passes k ≡ some (Network q fs)) e there))
 
     kept : IsKept items (set passes port w)
     kept = record {
@@ -231,10 +208,10 @@ radio_pops port left networks taken_in item items passes h at = (w, kept, (refl,
       seat = h.seat;
       net_pass =
           λ q under none. let there = h.net_pass q under none in
-          set_else passes port (h.seat q) w (not_seat q _ there) ∙ there;
+          set_else passes port (h.seat q) w (no_seat passes port (h.seat q) at there) ∙ there;
       one_net_pass =
           λ number q fs there. ⊎_elim
-          (λ t. absurd (radio-network _ networks taken_in q fs t.1))
+          (λ t. absurd (cc t.1))
           (λ t. h.one_net_pass number q fs t.1)
           (at_set passes port number w (Network q fs) there);
       taken_in_pass = h.taken_in_pass;
@@ -242,9 +219,8 @@ radio_pops port left networks taken_in item items passes h at = (w, kept, (refl,
     }
 
 pub pops : (port : ℕ) (left : List AirItem) (v : Known) → IsRadioWith left v → Pops IsKept port v (λ item w. (w ≡ leaving v item) × (item.place < networks_of v))
-pops port left (Network place pushed) is = absurd is
 pops port left (Radio out networks taken_in) is = radio_pops port out networks taken_in
-pops port left Spent is = absurd is
+pops port left v is = absurd is
 
 -- ---- a network is given its pass
 
@@ -255,7 +231,7 @@ radio_gives port left networks taken_in items passes h at = kept
     mine = h.one_radio port left networks taken_in at
 
     same : Radio h.left h.networks h.taken_in ≡ Radio left networks taken_in
-    same = one_value passes port _ _ (subst (λ k. get_elem? passes k ≡ some (Radio h.left h.networks h.taken_in)) (sym mine) h.radio_pass) at
+    same = radio_knows h port at
 
     w : Known
     w = Radio left (networks + 1) taken_in
@@ -291,9 +267,6 @@ radio_gives port left networks taken_in items passes h at = kept
         absent None e = e
         absent (Some fs) e = let lt = (h.taken_in_pass networks fs e).0 in absurd (omega (arith, lt, networks_same))
 
-    not_seat : (q : ℕ) (fs : List (List ℕ)) → get_elem? passes (h.seat q) ≡ some (Network q fs) → h.seat q ≡ port → ⊥
-    not_seat q fs there e = radio-network left networks taken_in q fs (one_value passes port _ _ at (subst (λ k. get_elem? passes k ≡ some (Network q fs)) e there))
-
     net_pass : (q : ℕ) → q < networks + 1 → finite.get h.taken_in q ≡ None → get_elem? (changed ++ new ∷ []) (seat q) ≡ some (Network q (items_of q h.all))
     net_pass q below none =
         elim (cases_eq q networks) [
@@ -303,7 +276,7 @@ radio_gives port left networks taken_in items passes h at = kept
           | inr ne ↦
               let there = h.net_pass q (omega (arith, below, ne, networks_same)) none in
               subst (λ k. get_elem? (changed ++ new ∷ []) k ≡ some (Network q (items_of q h.all))) (sym (seat_old q ne))
-              (at_longer changed (new ∷ []) (h.seat q) _ (set_else passes port (h.seat q) w (not_seat q _ there) ∙ there))
+              (at_longer changed (new ∷ []) (h.seat q) _ (set_else passes port (h.seat q) w (no_seat passes port (h.seat q) at there) ∙ there))
         ]
 
     one_net_pass : (number q : ℕ) (fs : List (List ℕ)) → get_elem? (changed ++ new ∷ []) number ≡ some (Network q fs) → (number ≡ seat q) × (q < networks + 1) × (finite.get h.taken_in q ≡ None) × (fs ≡ items_of q h.all)
@@ -311,7 +284,7 @@ radio_gives port left networks taken_in items passes h at = kept
         elim (at_more changed new (Network q fs) number there) [
           | inl t ↦
               elim (at_set passes port number w (Network q fs) t) [
-                | inl u ↦ absurd (radio-network left (networks + 1) taken_in q fs u.1)
+                | inl u ↦ absurd (cc u.1)
                 | inr u ↦
                     let old = h.one_net_pass number q fs u.1 in
                     let lt = old.1 in
@@ -337,7 +310,7 @@ radio_gives port left networks taken_in items passes h at = kept
       one_radio =
           λ number out given taken there. ⊎_elim
           (λ t. ⊎_elim (λ u. u.0) (λ u. h.one_radio number out given taken u.1 ∙ sym mine) (at_set passes port number w (Radio out given taken) t))
-          (λ t. absurd (radio-network out given taken networks [] (sym t.1)))
+          (λ t. absurd (cc t.1))
           (at_more changed new (Radio out given taken) number there);
       seat = seat;
       net_pass = net_pass;
@@ -347,9 +320,8 @@ radio_gives port left networks taken_in items passes h at = kept
     }
 
 pub gives : (port : ℕ) (left : List AirItem) (v : Known) → IsRadioWith left v → Forks IsKept port v (giving v) (given v)
-gives port left (Network place pushed) is = absurd is
 gives port left (Radio out networks taken_in) is = radio_gives port out networks taken_in
-gives port left Spent is = absurd is
+gives port left v is = absurd is
 
 -- ---- a network's pass is taken in
 
@@ -360,7 +332,7 @@ radio_takes port left networks taken_in other place pushed items passes h at apa
     mine = h.one_radio port left networks taken_in at
 
     same : Radio h.left h.networks h.taken_in ≡ Radio left networks taken_in
-    same = one_value passes port _ _ (subst (λ k. get_elem? passes k ≡ some (Radio h.left h.networks h.taken_in)) (sym mine) h.radio_pass) at
+    same = radio_knows h port at
 
     w : Known
     w = Radio left networks (finite.insert taken_in place pushed)
@@ -377,27 +349,24 @@ radio_takes port left networks taken_in other place pushed items passes h at apa
     theirs : (other ≡ h.seat place) × (place < h.networks) × (finite.get h.taken_in place ≡ None) × (pushed ≡ items_of place h.all)
     theirs = h.one_net_pass other place pushed was
 
-    not_port : (q : ℕ) (fs : List (List ℕ)) → get_elem? passes (h.seat q) ≡ some (Network q fs) → h.seat q ≡ port → ⊥
-    not_port q fs seen e = radio-network left networks taken_in q fs (one_value passes port _ _ at (subst (λ k. get_elem? passes k ≡ some (Network q fs)) e seen))
-
     not_other : (q : ℕ) → (q ≡ place → ⊥) → (fs : List (List ℕ)) → get_elem? passes (h.seat q) ≡ some (Network q fs) → h.seat q ≡ other → ⊥
     not_other q ne fs seen e = ne (ap place_of (one_value passes other _ _ (subst (λ k. get_elem? passes k ≡ some (Network q fs)) e seen) was))
 
     net_pass : (q : ℕ) → q < h.networks → finite.get more q ≡ None → get_elem? (set changed other Spent) (h.seat q) ≡ some (Network q (items_of q h.all))
     net_pass q below none =
-        let ne : q ≡ place → ⊥ = λ e. some-none pushed (sym (get-here h.taken_in place pushed) ∙ ap (finite.get more) (sym e) ∙ none) in
+        let ne : q ≡ place → ⊥ = λ e. cc (get-here h.taken_in place pushed, ap (finite.get more) e, none) in
         let seen = h.net_pass q below (sym (get-other h.taken_in place pushed q ne) ∙ none) in
         set_else changed other (h.seat q) Spent (not_other q ne _ seen)
-        ∙ set_else passes port (h.seat q) w (not_port q _ seen)
+        ∙ set_else passes port (h.seat q) w (no_seat passes port (h.seat q) at seen)
         ∙ seen
 
     one_net_pass : (number q : ℕ) (fs : List (List ℕ)) → get_elem? (set changed other Spent) number ≡ some (Network q fs) → (number ≡ h.seat q) × (q < h.networks) × (finite.get more q ≡ None) × (fs ≡ items_of q h.all)
     one_net_pass number q fs seen =
         elim (at_set changed other number Spent (Network q fs) seen) [
-          | inl t ↦ absurd (spent-network q fs t.1)
+          | inl t ↦ absurd (cc t.1)
           | inr t ↦
               elim (at_set passes port number w (Network q fs) t.1) [
-                | inl u ↦ absurd (radio-network left networks _ q fs u.1)
+                | inl u ↦ absurd (cc u.1)
                 | inr u ↦
                     let old = h.one_net_pass number q fs u.1 in
                     let ne : q ≡ place → ⊥ = λ e. t.0 (old.0 ∙ ap h.seat e ∙ sym theirs.0) in
@@ -409,7 +378,7 @@ radio_takes port left networks taken_in other place pushed items passes h at apa
     taken_in_pass q fs is =
         elim (cases_eq q place) [
           | inl e ↦
-              let eq : fs ≡ pushed = one_some fs pushed (sym is ∙ ap (finite.get more) e ∙ get-here h.taken_in place pushed) in
+              let eq : fs ≡ pushed = cc (is, ap (finite.get more) e, get-here h.taken_in place pushed) in
               subst (λ k. (k < h.networks) × (fs ≡ items_of k h.all)) (sym e) (theirs.1, eq ∙ theirs.3)
           | inr ne ↦ h.taken_in_pass q fs (sym (get-other h.taken_in place pushed q ne) ∙ is)
         ]
@@ -428,7 +397,7 @@ radio_takes port left networks taken_in other place pushed items passes h at apa
           ∙ ap (λ (v : Known). some (Radio (left_of v) (networks_of v) (finite.insert (taken_in_of v) place pushed))) (sym same);
       one_radio =
           λ number out given taken seen. ⊎_elim
-          (λ t. absurd (spent-radio out given taken t.1))
+          (λ t. absurd (cc t.1))
           (λ t. ⊎_elim (λ u. u.0) (λ u. h.one_radio number out given taken u.1 ∙ sym mine) (at_set passes port number w (Radio out given taken) t.1))
           (at_set changed other number Spent (Radio out given taken) seen);
       seat = h.seat;
@@ -439,11 +408,9 @@ radio_takes port left networks taken_in other place pushed items passes h at apa
     }
 
 pub takes_in : (port : ℕ) (left : List AirItem) (v : Known) (other place : ℕ) (u : Known) → IsRadioWith left v → IsNetworkAt place u → Merges IsKept port v other u (taking_in v u) Spent
-takes_in port left (Network place' pushed) other place u is at = absurd is
 takes_in port left (Radio out networks taken_in) other place (Network place' pushed) is at = radio_takes port out networks taken_in other place' pushed
-takes_in port left (Radio out networks taken_in) other place (Radio out' networks' taken_in') is at = absurd at
-takes_in port left (Radio out networks taken_in) other place Spent is at = absurd at
-takes_in port left Spent other place u is at = absurd is
+takes_in port left (Radio out networks taken_in) other place u is at = absurd at
+takes_in port left v other place u is at = absurd is
 
 -- ---- what the radio's pass learns
 
@@ -454,7 +421,7 @@ radio_learns port left networks taken_in items passes h at = accounts
     mine = h.one_radio port left networks taken_in at
 
     same : Radio h.left h.networks h.taken_in ≡ Radio left networks taken_in
-    same = one_value passes port _ _ (subst (λ k. get_elem? passes k ≡ some (Radio h.left h.networks h.taken_in)) (sym mine) h.radio_pass) at
+    same = radio_knows h port at
 
     parts : h.all ≡ left ++ items
     parts = h.parts ∙ ap (λ (v : Known). left_of v ++ items) same
@@ -466,6 +433,5 @@ radio_learns port left networks taken_in items passes h at = accounts
     )
 
 pub learns : (port : ℕ) (left : List AirItem) (v : Known) → IsRadioWith left v → Learns IsKept port v (Accounts v)
-learns port left (Network place pushed) is = absurd is
 learns port left (Radio out networks taken_in) is = radio_learns port out networks taken_in
-learns port left Spent is = absurd is
+learns port left v is = absurd is

@@ -5,7 +5,7 @@ use Rattle.std.specs.Prelude.{All, IsSome}
 use Rattle.std.specs.List.{AllByRecursion, range_with_len}
 use Rattle.std.specs.FinMap as finite
 use Rattle.std.proofs.lemmas.Bool.{cases_eq, false≢true}
-use Rattle.std.proofs.lemmas.List.{append-nil, length-append}
+use Rattle.std.proofs.lemmas.List.{append-nil, length-append, nil_from_length}
 use Rattle.crossbeam_queue.specs.Fifo.{Merges}
 use Rattle.events.specs.Items.{items_of}
 use Rattle.events.specs.declared.air_item.AirItem.{AirItem}
@@ -21,36 +21,27 @@ use Rattle.air_queue.proofs.RuleSteps.{takes_in}
 
 pub network_is : (place : ℕ) (v : Known) → IsNetworkAt place v → v ≡ Network place (pushed_by v)
 network_is place (Network at pushed) is = ap (λ k. Network k pushed) is
-network_is place (Radio left networks taken_in) is = absurd is
-network_is place Spent is = absurd is
+network_is place v is = absurd is
 
 pub radio_is : (out : List AirItem) (v : Known) → IsRadioWith out v → v ≡ Radio out (networks_of v) (taken_in_of v)
-radio_is out (Network place pushed) is = absurd is
 radio_is out (Radio left networks taken_in) is = ap (λ l. Radio l networks taken_in) is
-radio_is out Spent is = absurd is
+radio_is out v is = absurd is
 
 pub radio_with : (v : Known) → IsRadio v → IsRadioWith (left_of v) v
-radio_with (Network place pushed) is = absurd is
 radio_with (Radio left networks taken_in) is = refl
-radio_with Spent is = absurd is
+radio_with v is = absurd is
 
 pub is_radio : (out : List AirItem) (v : Known) → IsRadioWith out v → IsRadio v
-is_radio out (Network place pushed) is = absurd is
-is_radio out (Radio left networks taken_in) is = tt
-is_radio out Spent is = absurd is
+is_radio out v is = subst IsRadio (sym (radio_is out v is)) tt
 
 pub radio-taking : (v u : Known) → IsRadio v → IsRadio (taking_in v u)
-radio-taking (Network place pushed) u is = absurd is
 radio-taking (Radio left networks taken_in) (Network place pushed) is = tt
-radio-taking (Radio left networks taken_in) (Radio out given taken) is = tt
-radio-taking (Radio left networks taken_in) Spent is = tt
-radio-taking Spent u is = absurd is
+radio-taking (Radio left networks taken_in) u is = tt
+radio-taking v u is = absurd is
 
 -- a pass of the radio takes in one of a network
 pub takes : (port : ℕ) (v : Known) (other place : ℕ) (u : Known) → IsRadio v → IsNetworkAt place u → Merges IsKept port v other u (taking_in v u) Spent
-takes port (Network at pushed) other place u is here = absurd is
-takes port (Radio left networks taken_in) other place u is here = takes_in port left (Radio left networks taken_in) other place u refl here
-takes port Spent other place u is here = absurd is
+takes port v other place u is here = takes_in port (left_of v) v other place u (radio_with v is) here
 
 -- ---- passes in order of place
 
@@ -165,10 +156,6 @@ pub accounts_as : (out : List AirItem) (networks : ℕ) (taken_in : TakenIn) (v 
 accounts_as out networks taken_in v queued is e f account =
     subst (λ u. Accounts u queued) (radio_is out v is ∙ (λ i. Radio out (e i) (f i))) account
 
-no_items : (items : List AirItem) → length items ≡ 0 → items ≡ []
-no_items [] is = refl
-no_items (item ∷ items) is = absurd (omega (arith, is))
-
 some_pushed : (o : Option (List (List ℕ))) → IsSome o → (pushed : List (List ℕ)) × (o ≡ Some pushed)
 some_pushed None is = absurd (false≢true is)
 some_pushed (Some pushed) is = (pushed, refl)
@@ -181,4 +168,4 @@ nothing_queued networks taken_in before out queued now taken first last long =
     (λ place lt. let p = some_pushed (finite.get taken_in place) (taken place lt) in sym (first.1 place p.0 p.1) ∙ last.1 place p.0 p.1) in
     let a = length-append before queued in
     let b = length-append out now in
-    subst (Accounts (Radio out networks taken_in)) (no_items now (omega (arith, same, a, b, long))) last
+    subst (Accounts (Radio out networks taken_in)) (nil_from_length now (omega (arith, same, a, b, long))) last
