@@ -1,6 +1,7 @@
 -- Units one after the other, and those that are too old.
-use Rattle.std.proofs.Common.{◌≡◌, ℕ, ◌+◌, Bool, true, false, not, ◌&&◌, cond, List, [], ◌∷◌, length, refl, ap, ◌∙◌, arith}
+use Rattle.std.proofs.Common.{◌≡◌, ℕ, ◌+◌, Bool, true, false, not, ◌&&◌, List, [], ◌∷◌, length, inl, inr, refl, ap, ◌∙◌, arith}
 use Rattle.std.specs.Prelude.{filter, nat_lt}
+use Rattle.std.proofs.lemmas.Bool.{cases_Bool, cond_both}
 use Rattle.powersave.specs.Keep.{Entry, is_for, units_for}
 use Rattle.powersave.specs.declared.unit.Whom.TheVariants.{Group}
 use Rattle.ap_config.specs.declared.setting.Setting.{Setting}
@@ -14,27 +15,21 @@ use Rattle.roster.specs.Changes.{GroupStays}
 module _ (p : Entry → Bool) (group : (e : Entry) → is_for Group e ≡ true → p e ≡ false) where
   pub group-units : (es : List Entry) → units_for Group (filter (λ e. not (p e)) es) ≡ units_for Group es
   group-units [] = refl
-  group-units (e ∷ es) = by (is_for Group e) refl (group-units es)
-    where
-      late : (d : Bool) → is_for Group e ≡ false → units_for Group (filter (λ e. not (p e)) es) ≡ units_for Group es → units_for Group (cond (not d) (e ∷ filter (λ e. not (p e)) es) (filter (λ e. not (p e)) es)) ≡ units_for Group (e ∷ es)
-      late true other rest = rw other rest
-      late false other rest = rw other rest
-
-      by : (b : Bool) → is_for Group e ≡ b → units_for Group (filter (λ e. not (p e)) es) ≡ units_for Group es → units_for Group (filter (λ e. not (p e)) (e ∷ es)) ≡ units_for Group (e ∷ es)
-      by true here rest = rw (group e here) (rw here (ap (λ us. e.1 ∷ us) rest))
-      by false other rest = late (p e) other rest
+  group-units (e ∷ es) = elim (cases_Bool (is_for Group e)) [
+    | inl here ↦ rw (group e here) (rw here (ap (λ us. e.1 ∷ us) (group-units es)))
+    | inr other ↦
+        let stay : List Entry = filter (λ e. not (p e)) es in
+        cond_both (not (p e)) (e ∷ stay) stay (λ fs. units_for Group fs ≡ units_for Group (e ∷ es)) (λ _. rw other (group-units es)) (λ _. rw other (group-units es))
+  ]
 
   pub group-still_kept : (es : List Entry) → group_is_kept (filter (λ e. not (p e)) es) ≡ group_is_kept es
   group-still_kept [] = refl
-  group-still_kept (e ∷ es) = by (is_for Group e) refl (group-still_kept es)
-    where
-      late : (d : Bool) → is_for Group e ≡ false → group_is_kept (filter (λ e. not (p e)) es) ≡ group_is_kept es → group_is_kept (cond (not d) (e ∷ filter (λ e. not (p e)) es) (filter (λ e. not (p e)) es)) ≡ group_is_kept (e ∷ es)
-      late true other rest = rw other rest
-      late false other rest = rw other rest
-
-      by : (b : Bool) → is_for Group e ≡ b → group_is_kept (filter (λ e. not (p e)) es) ≡ group_is_kept es → group_is_kept (filter (λ e. not (p e)) (e ∷ es)) ≡ group_is_kept (e ∷ es)
-      by true here rest = rw (group e here) (rw here refl)
-      by false other rest = late (p e) other rest
+  group-still_kept (e ∷ es) = elim (cases_Bool (is_for Group e)) [
+    | inl here ↦ rw (group e here) (rw here refl)
+    | inr other ↦
+        let stay : List Entry = filter (λ e. not (p e)) es in
+        cond_both (not (p e)) (e ∷ stay) stay (λ fs. group_is_kept fs ≡ group_is_kept (e ∷ es)) (λ _. rw other (group-still_kept es)) (λ _. rw other (group-still_kept es))
+  ]
 
 -- in a network of whatever setting
 pub group-stays_young : GroupStays → (s : Setting) (n : Network) (e : Entry) → is_for Group e ≡ true → has_aged s n e ≡ false

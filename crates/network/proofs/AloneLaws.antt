@@ -1,9 +1,9 @@
 -- A network alone, event by event.
-use Rattle.std.proofs.Common.{◌≡◌, ℕ, ◌+◌, ◌*◌, ◌<◌, ◌≤◌, ◌||◌, ◌&&◌, is_some, Some, inl, inr, Bool, true, false, not, List, [], ◌∷◌, ◌++◌, length, Option, None, Result, Ok, Err, refl, sym, ap, subst, ◌∙◌, arith}
+use Rattle.std.proofs.Common.{◌≡◌, ℕ, ◌+◌, ◌*◌, ◌<◌, ◌≤◌, ◌&&◌, is_some, Some, inl, inr, ⊎_elim, Bool, true, false, not, List, [], ◌∷◌, ◌++◌, filter, length, Option, None, Result, Ok, Err, refl, sym, ap, subst, arith}
+use Rattle.std.proofs.lemmas.Bool.{cond_both, eqb-true, ltb-true, or_cases}
 use Rattle.std.proofs.lemmas.List.{length-append}
 use Rattle.mac_frame.specs.declared.frame.Unread.{Unread as Fault}
-use Rattle.std.specs.Prelude.{◌⊎◌, nat_lt, ◌==◌, if◌then◌else◌}
-use borrow.Author.Tests.{eqb-true, ltb-true}
+use Rattle.std.specs.Prelude.{nat_lt, ◌==◌}
 use Rattle.association.specs.Request.{Request, Probe, Auth, Assoc, Disassoc, Deauth, Msdu, Null, Poll, sender, request_of}
 use Rattle.association.specs.Asked.{class_of}
 use Rattle.association.specs.Status.{success}
@@ -15,17 +15,15 @@ use Rattle.station_state.specs.declared.class.Notice.{Notice}
 use Rattle.elements.specs.Elements.{Pair}
 use Rattle.std.specs.Str.{bytes_eq}
 use Rattle.encapsulation.specs.Ethernet.{Ethernet, ethernet_of}
-use Rattle.powersave.specs.Keep.{Entry, is_for, units_for, without_all, without_oldest}
+use Rattle.powersave.specs.Keep.{Entry, is_for, units_for, without_oldest}
 use Rattle.powersave.specs.declared.unit.Whom.{Whom}
 use Rattle.powersave.specs.declared.unit.Whom.TheVariants.{One, Group}
 use Rattle.powersave.specs.declared.unit.Unit.{Unit as DataUnit}
-use Rattle.mac_frame.specs.Address.{is_group}
-use Rattle.stations.specs.Stations.{Table, state_of, aid_of, standing_of, dozes_with, is_dozing, set_mode, some_station_dozes, may_associate, next_aid, authenticate, associate, disassociate, forget}
-use Rattle.network.specs.Units.{unit, unit_of, unit_frame, others_follow, delivery_of, delivery_with, goes_on_wire, may_poll}
-use Rattle.roster.specs.KeptUnits.{group_is_kept, IsKeptFor, AreKeptFor, CameBy}
+use Rattle.stations.specs.Stations.{Table, state_of, aid_of, standing_of, is_dozing, set_mode, set_state, may_associate, next_aid, authenticate, associate, disassociate, forget}
+use Rattle.network.specs.Units.{unit, unit_of, unit_frame, others_follow, delivery_of, goes_on_wire, may_poll}
+use Rattle.roster.specs.KeptUnits.{IsKeptFor, AreKeptFor, CameBy}
 use Rattle.encapsulation.specs.Encapsulation.{on_wire}
 use Rattle.beacon.specs.Beacon.{dtim_count}
-use Rattle.station_state.specs.declared.state.StationState.{StationState}
 use Rattle.network.specs.declared.reply.unit.Delivery.{Delivery}
 use Rattle.network.specs.declared.reply.unit.Delivery.TheVariants.{Now, Kept, Nowhere}
 use Rattle.station_state.specs.declared.state.StationState.TheVariants.{Authenticated, Associated}
@@ -34,11 +32,11 @@ use Rattle.network.proofs.Clocks.{modes}
 use Rattle.network.proofs.FrameSizes.{AreFrames, AreEthernet, IsShort, IsShortRead, all-push, those-fit, others-fit, ethernet-fits, request-short}
 use Rattle.network.specs.Sizes.{FitsFrame, AreFitting}
 use Rattle.std.proofs.lemmas.List.Filters.{length-filter_both}
+use Rattle.network.proofs.UnitDelivery.{kept-for}
 use Rattle.network.proofs.Statuses.{room-authenticated, room-associated, known-where_taken, known-where_associated}
 use Rattle.ap_config.specs.declared.setting.Setting.{Setting}
-use Rattle.network.specs.Network.{Network, empty_network, send, count_unread, change_state, change_where_served, lose, keep_or_lose, deliver, answer_wired, drop_units, send_unit, send_each, put_on_wire, relay, forward, has_aged, age_units, set_power_mode, serve_poll, answer_poll, beacon_frame, release, tick, may_be_known, authentication_status, answer_authentication, association_status, answer_association, serve, notify_or_serve, announced_at, asks_for, answer, answer_probe, step, after, alone}
+use Rattle.network.specs.Network.{Network, empty_network, next_sequence, send, count_unread, change_state, change_stations, change_where_served, lose, keep_or_lose, deliver, answer_wired, drop_units, send_unit, send_each, put_on_wire, relay, forward, forward_by, has_aged, age_units, set_power_mode, serve_poll, answer_poll, beacon_frame, release, tick, may_be_known, authentication_status, answer_authentication, association_status, answer_association, serve, notify_or_serve, announced_at, asks_for, answer, answer_probe, step, after, alone}
 use Rattle.ap_config.specs.Configuration.{network_fault}
-use Rattle.ap_config.specs.declared.config.NetConfig.{NetConfig}
 use Rattle.network.specs.Sound.{IsSoundNetwork}
 use Rattle.stations.specs.Changes.{OthersStay, ModesAlone, StaySound, LengthsAfter}
 use Rattle.stations.specs.declared.table.Change.TheVariants as changes
@@ -78,55 +76,20 @@ empty-sound s = record {
 
 -- more events and units are no less
 pub more-sound : (s : Setting) (events units more most : ℕ) (n : Network) → events ≤ more → units ≤ most → IsSoundNetwork s events units n → IsSoundNetwork s more most n
-more-sound s events units more most n e u h = record {
-  stations = h.stations;
-  known = h.known;
-  kept = h.kept;
-  came = h.came;
-  sizes = h.sizes;
-  quota = h.quota;
-  sequence = h.sequence;
-  unread = omega (arith, e, h.unread);
-  clock = omega (arith, e, h.clock);
-  lost = omega (arith, u, h.lost);
-}
+more-sound s events units more most n e u h =
+    let unread : n.unread ≤ more = omega (arith, e, h.unread) in
+    let clock : n.clock ≤ more = omega (arith, e, h.clock) in
+    let lost : n.lost + length n.kept ≤ most = omega (arith, u, h.lost) in
+    assumption
 
 -- which frames were sent, on the air or on the wire, is nothing to it
 pub frames-sound : (s : Setting) (events units : ℕ) (n : Network) (air wire : List (List ℕ)) → IsSoundNetwork s events units n → IsSoundNetwork s events units (record n { air = air; wire = wire })
-frames-sound s events units n air wire h = record {
-  stations = h.stations;
-  known = h.known;
-  kept = h.kept;
-  came = h.came;
-  sizes = h.sizes;
-  quota = h.quota;
-  sequence = h.sequence;
-  unread = h.unread;
-  clock = h.clock;
-  lost = h.lost;
-}
+frames-sound s events units n air wire h = assumption
 
 -- who a unit is kept for dozes
 pub delivery-for : (to : List ℕ) (t : Table) (kept : List Entry) (whom : Whom) → delivery_of to t kept ≡ Kept whom → IsKeptFor t whom
-delivery-for to t kept whom h = by (is_group to) refl
-  where
-    to_group : (b : Bool) → (if b then Kept Group else Now) ≡ Kept whom → IsKeptFor t whom
-    to_group true e = let is : Group ≡ whom = cc in subst (IsKeptFor t) is tt
-    to_group false e = absurd (cc)
-
-    to_one : (l : Option StationState) → state_of to t ≡ l → delivery_with l to ≡ Kept whom → IsKeptFor t whom
-    to_one None is e = absurd (cc)
-    to_one (Some Authenticated) is e = absurd (cc)
-    to_one (Some (Associated aid listen true)) is e = let one : One to ≡ whom = cc in subst (IsKeptFor t) one (ap dozes_with is)
-    to_one (Some (Associated aid listen false)) is e = absurd (cc)
-
-    by : (b : Bool) → is_group to ≡ b → IsKeptFor t whom
-    by true is = to_group (some_station_dozes t || group_is_kept kept) (sym (rw is refl) ∙ h)
-    by false is = to_one (state_of to t) refl (sym (rw is refl) ∙ h)
-
--- in a network without a fault there are identifiers for all stations that may associate
-abbrev pub StationsFit : Type 0
-StationsFit = (n : NetConfig) → network_fault n ≡ None → n.max_stations ≤ 2007
+delivery-for to t kept whom h =
+    ⊎_elim (λ e. subst (IsKeptFor t) e tt) (λ e. subst (IsKeptFor t) e.0 e.1) (kept-for to t kept whom h)
 
 -- what the laws of the crates below say of a table, and of the units that are kept for its stations
 pub record LawsBelow : Type 0 where
@@ -140,99 +103,59 @@ pub record LawsBelow : Type 0 where
 
 module _ (below : LawsBelow) where
   -- of a network with the same stations and kept units, where its counts stay within their bounds
-  counts-sound : (s : Setting) (events units more most : ℕ) (n other : Network) → (other.stations ≡ n.stations) × (other.kept ≡ n.kept) × (n.clock ≤ other.clock) → other.sequence < 4096 → other.unread ≤ more → other.clock ≤ more → other.lost + length other.kept ≤ most → IsSoundNetwork s events units n → IsSoundNetwork s more most other
-  counts-sound s events units more most n other same sequence unread clock lost h = record {
-    stations = rw same.0 h.stations;
-    known = rw same.0 h.known;
-    kept = rw (same.0, same.1) h.kept;
-    came = rw same.1 (below.came.later n.clock other.clock n.kept same.2 h.came);
-    sizes = rw same.1 h.sizes;
-    quota = rw same.1 h.quota;
-    sequence = sequence;
-    unread = unread;
-    clock = clock;
-    lost = lost;
-  }
+  counts-sound : (s : Setting) (events units more most : ℕ) (n : Network) (clock sequence lost unread : ℕ) (air : List (List ℕ)) → n.clock ≤ clock → sequence < 4096 → unread ≤ more → clock ≤ more → lost + length n.kept ≤ most → IsSoundNetwork s events units n → IsSoundNetwork s more most (record n { clock = clock; sequence = sequence; lost = lost; unread = unread; air = air })
+  counts-sound s events units more most n clock sequence lost unread air later few read begun all h =
+      let came = below.came.later n.clock clock n.kept later h.came in
+      assumption
 
   send-sound : (s : Setting) (events units : ℕ) (n : Network) (frame : ℕ → List ℕ) → IsSoundNetwork s events units n → IsSoundNetwork s events units (send frame n)
-  send-sound s events units n frame h = counts-sound s events units events units n (send frame n) (refl, refl, omega arith) (omega arith) h.unread h.clock h.lost h
+  send-sound s events units n frame h = counts-sound s events units events units n n.clock (next_sequence n.sequence) n.lost n.unread (n.air ++ frame n.sequence ∷ []) (omega arith) (omega arith) h.unread h.clock h.lost h
 
   count_unread-sound : (s : Setting) (events units : ℕ) (n : Network) → IsSoundNetwork s events units n → IsSoundNetwork s (events + 1) units (count_unread n)
-  count_unread-sound s events units n h = counts-sound s events units (events + 1) units n (count_unread n) (refl, refl, omega arith) h.sequence (omega (arith, h.unread)) (omega (arith, h.clock)) h.lost h
+  count_unread-sound s events units n h = counts-sound s events units (events + 1) units n n.clock n.sequence n.lost (n.unread + 1) n.air (omega arith) h.sequence (omega (arith, h.unread)) (omega (arith, h.clock)) h.lost h
 
   clock-sound : (s : Setting) (events units : ℕ) (n : Network) → IsSoundNetwork s events units n → IsSoundNetwork s (events + 1) units (record n { clock = n.clock + 1 })
-  clock-sound s events units n h = counts-sound s events units (events + 1) units n (record n { clock = n.clock + 1 }) (refl, refl, omega arith) h.sequence (omega (arith, h.unread)) (omega (arith, h.clock)) h.lost h
+  clock-sound s events units n h = counts-sound s events units (events + 1) units n (n.clock + 1) n.sequence n.lost n.unread n.air (omega arith) h.sequence (omega (arith, h.unread)) (omega (arith, h.clock)) h.lost h
 
   lose-sound : (s : Setting) (events units : ℕ) (n : Network) → IsSoundNetwork s events units n → IsSoundNetwork s events (units + 1) (lose n)
-  lose-sound s events units n h = counts-sound s events units events (units + 1) n (lose n) (refl, refl, omega arith) h.sequence h.unread h.clock (omega (arith, h.lost)) h
+  lose-sound s events units n h = counts-sound s events units events (units + 1) n n.clock n.sequence (n.lost + 1) n.unread n.air (omega arith) h.sequence h.unread h.clock (omega (arith, h.lost)) h
 
   -- some units leave
   kept-sound : (s : Setting) (events units : ℕ) (n : Network) (kept : List Entry) → AreKeptFor n.stations kept → CameBy n.clock kept → AreFitting kept → length kept ≤ length n.kept → IsSoundNetwork s events units n → IsSoundNetwork s events units (record n { kept = kept })
-  kept-sound s events units n kept for came sizes fewer h = record {
-    stations = h.stations;
-    known = h.known;
-    kept = for;
-    came = came;
-    sizes = sizes;
-    quota = omega (arith, fewer, h.quota);
-    sequence = h.sequence;
-    unread = h.unread;
-    clock = h.clock;
-    lost = omega (arith, fewer, h.lost);
-  }
+  kept-sound s events units n kept for came sizes fewer h =
+      let quota : length kept ≤ s.network.quota = omega (arith, fewer, h.quota) in
+      let lost : n.lost + length kept ≤ units = omega (arith, fewer, h.lost) in
+      assumption
+
+  dropped-sound : (s : Setting) (stay : Entry → Bool) (events units : ℕ) (n : Network) → IsSoundNetwork s events units n → IsSoundNetwork s events units (record n { kept = filter stay n.kept })
+  dropped-sound s stay events units n h =
+      kept-sound s events units n (filter stay n.kept) (below.kept.some n.stations stay n.kept h.kept) (below.came.some stay n.clock n.kept h.came) (those-fit stay n.kept h.sizes) (below.counts.some stay n.kept) h
 
   -- the stations change, and stay sound, and whoever units are kept for dozes
   stations-sound : (s : Setting) (events units : ℕ) (n : Network) (table : Table) → AreSound s.network.max_stations table → length table ≤ s.network.max_known → AreKeptFor table n.kept → IsSoundNetwork s events units n → IsSoundNetwork s events units (record n { stations = table })
-  stations-sound s events units n table sound few for h = record {
-    stations = sound;
-    known = few;
-    kept = for;
-    came = h.came;
-    sizes = h.sizes;
-    quota = h.quota;
-    sequence = h.sequence;
-    unread = h.unread;
-    clock = h.clock;
-    lost = h.lost;
-  }
+  stations-sound s events units n table sound few for h = assumption
 
   -- one of them changes, and the units for it leave
   state-sound : (s : Setting) (addr : List ℕ) (change : Table → Table) (events units : ℕ) (n : Network) → AreSound s.network.max_stations (change n.stations) → length (change n.stations) ≤ s.network.max_known → ((b : List ℕ) → bytes_eq b addr ≡ false → state_of b (change n.stations) ≡ state_of b n.stations) → IsSoundNetwork s events units n → IsSoundNetwork s events units (change_state addr change n)
-  state-sound s addr change events units n sound few elsewhere h = record {
-    stations = sound;
-    known = few;
-    kept = below.kept.beside addr n.stations (change n.stations) elsewhere n.kept h.kept;
-    came = below.came.some (λ entry. not (is_for (One addr) entry)) n.clock n.kept h.came;
-    sizes = those-fit (λ entry. not (is_for (One addr) entry)) n.kept h.sizes;
-    quota = omega (arith, below.counts.some (λ entry. not (is_for (One addr) entry)) n.kept, h.quota);
-    sequence = h.sequence;
-    unread = h.unread;
-    clock = h.clock;
-    lost = omega (arith, below.counts.some (λ entry. not (is_for (One addr) entry)) n.kept, h.lost);
-  }
+  state-sound s addr change events units n sound few elsewhere h =
+      let stay : Entry → Bool = λ entry. not (is_for (One addr) entry) in
+      stations-sound s events units (record n { kept = filter stay n.kept }) (change n.stations) sound few
+      (below.kept.beside addr n.stations (change n.stations) elsewhere n.kept h.kept) (dropped-sound s stay events units n h)
 
   -- ---- units
 
   keep-sound : (s : Setting) (whom : Whom) (u : DataUnit) (events units : ℕ) (n : Network) → u.at ≡ n.clock → FitsFrame u → IsKeptFor n.stations whom → IsSoundNetwork s events units n → IsSoundNetwork s events (units + 1) (keep_or_lose s whom u n)
-  keep-sound s whom u events units n at size for h = by (nat_lt (length n.kept) s.network.quota) refl
-    where
-      by : (b : Bool) → nat_lt (length n.kept) s.network.quota ≡ b → IsSoundNetwork s events (units + 1) (keep_or_lose s whom u n)
-      by false is = rw is (lose-sound s events units n h)
-      by true is =
-          let room : length n.kept < s.network.quota = ltb-true (length n.kept) s.network.quota is in
-          let len : length (n.kept ++ (whom, u) ∷ []) ≡ length n.kept + 1 = length-append n.kept ((whom, u) ∷ []) in
-          rw is (record {
-            stations = h.stations;
-            known = h.known;
-            kept = below.kept.one_came n.stations whom u n.kept h.kept for;
-            came = below.came.one_came whom u n.clock n.kept at h.came;
-            sizes = all-push _ n.kept (whom, u) h.sizes size;
-            quota = omega (arith, room, len);
-            sequence = h.sequence;
-            unread = h.unread;
-            clock = h.clock;
-            lost = omega (arith, len, h.lost);
-          })
+  keep-sound s whom u events units n at size for h =
+      let len : length (n.kept ++ (whom, u) ∷ []) ≡ length n.kept + 1 = length-append n.kept ((whom, u) ∷ []) in
+      cond_both (nat_lt (length n.kept) s.network.quota) (record n { kept = n.kept ++ (whom, u) ∷ [] }) (lose n) (IsSoundNetwork s events (units + 1))
+      (λ is.
+      let kept = below.kept.one_came n.stations whom u n.kept h.kept for in
+      let came = below.came.one_came whom u n.clock n.kept at h.came in
+      let sizes = all-push (λ (entry : Entry). FitsFrame entry.1) n.kept (whom, u) h.sizes size in
+      let quota : length (n.kept ++ (whom, u) ∷ []) ≤ s.network.quota = omega (arith, ltb-true (length n.kept) s.network.quota is, len) in
+      let lost : n.lost + length (n.kept ++ (whom, u) ∷ []) ≤ units + 1 = omega (arith, len, h.lost) in
+      assumption)
+      (λ _. lose-sound s events units n h)
 
   deliver-sound : (s : Setting) (u : DataUnit) (events units : ℕ) (n : Network) → u.at ≡ n.clock → FitsFrame u → IsSoundNetwork s events units n → IsSoundNetwork s events (units + 1) (deliver s u n)
   deliver-sound s u events units n at size h = by (delivery_of u.to n.stations n.kept) refl
@@ -252,34 +175,26 @@ module _ (below : LawsBelow) where
   put_on_wire-sound s None events units n h = lose-sound s events units n h
 
   relay-sound : (s : Setting) (u : DataUnit) (events units : ℕ) (n : Network) → u.at ≡ n.clock → FitsFrame u → IsSoundNetwork s events units n → IsSoundNetwork s events (units + 1) (relay s u n)
-  relay-sound s u events units n at size h = by s.network.relay
-    where
-      by : (b : Bool) → IsSoundNetwork s events (units + 1) (if b then deliver s u n else n)
-      by true = deliver-sound s u events units n at size h
-      by false = more-sound s events units events (units + 1) n (omega arith) (omega arith) h
+  relay-sound s u events units n at size h =
+      cond_both s.network.relay (deliver s u n) n (IsSoundNetwork s events (units + 1)) (λ _. deliver-sound s u events units n at size h)
+      (λ _. more-sound s events units events (units + 1) n (omega arith) (omega arith) h)
 
   forward-sound : (s : Setting) (u : DataUnit) (events units : ℕ) (n : Network) → u.at ≡ n.clock → FitsFrame u → IsSoundNetwork s events units n → IsSoundNetwork s events (units + 2) (forward s u n)
-  forward-sound s u events units n at size h = by (goes_on_wire s.network.relay u.to n.stations) refl
+  forward-sound s u events units n at size h = by (goes_on_wire s.network.relay u.to n.stations) (relay-sound s u events units n at size h)
     where
-      by : (b : Bool) → goes_on_wire s.network.relay u.to n.stations ≡ b → IsSoundNetwork s events (units + 2) (forward s u n)
-      by true is =
-          rw is (more-sound s events (units + 1 + 1) events (units + 2) _ (omega arith) (omega arith)
-          (put_on_wire-sound s (on_wire u.to u.source u.body) events (units + 1) (relay s u n) (relay-sound s u events units n at size h)))
-      by false is = rw is (more-sound s events (units + 1) events (units + 2) _ (omega arith) (omega arith) (relay-sound s u events units n at size h))
+      by : (b : Bool) → IsSoundNetwork s events (units + 1) (relay s u n) → IsSoundNetwork s events (units + 2) (forward_by b s u n)
+      by true relayed = more-sound s events (units + 1 + 1) events (units + 2) _ (omega arith) (omega arith) (put_on_wire-sound s (on_wire u.to u.source u.body) events (units + 1) (relay s u n) relayed)
+      by false relayed = more-sound s events (units + 1) events (units + 2) _ (omega arith) (omega arith) relayed
 
   mode_set-sound : (s : Setting) (from : List ℕ) (doze : Bool) (events units : ℕ) (n : Network) → s.network.max_stations ≤ 2007 → IsSoundNetwork s events units n → IsSoundNetwork s events units (set_power_mode s from doze n)
-  mode_set-sound s from doze events units n limit h = by (is_dozing from n.stations && not doze) refl
-    where
-      few : length (set_mode from doze n.stations) ≤ s.network.max_known
-      few = omega (arith, below.lengths.moded from doze n.stations, h.known)
-
-      by : (b : Bool) → (is_dozing from n.stations && not doze) ≡ b → IsSoundNetwork s events units (set_power_mode s from doze n)
-      by true is =
-          rw is (send_each-sound s false (units_for (One from) n.kept) events units (change_state from (set_mode from doze) n)
-          (state-sound s from (set_mode from doze) events units n (below.sound s.network.max_stations (changes.SetMode from doze) n.stations limit tt h.stations) few (λ b other. below.others.moded from b doze n.stations other) h))
-      by false is =
-          rw is (stations-sound s events units n (set_mode from doze n.stations) (below.sound s.network.max_stations (changes.SetMode from doze) n.stations limit tt h.stations) few
-          (below.kept.dozing n.stations (set_mode from doze n.stations) (λ b dozes. below.modes.stays from b doze n.stations is dozes) n.kept h.kept) h)
+  mode_set-sound s from doze events units n limit h =
+      let few : length (set_mode from doze n.stations) ≤ s.network.max_known = omega (arith, below.lengths.moded from doze n.stations, h.known) in
+      let sound = below.sound s.network.max_stations (changes.SetMode from doze) n.stations limit tt h.stations in
+      cond_both (is_dozing from n.stations && not doze) _ (change_stations (set_mode from doze) n) (IsSoundNetwork s events units)
+      (λ _. send_each-sound s false (units_for (One from) n.kept) events units (change_state from (set_mode from doze) n)
+      (state-sound s from (set_mode from doze) events units n sound few (λ b other. below.others.moded from b doze n.stations other) h))
+      (λ is. stations-sound s events units n (set_mode from doze n.stations) sound few
+      (below.kept.dozing n.stations (set_mode from doze n.stations) (λ b dozes. below.modes.stays from b doze n.stations is dozes) n.kept h.kept) h)
 
   poll-sound : (s : Setting) (from : List ℕ) (us : List DataUnit) (events units : ℕ) (n : Network) → IsSoundNetwork s events units n → IsSoundNetwork s events units (serve_poll s from us n)
   poll-sound s from [] events units n h = h
@@ -288,20 +203,16 @@ module _ (below : LawsBelow) where
       (kept-sound s events units n (without_oldest (One from) n.kept) (below.kept.one_left n.stations (is_for (One from)) n.kept h.kept) (below.came.one_left (is_for (One from)) n.clock n.kept h.came) (others-fit (One from) n.kept h.sizes) (below.counts.one_left (is_for (One from)) n.kept) h)
 
   polled-sound : (s : Setting) (from : List ℕ) (aid events units : ℕ) (n : Network) → IsSoundNetwork s events units n → IsSoundNetwork s events units (answer_poll s from aid n)
-  polled-sound s from aid events units n h = by (may_poll aid (state_of from n.stations)) refl
-    where
-      by : (b : Bool) → may_poll aid (state_of from n.stations) ≡ b → IsSoundNetwork s events units (answer_poll s from aid n)
-      by true is = rw is (poll-sound s from (units_for (One from) n.kept) events units n h)
-      by false is = rw is h
+  polled-sound s from aid events units n h =
+      cond_both (may_poll aid (state_of from n.stations)) _ n (IsSoundNetwork s events units)
+      (λ _. poll-sound s from (units_for (One from) n.kept) events units n h) (λ _. h)
 
   release-sound : (s : Setting) (events units : ℕ) (n : Network) → IsSoundNetwork s events units n → IsSoundNetwork s events units (release s n)
-  release-sound s events units n h = by (dtim_count n.clock s.network.dtim == 0) refl
-    where
-      by : (b : Bool) → (dtim_count n.clock s.network.dtim == 0) ≡ b → IsSoundNetwork s events units (release s n)
-      by true is =
-          rw is (send_each-sound s true (units_for Group n.kept) events units (drop_units Group n)
-          (kept-sound s events units n (without_all Group n.kept) (below.kept.some n.stations (λ entry. not (is_for Group entry)) n.kept h.kept) (below.came.some (λ entry. not (is_for Group entry)) n.clock n.kept h.came) (those-fit (λ entry. not (is_for Group entry)) n.kept h.sizes) (below.counts.some (λ entry. not (is_for Group entry)) n.kept) h))
-      by false is = rw is h
+  release-sound s events units n h =
+      cond_both (dtim_count n.clock s.network.dtim == 0) _ n (IsSoundNetwork s events units)
+      (λ _. send_each-sound s true (units_for Group n.kept) events units (drop_units Group n)
+      (dropped-sound s (λ entry. not (is_for Group entry)) events units n h))
+      (λ _. h)
 
   tick-sound : (s : Setting) (events units : ℕ) (n : Network) → IsSoundNetwork s events units n → IsSoundNetwork s (events + 1) units (tick s n)
   tick-sound s events units n h =
@@ -314,50 +225,29 @@ module _ (below : LawsBelow) where
       let leaves : Entry → Bool = has_aged s n in
       let stay : Entry → Bool = λ entry. not (leaves entry) in
       let both = length-filter_both leaves stay (λ entry. refl) n.kept in
-      record {
-        stations = h.stations;
-        known = h.known;
-        kept = below.kept.some n.stations stay n.kept h.kept;
-        came = below.came.some stay n.clock n.kept h.came;
-        sizes = those-fit stay n.kept h.sizes;
-        quota = omega (arith, below.counts.some stay n.kept, h.quota);
-        sequence = h.sequence;
-        unread = h.unread;
-        clock = h.clock;
-        lost = omega (arith, both, h.lost);
-      }
+      let dropped = dropped-sound s stay events units n h in
+      let lost : n.lost + length (filter leaves n.kept) + length (filter stay n.kept) ≤ units = omega (arith, both, h.lost) in
+      assumption
 
   -- ---- and so by each answer, step and history
 
   probe-sound : (s : Setting) (from : List ℕ) (ssid : Option (List ℕ)) (events units : ℕ) (n : Network) → IsSoundNetwork s events units n → IsSoundNetwork s events units (answer_probe s from ssid n)
-  probe-sound s from ssid events units n h = cases (asks_for s.network.ssid ssid) refl
-    where
-      cases : (b : Bool) → asks_for s.network.ssid ssid ≡ b → IsSoundNetwork s events units (answer_probe s from ssid n)
-      cases true e = rw e (send-sound s events units n (probe_response (announced_at s n.clock) from) h)
-      cases false e = rw e h
-
-  either : (a b : Bool) → (a || b) ≡ true → (a ≡ true) ⊎ (b ≡ true)
-  either true b h = inl refl
-  either false b h = inr h
+  probe-sound s from ssid events units n h =
+      cond_both (asks_for s.network.ssid ssid) _ n (IsSoundNetwork s events units)
+      (λ _. send-sound s events units n (probe_response (announced_at s n.clock) from) h) (λ _. h)
 
   authenticated-few : (s : Setting) (from : List ℕ) (n : Network) → may_be_known s from n ≡ true → length n.stations ≤ s.network.max_known → length (authenticate from n.stations) ≤ s.network.max_known
   authenticated-few s from n room few =
       let len = below.lengths.set from Authenticated n.stations in
-      elim (either (is_some (state_of from n.stations)) (nat_lt (length n.stations) s.network.max_known) room) [
-        | inl known ↦ let same = rw known at len in omega (arith, few, same)
-        | inr fewer ↦ omega (arith, len, ltb-true (length n.stations) s.network.max_known fewer, at_most_one (is_some (state_of from n.stations)))
+      let known = is_some (state_of from n.stations) in
+      elim (or_cases known (nat_lt (length n.stations) s.network.max_known) room) [
+        | inl is ↦ let same = rw is at len in omega (arith, few, same)
+        | inr fewer ↦ omega (arith, len, ltb-true (length n.stations) s.network.max_known fewer, cond_both known 0 1 (λ k. k ≤ 1) (λ _. omega arith) (λ _. omega arith))
       ]
-    where
-      at_most_one : (b : Bool) → (if b then 0 else 1) ≤ 1
-      at_most_one true = omega arith
-      at_most_one false = omega arith
 
   served-sound : (s : Setting) (status : ℕ) (addr : List ℕ) (change : Table → Table) (events units : ℕ) (n : Network) → (status ≡ success → IsSoundNetwork s events units (change_state addr change n)) → IsSoundNetwork s events units n → IsSoundNetwork s events units (change_where_served status addr change n)
-  served-sound s status addr change events units n served h = by (status == success) refl
-    where
-      by : (b : Bool) → (status == success) ≡ b → IsSoundNetwork s events units (change_where_served status addr change n)
-      by true is = let yes : status ≡ success = eqb-true status success is in rw is (served yes)
-      by false is = rw is h
+  served-sound s status addr change events units n served h =
+      cond_both (status == success) (change_state addr change n) n (IsSoundNetwork s events units) (λ is. served (eqb-true status success is)) (λ _. h)
 
   authentication-sound : (s : Setting) (from : List ℕ) (algorithm step events units : ℕ) (n : Network) → s.network.max_stations ≤ 2007 → IsSoundNetwork s events units n → IsSoundNetwork s events units (answer_authentication s from algorithm step n)
   authentication-sound s from algorithm step events units n limit h =
@@ -378,20 +268,14 @@ module _ (below : LawsBelow) where
 
   disassociation-sound : (s : Setting) (from : List ℕ) (events units : ℕ) (n : Network) → s.network.max_stations ≤ 2007 → IsSoundNetwork s events units n → IsSoundNetwork s events units (change_state from (disassociate from) n)
   disassociation-sound s from events units n limit h =
-      state-sound s from (disassociate from) events units n (below.sound s.network.max_stations (changes.Disassociate from) n.stations limit tt h.stations) (few (is_some (aid_of from n.stations)) refl)
-      (λ b other. elsewhere b other (is_some (aid_of from n.stations)) refl) h
-    where
-      few : (b : Bool) → is_some (aid_of from n.stations) ≡ b → length (disassociate from n.stations) ≤ s.network.max_known
-      few true is =
-          let known = known-where_associated (state_of from n.stations) is in
-          let len = below.lengths.set from Authenticated n.stations in
-          let same = rw known at len in
-          rw is (omega (arith, same, h.known))
-      few false is = rw is h.known
-
-      elsewhere : (b : List ℕ) → bytes_eq b from ≡ false → (r : Bool) → is_some (aid_of from n.stations) ≡ r → state_of b (disassociate from n.stations) ≡ state_of b n.stations
-      elsewhere b other true is = rw is (below.others.set from b Authenticated n.stations other)
-      elsewhere b other false is = rw is refl
+      let t : Table = n.stations in
+      let set : Table = set_state from Authenticated t in
+      let has : Bool = is_some (aid_of from t) in
+      let len = below.lengths.set from Authenticated t in
+      state-sound s from (disassociate from) events units n (below.sound s.network.max_stations (changes.Disassociate from) t limit tt h.stations)
+      (cond_both has set t (λ (u : Table). length u ≤ s.network.max_known)
+      (λ is. let known = known-where_associated (state_of from t) is in let same = rw known at len in omega (arith, same, h.known)) (λ _. h.known))
+      (λ b other. cond_both has set t (λ (u : Table). state_of b u ≡ state_of b t) (λ _. below.others.set from b Authenticated t other) (λ _. refl)) h
 
   serve-sound : (s : Setting) (r : Request) (events units : ℕ) (n : Network) → IsShort r → s.network.max_stations ≤ 2007 → class_fault (standing_of (sender r) n.stations) (class_of r) ≡ None → IsSoundNetwork s events units n → IsSoundNetwork s events (units + 2) (serve s r n)
   serve-sound s (Probe from ssid) events units n short limit taken h = more-sound s events units events (units + 2) _ (omega arith) (omega arith) (probe-sound s from ssid events units n h)
@@ -425,13 +309,17 @@ module _ (below : LawsBelow) where
       wired-sound s (ethernet_of y) events units n (λ w is. ethernet-fits n.clock y w ((ethernet y w).0 is)) h
   step-sound frames ethernet s events units n Tick limit h = more-sound s (events + 1) units (events + 1) (units + 2) _ (omega arith) (omega arith) (tick-sound s events units (age_units s n) (age-sound s events units n h))
 
-  after-sound : AreFrames → AreEthernet → (s : Setting) (events units : ℕ) (n : Network) (es : List Event) → s.network.max_stations ≤ 2007 → IsSoundNetwork s events units n → IsSoundNetwork s (events + length es) (units + 2 * length es) (after s n es)
-  after-sound frames ethernet s events units n [] limit h = more-sound s events units _ _ n (omega arith) (omega arith) h
-  after-sound frames ethernet s events units n (e ∷ es) limit h =
-      more-sound s _ _ _ _ (after s (step s n e) es) (omega arith) (omega arith)
-      (after-sound frames ethernet s (events + 1) (units + 2) (step s n e) es limit (step-sound frames ethernet s events units n e limit h))
+-- what holds of a network holds after one event more, and so after any
+abbrev pub StaysSound : Type 0
+StaysSound = (s : Setting) (events units : ℕ) (n : Network) (e : Event) → network_fault s.network ≡ None → IsSoundNetwork s events units n → IsSoundNetwork s (events + 1) (units + 2) (step s n e)
 
-  pub alone-sound : StationsFit → AreFrames → AreEthernet → (s : Setting) (es : List Event) → network_fault s.network ≡ None → IsSoundNetwork s (length es) (2 * length es) (alone s es)
-  unfolding alone
-  alone-sound fit frames ethernet s es h =
-      more-sound s _ _ _ _ (after s empty_network es) (omega arith) (omega arith) (after-sound frames ethernet s 0 0 empty_network es (fit s.network h) (empty-sound s))
+after-sound : StaysSound → (s : Setting) (events units : ℕ) (n : Network) (es : List Event) → network_fault s.network ≡ None → IsSoundNetwork s events units n → IsSoundNetwork s (events + length es) (units + 2 * length es) (after s n es)
+after-sound stays s events units n [] accepted h = more-sound s events units _ _ n (omega arith) (omega arith) h
+after-sound stays s events units n (e ∷ es) accepted h =
+    more-sound s _ _ _ _ (after s (step s n e) es) (omega arith) (omega arith)
+    (after-sound stays s (events + 1) (units + 2) (step s n e) es accepted (stays s events units n e accepted h))
+
+pub alone-sound : StaysSound → (s : Setting) (es : List Event) → network_fault s.network ≡ None → IsSoundNetwork s (length es) (2 * length es) (alone s es)
+unfolding alone
+alone-sound stays s es accepted =
+    more-sound s _ _ _ _ (after s empty_network es) (omega arith) (omega arith) (after-sound stays s 0 0 empty_network es accepted (empty-sound s))

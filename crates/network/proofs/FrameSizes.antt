@@ -1,9 +1,10 @@
 -- How long the frames are that a network sends: what each part of one has, and what each named change and step keeps.
-use Rattle.std.proofs.Common.{◌≡◌, ◌↔◌, ℕ, zero, suc, ◌+◌, ◌<◌, ◌≤◌, ◌^◌, IsTrue, Bool, true, false, not, ◌&&◌, cond, List, [], ◌∷◌, ◌++◌, length, take, drop, map, filter, Option, Some, None, Result, Ok, Err, refl, ap, length-append, length-drop, arith}
+use Rattle.std.proofs.Common.{◌≡◌, ◌↔◌, ℕ, ◌+◌, ◌<◌, ◌≤◌, ◌^◌, IsTrue, Bool, true, false, not, ◌&&◌, List, [], ◌∷◌, ◌++◌, length, drop, map, filter, Option, Some, None, Result, Ok, Err, refl, ap, length-append, length-drop, arith}
 use Rattle.std.specs.Prelude.{◌==◌, nat_le, nat_lt, option_map, if◌then◌else◌}
 use Rattle.std.specs.Int.{w16, to_be_bytes, to_le_bytes}
 use Rattle.std.specs.List.{AllByRecursion}
-use borrow.Author.Tests.{eqb-true, leb-true}
+use Rattle.std.proofs.lemmas.Bool.{and_parts, cond_both, eqb-true, leb-true}
+use Rattle.std.proofs.lemmas.List.{length-take}
 use Rattle.mac_frame.specs.declared.frame.Unread.{Unread}
 use Rattle.mac_frame.specs.declared.frame.Unread.TheVariants as faults
 use Rattle.mac_frame.specs.declared.frame_control.FrameControl.{FrameControl}
@@ -48,7 +49,7 @@ use Rattle.events.specs.declared.event.Event.TheVariants.{Air, Wire, Tick}
 use Rattle.network.specs.declared.reply.unit.Delivery.{Delivery}
 use Rattle.network.specs.declared.reply.unit.Delivery.TheVariants.{Now, Kept, Nowhere}
 use Rattle.network.specs.Units.{unit, unit_of, unit_frame, others_follow, delivery_of, goes_on_wire, may_poll}
-use Rattle.network.specs.Network.{Network, empty_network, send, change_state, change_where_served, lose, keep_or_lose, deliver, deliver_by, answer_wired, drop_units, send_unit, send_each, put_on_wire, relay, forward, forward_by, age_units, set_power_mode, serve_poll, answer_poll, beacon_frame, release, tick, authentication_status, answer_authentication, association_status, answer_association, serve, notify_or_serve, announced_at, asks_for, answer, answer_probe, step, after, alone}
+use Rattle.network.specs.Network.{Network, empty_network, send, change_state, change_stations, change_where_served, lose, keep_or_lose, deliver, deliver_by, answer_wired, drop_units, send_unit, send_each, put_on_wire, relay, forward, forward_by, age_units, set_power_mode, serve_poll, answer_poll, beacon_frame, release, tick, authentication_status, answer_authentication, association_status, answer_association, serve, notify_or_serve, announced_at, asks_for, answer, answer_probe, step, after, alone}
 use Rattle.network.specs.Sizes.{FitsFrame, AreFitting, IsWithinSizes}
 
 -- ---- lists of which each is so
@@ -59,11 +60,8 @@ all-push P (y ∷ ys) x h p = (h.0, all-push P ys x h.1 p)
 
 pub those-fit : (p : Entry → Bool) (es : List Entry) → AreFitting es → AreFitting (filter p es)
 those-fit p [] h = tt
-those-fit p (e ∷ es) h = by (p e) (those-fit p es h.1)
-  where
-    by : (b : Bool) → AreFitting (filter p es) → AreFitting (cond b (e ∷ filter p es) (filter p es))
-    by true rest = (h.0, rest)
-    by false rest = rest
+those-fit p (e ∷ es) h =
+    cond_both (p e) (e ∷ filter p es) (filter p es) AreFitting (λ _. (h.0, those-fit p es h.1)) (λ _. those-fit p es h.1)
 
 units-fit : (es : List Entry) → AreFitting es → AllByRecursion FitsFrame (map (λ e. e.1) es)
 units-fit [] h = tt
@@ -71,11 +69,8 @@ units-fit (e ∷ es) h = (h.0, units-fit es h.1)
 
 pub others-fit : (whom : Whom) (es : List Entry) → AreFitting es → AreFitting (without_oldest whom es)
 others-fit whom [] h = tt
-others-fit whom (e ∷ es) h = by (is_for whom e) (others-fit whom es h.1)
-  where
-    by : (b : Bool) → AreFitting (without_oldest whom es) → AreFitting (if b then es else e ∷ without_oldest whom es)
-    by true rest = h.1
-    by false rest = (h.0, rest)
+others-fit whom (e ∷ es) h =
+    cond_both (is_for whom e) es (e ∷ without_oldest whom es) AreFitting (λ _. h.1) (λ _. (h.0, others-fit whom es h.1))
 
 -- ---- the parts of frames
 
@@ -89,13 +84,8 @@ element-length (rate ∷ rates) = omega arith
 extended-length : (rates : List ℕ) → length rates ≤ 16 → length (extended_rates rates) ≤ 10
 extended-length rates few = omega (arith, element-length (drop 8 rates), length-drop 8 rates)
 
-take-length : (n : ℕ) (xs : List ℕ) → length (take n xs) ≤ n
-take-length zero xs = omega arith
-take-length (suc n) [] = omega arith
-take-length (suc n) (x ∷ xs) = omega (arith, take-length n xs)
-
 supported-length : (rates : List ℕ) → length (supported_rates rates) ≤ 10
-supported-length rates = omega (arith, take-length 8 rates)
+supported-length rates = omega (arith, length-take 8 rates)
 
 fixed-length : (a : Announced) → length (fixed_fields a) ≡ 12
 unfolding fixed_fields timestamp
@@ -141,14 +131,10 @@ count-below : (clock period : ℕ) → 1 ≤ period → dtim_count clock period 
 unfolding dtim_count
 count-below clock period some = omega arith
 
-at-dtim : (group : Bool) (count : ℕ) → traffic_indicator count group ≡ true → count ≡ 0
-at-dtim true count is = eqb-true count 0 is
-at-dtim false count is = absurd (cc)
-
 tim-length : HasTims → (clock period : ℕ) (group : Bool) (members : ℕ → Bool) → 1 ≤ period → period ≤ 255 → length (beacon_tim clock period group members) ≤ 256
 tim-length shows clock period group members some few =
     let count = dtim_count clock period in
-    let t = shows count period (traffic_indicator count group) members (count-below clock period some) (omega arith) (at-dtim group count) in
+    let t = shows count period (traffic_indicator count group) members (count-below clock period some) (omega arith) (λ is. eqb-true count 0 (and_parts group (count == 0) is).1) in
     omega (arith, ap length t.string, t.within)
 
 beacon-length : HasTims → (a : Announced) (sequence period : ℕ) (group : Bool) (members : ℕ → Bool) → length a.bss ≤ 6 → length a.ssid ≤ 32 → length a.rates ≤ 16 → 1 ≤ period → period ≤ 255 → length (beacon a sequence period group members) ≤ 2328
@@ -169,22 +155,12 @@ IsShortWired None = Unit {0}
 wired-length : (to source body : List ℕ) → length to ≤ 6 → length source ≤ 6 → length body ≤ 2304 → IsShortWired (on_wire to source body)
 wired-length to source body lt ls lb = by (names_type body) (is_length (length body)) refl
   where
-    parts : ℕ × List ℕ → List ℕ
-    parts p = to ++ source ++ to_be_bytes w16 p.0 ++ p.1
-
     whole : (n : ℕ) (rest : List ℕ) → length rest ≤ 2296 → length (to ++ source ++ to_be_bytes w16 n ++ rest) ≤ 2310
     whole n rest short = simp length-append (omega arith)
 
-    at-most : (n : ℕ) → is_length n ≡ true → n ≤ 1500
-    at-most n is = second (nat_le 3 n) is
-      where
-        second : (b : Bool) → (b && nat_le n 1500) ≡ true → n ≤ 1500
-        second true h = leb-true n 1500 h
-        second false h = absurd (cc)
-
     by : (b c : Bool) → is_length (length body) ≡ c → IsShortWired (option_map (λ (p : ℕ × List ℕ). to ++ source ++ to_be_bytes w16 p.0 ++ p.1) (if b then Some (type_of body, drop 8 body) else if c then Some (length body, body) else None))
     by true c is = whole (type_of body) (drop 8 body) (omega (arith, length-drop 8 body))
-    by false true is = whole (length body) body (omega (arith, at-most (length body) is))
+    by false true is = whole (length body) body (omega (arith, leb-true (length body) 1500 (and_parts (nat_le 3 (length body)) _ is).1))
     by false false is = tt
 
 kind-fits : (at : ℕ) (kind : Kind) (y to source payload : List ℕ) → IsOfKind kind y to source payload → FitsFrame (unit at to source (body_of kind payload))
@@ -209,14 +185,8 @@ ethernet-fits at y w h = kind-fits at w.kind y w.to w.source w.payload h
 -- ---- requests
 
 abbrev pub UnitFits : Request → Type 0
-UnitFits (Probe from ssid) = Unit {0}
-UnitFits (Auth from algorithm step) = Unit {0}
-UnitFits (Assoc from again listen elements) = Unit {0}
-UnitFits (Disassoc from) = Unit {0}
-UnitFits (Deauth from) = Unit {0}
 UnitFits (Msdu from doze to body) = (length to ≤ 6) × (length body ≤ 2304)
-UnitFits (Null from doze) = Unit {0}
-UnitFits (Poll from aid) = Unit {0}
+UnitFits other = Unit {0}
 
 pub record IsShort (r : Request) : Type 0 where
   pub from : length (sender r) ≤ 6
@@ -285,21 +255,9 @@ not-group : (b : Bool) (others : Option ℕ) → (if b then Some 8 else others) 
 not-group true others h = absurd (cc)
 not-group false others h = h
 
-first-of : (a b : Bool) → (a && b) ≡ true → (a ≡ true) × (b ≡ true)
-first-of true b h = (refl, h)
-first-of false b h = absurd (cc)
-
-first-of_3 : (a b c : Bool) → (a && b && c) ≡ true → a ≡ true
-first-of_3 true b c h = refl
-first-of_3 false b c h = absurd (cc)
-
-first-of_5 : (a b c d e : Bool) → (a && b && c && d && e) ≡ true → a ≡ true
-first-of_5 true b c d e h = refl
-first-of_5 false b c d e h = absurd (cc)
-
 between : (low high n : ℕ) → is_between low high n ≡ true → (low ≤ n) × (n ≤ high)
 between low high n h =
-    let both = first-of (nat_le low n) (nat_le n high) h in
+    let both = and_parts (nat_le low n) (nat_le n high) h in
     (leb-true low n both.0, leb-true n high both.1)
 
 fitting : (s : Setting) → length s.network.bssid ≡ 6 → network_fault s.network ≡ None → IsFitting s
@@ -310,8 +268,8 @@ fitting s six checked =
     let rates = passed-test (rates_fit n.rates) 10 _ ssid.1 in
     let numbers = passed-test (numbers_fit n) 11 _ rates.1 in
     let ssid_len = between 1 32 (length n.ssid) ssid.0 in
-    let rates_len = between 1 16 (length n.rates) (first-of_3 (is_between 1 16 (length n.rates)) _ _ rates.0) in
-    let dtim = between 1 255 n.dtim (first-of_5 (is_between 1 255 n.dtim) _ _ _ _ numbers.0) in
+    let rates_len = between 1 16 (length n.rates) (and_parts (is_between 1 16 (length n.rates)) _ (and_parts _ _ rates.0).0).0 in
+    let dtim = between 1 255 n.dtim (and_parts (is_between 1 255 n.dtim) _ (and_parts _ _ (and_parts _ _ (and_parts _ _ numbers.0).0).0).0).0 in
     record {
       bss = omega (arith, six);
       ssid = ssid_len.1;
@@ -329,11 +287,8 @@ state-within : (addr : List ℕ) (change : Table → Table) (n : Network) → Is
 state-within addr change n h = record { kept = those-fit _ n.kept h.kept; air = h.air; wire = h.wire }
 
 served-within : (status : ℕ) (addr : List ℕ) (change : Table → Table) (n : Network) → IsWithinSizes n → IsWithinSizes (change_where_served status addr change n)
-served-within status addr change n h = by (status == success)
-  where
-    by : (b : Bool) → IsWithinSizes (if b then change_state addr change n else n)
-    by true = state-within addr change n h
-    by false = h
+served-within status addr change n h =
+    cond_both (status == success) (change_state addr change n) n IsWithinSizes (λ _. state-within addr change n h) (λ _. h)
 
 wire-within : (wired : Option (List ℕ)) (n : Network) → IsShortWired wired → IsWithinSizes n → IsWithinSizes (put_on_wire wired n)
 wire-within (Some octets) n short h = record { kept = h.kept; air = h.air; wire = all-push _ n.wire octets h.wire short }
@@ -341,11 +296,10 @@ wire-within None n short h = record { kept = h.kept; air = h.air; wire = h.wire 
 
 module _ (s : Setting) (fits : IsFitting s) where
   keep-within : (whom : Whom) (u : DataUnit) (n : Network) → FitsFrame u → IsWithinSizes n → IsWithinSizes (keep_or_lose s whom u n)
-  keep-within whom u n short h = by (nat_lt (length n.kept) s.network.quota)
-    where
-      by : (b : Bool) → IsWithinSizes (if b then record n { kept = n.kept ++ (whom, u) ∷ [] } else lose n)
-      by true = record { kept = all-push _ n.kept (whom, u) h.kept short; air = h.air; wire = h.wire }
-      by false = record { kept = h.kept; air = h.air; wire = h.wire }
+  keep-within whom u n short h =
+      cond_both (nat_lt (length n.kept) s.network.quota) (record n { kept = n.kept ++ (whom, u) ∷ [] }) (lose n) IsWithinSizes
+      (λ _. record { kept = all-push _ n.kept (whom, u) h.kept short; air = h.air; wire = h.wire })
+      (λ _. record { kept = h.kept; air = h.air; wire = h.wire })
 
   unit-within : (more : Bool) (u : DataUnit) (n : Network) → FitsFrame u → IsWithinSizes n → IsWithinSizes (send_unit s more u n)
   unit-within more u n short h =
@@ -365,30 +319,23 @@ module _ (s : Setting) (fits : IsFitting s) where
       by Nowhere = h
 
   relay-within : (u : DataUnit) (n : Network) → FitsFrame u → IsWithinSizes n → IsWithinSizes (relay s u n)
-  relay-within u n short h = by s.network.relay
-    where
-      by : (b : Bool) → IsWithinSizes (if b then deliver s u n else n)
-      by true = deliver-within u n short h
-      by false = h
+  relay-within u n short h =
+      cond_both s.network.relay (deliver s u n) n IsWithinSizes (λ _. deliver-within u n short h) (λ _. h)
 
   forward-within : (u : DataUnit) (n : Network) → FitsFrame u → IsWithinSizes n → IsWithinSizes (forward s u n)
-  forward-within u n short h = by (goes_on_wire s.network.relay u.to n.stations)
+  forward-within u n short h = by (goes_on_wire s.network.relay u.to n.stations) (relay-within u n short h)
     where
-      by : (b : Bool) → IsWithinSizes (forward_by b s u n)
-      by true =
-          wire-within (on_wire u.to u.source u.body) (relay s u n) (wired-length u.to u.source u.body short.to short.source short.body)
-          (relay-within u n short h)
-      by false = relay-within u n short h
+      by : (b : Bool) → IsWithinSizes (relay s u n) → IsWithinSizes (forward_by b s u n)
+      by true relayed = wire-within (on_wire u.to u.source u.body) (relay s u n) (wired-length u.to u.source u.body short.to short.source short.body) relayed
+      by false relayed = relayed
 
   mode-within : (from : List ℕ) (doze : Bool) (n : Network) → IsWithinSizes n → IsWithinSizes (set_power_mode s from doze n)
-  mode-within from doze n h = by (is_dozing from n.stations && not doze)
-    where
-      by : (b : Bool) → IsWithinSizes (if b then send_each s false (units_for (One from) n.kept) (change_state from (set_mode from doze) n) else record n { stations = set_mode from doze n.stations })
-      by true =
-          each-within false (units_for (One from) n.kept) (change_state from (set_mode from doze) n)
-          (units-fit (filter (is_for (One from)) n.kept) (those-fit (is_for (One from)) n.kept h.kept))
-          (state-within from (set_mode from doze) n h)
-      by false = record { kept = h.kept; air = h.air; wire = h.wire }
+  mode-within from doze n h =
+      cond_both (is_dozing from n.stations && not doze) _ (change_stations (set_mode from doze) n) IsWithinSizes
+      (λ _. each-within false (units_for (One from) n.kept) (change_state from (set_mode from doze) n)
+      (units-fit (filter (is_for (One from)) n.kept) (those-fit (is_for (One from)) n.kept h.kept))
+      (state-within from (set_mode from doze) n h))
+      (λ _. record { kept = h.kept; air = h.air; wire = h.wire })
 
   served-poll : (from : List ℕ) (us : List DataUnit) (n : Network) → AllByRecursion FitsFrame us → IsWithinSizes n → IsWithinSizes (serve_poll s from us n)
   served-poll from [] n short h = h
@@ -397,22 +344,19 @@ module _ (s : Setting) (fits : IsFitting s) where
       (record { kept = others-fit (One from) n.kept h.kept; air = h.air; wire = h.wire })
 
   poll-within : (from : List ℕ) (aid : ℕ) (n : Network) → IsWithinSizes n → IsWithinSizes (answer_poll s from aid n)
-  poll-within from aid n h = by (may_poll aid (state_of from n.stations))
-    where
-      by : (b : Bool) → IsWithinSizes (if b then serve_poll s from (units_for (One from) n.kept) n else n)
-      by true =
-          served-poll from (units_for (One from) n.kept) n
-          (units-fit (filter (is_for (One from)) n.kept) (those-fit (is_for (One from)) n.kept h.kept)) h
-      by false = h
+  poll-within from aid n h =
+      cond_both (may_poll aid (state_of from n.stations)) _ n IsWithinSizes
+      (λ _. served-poll from (units_for (One from) n.kept) n
+      (units-fit (filter (is_for (One from)) n.kept) (those-fit (is_for (One from)) n.kept h.kept)) h)
+      (λ _. h)
 
   -- ---- answers
 
   probe-within : (from : List ℕ) (ssid : Option (List ℕ)) (n : Network) → length from ≤ 6 → IsWithinSizes n → IsWithinSizes (answer_probe s from ssid n)
-  probe-within from ssid n short h = by (asks_for s.network.ssid ssid)
-    where
-      by : (b : Bool) → IsWithinSizes (if b then send (probe_response (announced_at s n.clock) from) n else n)
-      by true = send-within (probe_response (announced_at s n.clock) from) n (probe-length (announced_at s n.clock) from n.sequence short fits.bss fits.ssid fits.rates) h
-      by false = h
+  probe-within from ssid n short h =
+      cond_both (asks_for s.network.ssid ssid) _ n IsWithinSizes
+      (λ _. send-within (probe_response (announced_at s n.clock) from) n (probe-length (announced_at s n.clock) from n.sequence short fits.bss fits.ssid fits.rates) h)
+      (λ _. h)
 
   authentication-within : (from : List ℕ) (algorithm step : ℕ) (n : Network) → length from ≤ 6 → IsWithinSizes n → IsWithinSizes (answer_authentication s from algorithm step n)
   authentication-within from algorithm step n short h =
@@ -463,14 +407,12 @@ module _ (s : Setting) (fits : IsFitting s) where
   -- ---- beacons
 
   release-within : (n : Network) → IsWithinSizes n → IsWithinSizes (release s n)
-  release-within n h = by (dtim_count n.clock s.network.dtim == 0)
-    where
-      by : (b : Bool) → IsWithinSizes (if b then send_each s true (units_for Group n.kept) (drop_units Group n) else n)
-      by true =
-          each-within true (units_for Group n.kept) (drop_units Group n)
-          (units-fit (filter (is_for Group) n.kept) (those-fit (is_for Group) n.kept h.kept))
-          (record { kept = those-fit _ n.kept h.kept; air = h.air; wire = h.wire })
-      by false = h
+  release-within n h =
+      cond_both (dtim_count n.clock s.network.dtim == 0) _ n IsWithinSizes
+      (λ _. each-within true (units_for Group n.kept) (drop_units Group n)
+      (units-fit (filter (is_for Group) n.kept) (those-fit (is_for Group) n.kept h.kept))
+      (record { kept = those-fit _ n.kept h.kept; air = h.air; wire = h.wire }))
+      (λ _. h)
 
   tick-within : HasTims → (n : Network) → IsWithinSizes n → IsWithinSizes (tick s n)
   tick-within tims n h =

@@ -15,7 +15,7 @@ use Rattle.powersave.specs.declared.unit.Whom.TheVariants.{One}
 use Rattle.events.specs.declared.event.Event.TheVariants.{Tick}
 use Rattle.network.specs.declared.reply.Reply.{Reply}
 use Rattle.network.proofs.Aging.{before-none, before-tick}
-use Rattle.network.proofs.AloneLaws.{alone-none, alone-push, frames-sound, more-sound}
+use Rattle.network.proofs.AloneLaws.{StaysSound, alone-none, alone-push, frames-sound, more-sound}
 use Rattle.network.proofs.SentFrames.{step-unsent}
 use Rattle.network.proofs.UnitDelivery.{poll-clock}
 
@@ -31,10 +31,6 @@ history-none s h = record {
 -- what holds of every network that can be reached
 abbrev pub AreSoundAlone : Type 0
 AreSoundAlone = (s : Setting) (es : List Event) → network_fault s.network ≡ None → IsSoundNetwork s (length es) (2 * length es) (alone s es)
-
--- and so after one event more
-abbrev pub StaysSound : Type 0
-StaysSound = (s : Setting) (events units : ℕ) (n : Network) (e : Event) → network_fault s.network ≡ None → IsSoundNetwork s events units n → IsSoundNetwork s (events + 1) (units + 2) (step s n e)
 
 pub history-sound : AreSoundAlone → (es : List Event) (n : NetworkState) (wired : List (List ℕ)) → IsAfterHistory es n wired → IsSoundNetwork n.setting (length es) (2 * length es) n.network
 history-sound sound es n wired h =

@@ -1,13 +1,12 @@
 -- How a reply goes on: a frame is sent, a unit is delivered.
-use Rattle.std.proofs.Common.{◌≡◌, ℕ, zero, suc, ◌+◌, ◌<◌, Bool, true, false, not, ◌||◌, ◌&&◌, List, [], ◌∷◌, ◌++◌, length, drop, slice_get, Option, Some, None, option_map, option_to_list, refl, sym, ap, subst, ◌∙◌, arith, rules}
-use Rattle.std.specs.Prelude.{nat_lt, if◌then◌else◌}
+use Rattle.std.proofs.Common.{◌≡◌, ℕ, zero, suc, ◌+◌, ◌<◌, Bool, true, false, not, ◌||◌, ◌&&◌, List, [], ◌∷◌, ◌++◌, length, drop, slice_get, Option, Some, None, option_map, option_to_list, refl, sym, ap, subst, ◌∙◌, arith, inl, inr, ⊎_elim, rules}
+use Rattle.std.specs.Prelude.{◌⊎◌, nat_lt, if◌then◌else◌}
 use Rattle.std.specs.Str.{bytes_eq}
-use Rattle.std.proofs.lemmas.Bool.{both_ways, lt-ltb, le-ltb}
+use Rattle.std.proofs.lemmas.Bool.{both_ways, cond_both, false_from_ne_true, lt-ltb, le-ltb, ltb-true, ltb-false}
 use Rattle.std.proofs.lemmas.List.{append-nil, append_assoc, drop_more}
 use Rattle.std.proofs.lemmas.Option.{slice_get_within, get_or_from_slice_get}
 use Rattle.std.proofs.lemmas.Slice.Eq.{bytes_eq-Decides}
-use borrow.Author.Tests.{ltb-true, ltb-false}
-use Rattle.std.proofs.Math.Bool.{beq}
+use Rattle.std.proofs.Math.Bool.{beq, and-not_self}
 use Rattle.mac_frame.specs.Address.{is_group}
 use Rattle.powersave.specs.Keep.{Entry, units_for, without_all}
 use Rattle.powersave.specs.declared.unit.Whom.{Whom}
@@ -18,12 +17,12 @@ use Rattle.network.specs.Network.{Network, send, send_unit, send_each, change_st
 use Rattle.network.specs.Replies.{after_reply, no_reply, sending, serving, Served, unit_taken, after_answer, IsAwake, IsFitting}
 use Rattle.roster.specs.Keeping.{without, entry_of, aid_at, aid_for, is_leaving}
 use Rattle.roster.specs.KeptUnits.{IsKeptFor, group_is_kept}
-use Rattle.stations.specs.Stations.{Table, state_of, is_dozing, set_mode, some_station_dozes, changed, IsModeAlone}
+use Rattle.stations.specs.Stations.{Table, state_of, dozes_with, is_dozing, set_mode, some_station_dozes, changed, IsModeAlone}
 use Rattle.stations.specs.declared.table.Change.{Change}
 use Rattle.stations.specs.declared.table.Change.TheVariants as changes
 use Rattle.station_state.specs.declared.state.StationState.{StationState}
 use Rattle.station_state.specs.declared.state.StationState.TheVariants.{Authenticated, Associated}
-use Rattle.network.specs.Units.{may_poll, others_follow, delivery_of, delivery_with, unit_frame}
+use Rattle.network.specs.Units.{may_poll, others_follow, group_waits, delivery_of, delivery_with, unit_frame}
 use Rattle.roster.specs.declared.keeping.Arriving.{Arriving}
 use Rattle.roster.specs.declared.keeping.Leaving.{Leaving}
 use Rattle.roster.specs.declared.keeping.Leaving.TheVariants as leavings
@@ -50,14 +49,10 @@ same-truth true false h = absurd (both_ways false refl h)
 same-truth false true h = absurd (both_ways false refl h)
 same-truth false false h = refl
 
-never_both : (b : Bool) → (b && not b) ≡ false
-never_both true = refl
-never_both false = refl
-
 -- a mode that stays
 pub mode-kept : ModesAlone → (s : Setting) (from : List ℕ) (doze : Bool) (n : Network) → is_dozing from n.stations ≡ doze → set_power_mode s from doze n ≡ n
 mode-kept modes s from doze n is =
-    let stays : (is_dozing from n.stations && not doze) ≡ false = ap (λ (b : Bool). b && not doze) is ∙ never_both doze in
+    let stays : (is_dozing from n.stations && not doze) ≡ false = ap (λ (b : Bool). b && not doze) is ∙ and-not_self doze in
     rw stays (ap (λ (t : Table). record n { stations = t }) (modes.same from doze n.stations is))
 
 -- ---- where a unit goes
@@ -66,14 +61,10 @@ mode-kept modes s from doze n is =
 pub left-apart : (leaving : Leaving) (t : Table) (whom : Whom) → IsAwake leaving t → IsKeptFor t whom → is_leaving leaving whom ≡ false
 left-apart leavings.Nothing t whom awake for = refl
 left-apart (leavings.All (One a)) t Group awake for = refl
-left-apart (leavings.All (One a)) t (One b) awake for = by (bytes_eq b a) refl
-  where
-    by : (r : Bool) → bytes_eq b a ≡ r → bytes_eq b a ≡ false
-    by false is = is
-    by true is =
-        let same : b ≡ a = (bytes_eq-Decides b a).0 is in
-        let dozes : is_dozing a t ≡ true = ap (λ k. is_dozing k t) (sym same) ∙ for in
-        absurd (both_ways (is_dozing a t) awake dozes)
+left-apart (leavings.All (One a)) t (One b) awake for =
+    false_from_ne_true (bytes_eq b a) (λ is.
+    let same : b ≡ a = (bytes_eq-Decides b a).0 is in
+    both_ways (is_dozing a t) awake (ap (λ k. is_dozing k t) (sym same) ∙ for))
 left-apart (leavings.All Group) t whom awake for = absurd awake
 
 -- the units of a station that leave are nothing to where another goes
@@ -94,23 +85,27 @@ pub delivered : GroupStays → (s : Setting) (u : DataUnit) (r : Reply) (n : Net
 delivered group s u r n d awake none is =
     ap (λ (e : Delivery). deliver_by e s u (after_reply r n)) (delivery-after group r n u.to awake none ∙ sym is)
 
+-- it is kept for the group, or for the one that it goes to, who dozes
+abbrev IsKeptSo : List ℕ → Option StationState → Whom → Delivery → Type 0
+IsKeptSo to state whom goes = goes ≡ Kept whom → (Group ≡ whom) ⊎ ((One to ≡ whom) × (dozes_with state ≡ true))
+
+one-kept : (to : List ℕ) (state : Option StationState) (whom : Whom) → IsKeptSo to state whom (delivery_with state to)
+one-kept to None whom e = absurd (cc)
+one-kept to (Some Authenticated) whom e = absurd (cc)
+one-kept to (Some (Associated aid listen true)) whom e = inr (cc, refl)
+one-kept to (Some (Associated aid listen false)) whom e = absurd (cc)
+
+pub kept-for : (to : List ℕ) (t : Table) (kept : List Entry) (whom : Whom) → IsKeptSo to (state_of to t) whom (delivery_of to t kept)
+kept-for to t kept whom =
+    cond_both (is_group to) _ _ (IsKeptSo to (state_of to t) whom)
+    (λ _. cond_both (group_waits t kept) (Kept Group) Now (IsKeptSo to (state_of to t) whom) (λ _ e. inl (cc)) (λ _ e. absurd (cc)))
+    (λ _. one-kept to (state_of to t) whom)
+
 -- the identifier of the state that a kept unit goes by is that of its station
 identifier-of_kept : (to : List ℕ) (t : Table) (kept : List Entry) (whom : Whom) → delivery_of to t kept ≡ Kept whom → aid_at whom (state_of to t) ≡ aid_for whom t
-identifier-of_kept to t kept whom h = by (is_group to) refl
-  where
-    to_group : (b : Bool) → (if b then Kept Group else Now) ≡ Kept whom → aid_at whom (state_of to t) ≡ aid_for whom t
-    to_group true e = let is : Group ≡ whom = cc in subst (λ w. aid_at w (state_of to t) ≡ aid_for w t) is refl
-    to_group false e = absurd (cc)
-
-    to_one : (l : Option StationState) → delivery_with l to ≡ Kept whom → aid_at whom (state_of to t) ≡ aid_for whom t
-    to_one None e = absurd (cc)
-    to_one (Some Authenticated) e = absurd (cc)
-    to_one (Some (Associated aid listen true)) e = let one : One to ≡ whom = cc in subst (λ w. aid_at w (state_of to t) ≡ aid_for w t) one refl
-    to_one (Some (Associated aid listen false)) e = absurd (cc)
-
-    by : (b : Bool) → is_group to ≡ b → aid_at whom (state_of to t) ≡ aid_for whom t
-    by true is = to_group (some_station_dozes t || group_is_kept kept) (sym (rw is refl) ∙ h)
-    by false is = to_one (state_of to t) (sym (rw is refl) ∙ h)
+identifier-of_kept to t kept whom h =
+    let P : Whom → Type 0 = λ w. aid_at w (state_of to t) ≡ aid_for w t in
+    ⊎_elim (λ e. subst P e refl) (λ e. subst P e.0 refl) (kept-for to t kept whom h)
 
 -- and so it was before a mode was set
 pub identifier-told : ModesKeepIdentifiers → (change : Change) (to : List ℕ) (t : Table) (kept : List Entry) (whom : Whom) (state : Option StationState) → IsModeAlone change → state ≡ state_of to (changed change t) → delivery_of to (changed change t) kept ≡ Kept whom → aid_at whom state ≡ aid_for whom t

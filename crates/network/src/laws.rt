@@ -23,6 +23,14 @@ pub fn reachable()
     ensures { (s : Setting) (es : List Event) → network_fault s.network ≡ None
         → IsSoundNetwork s (length es) (2 * length es) (alone s es) }
 {
+    stays_sound();
+}
+
+/// What holds of every network that can be reached holds after one event more.
+pub(crate) fn stays_sound()
+    ensures { (s : Setting) (events units : ℕ) (n : Network) (e : Event) → network_fault s.network ≡ None
+        → IsSoundNetwork s events units n → IsSoundNetwork s (events + 1) (units + 2) (step s n e) }
+{
     // no more stations may associate than there are identifiers
     checked_numbers();
     // what a change of one station leaves as it was
@@ -35,23 +43,6 @@ pub fn reachable()
     came_in_turn();
     kept_counts();
     // what is read is of the lengths that its relation says
-    one_frame();
-    one_ethernet_frame();
-}
-
-/// What holds of every network that can be reached holds after one event more.
-pub(crate) fn stays_sound()
-    ensures { (s : Setting) (events units : ℕ) (n : Network) (e : Event) → network_fault s.network ≡ None
-        → IsSoundNetwork s events units n → IsSoundNetwork s (events + 1) (units + 2) (step s n e) }
-{
-    checked_numbers();
-    others_stay();
-    modes_alone();
-    changes_stay_sound();
-    lengths_after();
-    kept_for_dozing();
-    came_in_turn();
-    kept_counts();
     one_frame();
     one_ethernet_frame();
 }

@@ -1,6 +1,6 @@
-use Rattle.std.proofs.Common.{◌≡◌, ℕ, ◌+◌, ◌*◌, ◌&&◌, Bool, true, false, not, [], length, Option, Some, None, refl, sym, ap, subst, ◌∙◌, arith}
+use Rattle.std.proofs.Common.{◌≡◌, ℕ, ◌+◌, ◌*◌, ◌&&◌, Bool, not, [], length, Option, Some, None, inl, inr, refl, sym, ap, subst, ◌∙◌, arith}
 use Rattle.std.specs.Prelude.{filter, nat_lt}
-use Rattle.std.proofs.lemmas.Bool.{ltb-true, ltb-false}
+use Rattle.std.proofs.lemmas.Bool.{cases_lt}
 use Rattle.std.proofs.lemmas.Option.{none-some}
 use Rattle.ap_config.specs.declared.setting.Setting.{Setting}
 use Rattle.network.specs.Network.{Network}
@@ -18,11 +18,10 @@ use Rattle.network.proofs.network.Network.carry_out.Goals as goal
 
 -- where a unit comes, no beacon interval begins
 not-begun : (r : Reply) (a : Arriving) → IsStill r → r.keeping.arriving ≡ Some a → r.clock ≡ 0
-not-begun r a still comes = by (nat_lt 0 r.clock) refl
-  where
-    by : (b : Bool) → nat_lt 0 r.clock ≡ b → r.clock ≡ 0
-    by true begins = absurd (none-some a (sym (still (ltb-true 0 r.clock begins)).1 ∙ comes))
-    by false none = let most = ltb-false 0 r.clock none in omega (arith, most)
+not-begun r a still comes = elim (cases_lt 0 r.clock) [
+  | inl begins ↦ absurd (none-some a (sym (still begins).1 ∙ comes))
+  | inr none ↦ omega (arith, none)
+]
 
 -- one that comes after units aged comes while none did
 within-now : (quota : ℕ) (s : Setting) (r : Reply) (n : Network) → IsStill r → IsWithin quota r.change r.keeping.leaving (before_outcome s (Replied r) n).stations (before_outcome s (Replied r) n).kept r.keeping.arriving

@@ -1,4 +1,5 @@
-use Rattle.std.proofs.Common.{◌∙◌, List, ℕ, false, Result, Ok, Err, OnOk, sym, ap}
+use Rattle.std.proofs.Common.{◌∙◌, List, ℕ, false, sym, ap}
+use Rattle.std.proofs.lemmas.Result.{on_ok_weaker}
 use Rattle.network.specs.declared.reply.unit.Delivery.TheVariants.{Now, Kept}
 use Rattle.network.specs.Arrivals.{unit_shown}
 use Rattle.ap_config.specs.declared.setting.Setting.{Setting}
@@ -9,11 +10,6 @@ use Rattle.network.specs.declared.reply.Reply.{Reply}
 use Rattle.network.proofs.AloneLaws.{delivery-for}
 use Rattle.network.proofs.UnitDelivery.{after-sent, left-apart, delivered, identifier-told}
 use Rattle.network.proofs.network.Network.deliver.Goals as goal
-
--- where a call ends well, what follows from its clause
-where-ok : {A E P Q : Type 0} (result : Result A E) → (P → Q) → OnOk result P → OnOk result Q
-where-ok (Ok value) follows clause = follows clause
-where-ok (Err fault) follows clause = tt
 
 pub keep_or_lose-requires-clause-apart : goal.keep_or_lose-requires-clause-apart
 keep_or_lose-requires-clause-apart c =
@@ -29,7 +25,7 @@ returns-in-Now-clause-ok c =
     let r : Reply = c.args.reply.now in
     let u = unit_shown c.args.unit.now in
     let sent : (bss : List ℕ) → Reply = λ bss. sending r (unit_frame bss false u) in
-    where-ok c.send_unit.result
+    on_ok_weaker c.send_unit.result
     (λ is. delivered c.group_stays.ensures s u r n Now c.requires.mode.awake c.requires.mode.none_arrives (sym c.in-Now.is ∙ c.delivery_of.ensures)
     ∙ after-sent r n (unit_frame s.network.bssid false u)
     ∙ ap (λ (t : Setting). after_reply (sent t.network.bssid) n) (sym c.setting.ensures.setting)
@@ -41,7 +37,7 @@ returns-in-Kept-clause-ok c =
     let s : Setting = c.args.self.now.setting in
     let n = c.args.self.now.network in
     let r : Reply = c.args.reply.now in
-    where-ok c.keep_or_lose.result
+    on_ok_weaker c.keep_or_lose.result
     (λ is. delivered c.group_stays.ensures s (unit_shown c.args.unit.now) r n (Kept c.in-Kept.whom) c.requires.mode.awake c.requires.mode.none_arrives (sym c.in-Kept.is ∙ c.delivery_of.ensures) ∙ is)
     c.keep_or_lose.ensures.ok
 
