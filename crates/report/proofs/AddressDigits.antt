@@ -1,6 +1,7 @@
 -- The text of an address, from the digits of its octets.
 use Rattle.std.proofs.Common.{◌≡◌, ℕ, ◌/◌, ◌%◌, ◌<◌, false, List, [], ◌∷◌, slice_index, refl, sym, ap, ◌∙◌, arith}
-use Rattle.std.proofs.Common.{below_none, below_more}
+use Rattle.std.proofs.Common.{eqb, true}
+use Rattle.std.proofs.lemmas.Bool.{agree_below_at, eqb-true}
 use Rattle.std.specs.Fmt.{digit_glyph}
 use Rattle.hex.specs.Hex.{encode_lower, encode_with, lower_digits}
 use Rattle.mac_frame.specs.Address.{IsAddress, address_text}
@@ -11,23 +12,8 @@ abbrev IsDigit : ℕ → Type 0
 IsDigit d = slice_index lower_digits d ≡ digit_glyph false d
 
 is_digit : (d : ℕ) → d < 16 → IsDigit d
-is_digit =
-    let k1 = below_more IsDigit 0 (below_none IsDigit) refl in
-    let k2 = below_more IsDigit 1 k1 refl in
-    let k3 = below_more IsDigit 2 k2 refl in
-    let k4 = below_more IsDigit 3 k3 refl in
-    let k5 = below_more IsDigit 4 k4 refl in
-    let k6 = below_more IsDigit 5 k5 refl in
-    let k7 = below_more IsDigit 6 k6 refl in
-    let k8 = below_more IsDigit 7 k7 refl in
-    let k9 = below_more IsDigit 8 k8 refl in
-    let k10 = below_more IsDigit 9 k9 refl in
-    let k11 = below_more IsDigit 10 k10 refl in
-    let k12 = below_more IsDigit 11 k11 refl in
-    let k13 = below_more IsDigit 12 k12 refl in
-    let k14 = below_more IsDigit 13 k13 refl in
-    let k15 = below_more IsDigit 14 k14 refl in
-    below_more IsDigit 15 k15 refl
+is_digit d lt =
+    eqb-true _ _ (agree_below_at (λ k. eqb (slice_index lower_digits k) (digit_glyph false k)) (λ _. true) 16 d refl lt)
 
 -- the digits of six octets, and `:` between the pairs
 abbrev pub parted : List ℕ → List ℕ
