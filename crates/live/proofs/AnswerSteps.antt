@@ -23,7 +23,7 @@ use Rattle.live.specs.Written.{written_answer}
 use Rattle.live.specs.declared.reading.Reading.{Reading}
 use Rattle.live.specs.declared.reading.Reading.TheVariants as reading
 use Rattle.live.specs.declared.face.Face.{Face}
-use Rattle.live.proofs.MoreWritten.{texts-join}
+use Rattle.live.proofs.MoreWritten.{answers-join, texts-join}
 
 -- ---- one after the other
 
@@ -35,10 +35,7 @@ pub answered-one : {W : Type 0} (taken : W → Option (List ℕ)) (failed : W �
 answered-one taken failed face m next said asked answer old new is may after puts = record {
   answers = answer ∷ [];
   answered =
-      subst
-      (λ (a : Asked). MayAnswer m a answer × Answers (after_answer m a answer) [] [] next)
-      (sym is)
-      (may, after);
+      rw is (may, after);
   puts = Puts-same (sym (append-nil (written_answer face (bssids_at m) (m.lines + 1) answer))) puts;
 }
 
@@ -55,15 +52,7 @@ pub answered-then : MoreAnswers → {W : Type 0} (taken : W → Option (List ℕ
 answered-then laws taken failed face m between next said more old mid new a b = record {
   answers = a.answers ++ b.answers;
   answered =
-      laws.join m said more (a.answers ++ b.answers) next
-      (record {
-        some = a.answers;
-        others = b.answers;
-        between = between;
-        all = refl;
-        first = a.answered;
-        later = b.answered;
-      });
+      answers-join laws m between next said more a.answers b.answers a.answered b.answered;
   puts = Puts-same (sym (texts-join laws face m between said a.answers b.answers a.answered)) (Puts-then a.puts b.puts);
 }
 
@@ -96,7 +85,7 @@ few-answer m asked answer few = few-more m.networks m.lines (m.lines + 1) (omega
 
 few-answers : (m : Moment) (said : List Asked) (answers : List Answer) (next : Moment)
     → Answers m said answers next → AreFew m.lines m.networks → AreFew next.lines next.networks
-few-answers m [] [] next h few = subst (λ (o : Moment). AreFew o.lines o.networks) (sym h) few
+few-answers m [] [] next h few = rw h few
 few-answers m [] (answer ∷ answers) next h few = absurd h
 few-answers m (asked ∷ said) [] next h few = absurd h
 few-answers m (asked ∷ said) (answer ∷ answers) next h few =

@@ -1,7 +1,6 @@
 -- An answer that is held back at a read leaves no result.
 use Rattle.std.specs.Prelude.{◌⊎◌}
-use Rattle.std.proofs.Common.{inl, inr, ◌≡◌, ℕ, ◌+◌, List, Option, Result, Ok, Err, subst, arith}
-use Rattle.std.specs.Io.KnownBytes.{Appends, Consumes}
+use Rattle.std.proofs.Common.{inl, inr, ◌≡◌, ◌+◌, Result, Ok, Err, arith}
 use Rattle.live.specs.BeforeReads.{FailsAtRead, HasAnswered, RunStreams}
 use Rattle.live.specs.Run.{Setup, WritesEnded}
 use Rattle.live.specs.declared.fault.LiveFault.{LiveFault}
@@ -10,14 +9,10 @@ use Rattle.live.specs.declared.fault.LiveFault.TheVariants.{Config, NoMemory, Re
 -- no answer but `Read` counts a failed read, and `Read` counts no failed write
 pub has-answered : (s : Setup) (result : Result Unit LiveFault) (run : RunStreams)
     → FailsAtRead s result run → HasAnswered s run.old run.asked
-has-answered s (Ok u) run h =
-    let same : run.new.source.failed ≡ run.old.source.failed = h.runs.reads.failed in absurd (omega (arith, same, h.read))
-has-answered s (Err (Config fault)) run h =
-    let same : run.new.source.failed ≡ run.old.source.failed = h.runs.reads.failed in absurd (omega (arith, same, h.read))
-has-answered s (Err NoMemory) run h =
-    let same : run.new.source.failed ≡ run.old.source.failed = h.runs.reads.failed in absurd (omega (arith, same, h.read))
-has-answered s (Err Write) run h =
-    let same : run.new.source.failed ≡ run.old.source.failed = h.runs.reads.failed in absurd (omega (arith, same, h.read))
+has-answered s (Ok u) run h = absurd (omega (arith, h.runs.reads.failed, h.read))
+has-answered s (Err (Config fault)) run h = absurd (omega (arith, h.runs.reads.failed, h.read))
+has-answered s (Err NoMemory) run h = absurd (omega (arith, h.runs.reads.failed, h.read))
+has-answered s (Err Write) run h = absurd (omega (arith, h.runs.reads.failed, h.read))
 has-answered s (Err Read) run h = by h.write
   where
     by : (run.new.sink.failed ≡ run.asked.sink.failed + 1) ⊎ (run.new.sink.taken ≡ run.asked.sink.taken) → HasAnswered s run.old run.asked
@@ -28,10 +23,7 @@ has-answered s (Err Read) run h = by h.write
         record {
           input = h.runs.input;
           written = end.written;
-          taken =
-              subst
-              (λ (left : Option (List ℕ)). Consumes run.old.source.left left h.runs.input)
-              h.left h.runs.reads.taken;
+          taken = rw h.left at h.runs.reads.taken;
           ended = end.ended;
-          grown = subst (λ (taken : Option (List ℕ)). Appends run.old.sink.taken taken end.written) same end.grown;
+          grown = rw same at end.grown;
         }

@@ -1,6 +1,6 @@
 -- Lines that end in a piece, one after the other.
 use Rattle.std.proofs.Common.{◌≡◌, ℕ, ◌+◌, ◌-◌, ◌^◌, ◌<◌, ◌≤◌, Bool, true, false, List, [], ◌∷◌, ◌++◌, Option}
-use Rattle.std.proofs.Common.{refl, sym, ap, subst, ◌∙◌, arith, append-nil, append_assoc, take, length, length-append, length-take}
+use Rattle.std.proofs.Common.{refl, sym, ap, ◌∙◌, arith, append-nil, append_assoc, take, length, length-append, length-take}
 use Rattle.std.specs.Prelude.{nat_lt, ◌==◌, slice_index, if◌then◌else◌}
 use Rattle.std.specs.Str.Lines.{strip_carriage_return}
 use Rattle.std.proofs.lemmas.Bool.{ltb-true, lt-ltb}
@@ -88,15 +88,13 @@ feed-more laws taken failed m now next old mid new partial partial' partial'' pi
     let line : TextLine = ended_with partial' end in
     let count : next.lines ≡ now.lines + 1 = laws.lines now (asked_in now (line ∷ [])) a.answers next a.answered in
     let few : now.lines + length (ended end ++ later) ≤ m.lines + length piece = s.few in
-    subst (λ (p : TextLine). LinesRemain taken failed m next old new partial p piece later) (sym begins)
+    rw begins
     (record {
       lines = s.lines ++ line ∷ [];
       answered =
-          subst (λ (said : List Asked). AreAnswered (through Lines (watch taken failed) old new) m next said)
-          (sym (map-append (asked_by (bssids_at m)) s.lines (line ∷ [])))
+          rw (map-append (asked_by (bssids_at m)) s.lines (line ∷ []))
           (answered-then laws taken failed Lines m now next (asked_in m s.lines) (asked_in m (line ∷ [])) old mid new s.answered
-          (subst (λ (said : List Asked). AreAnswered (through Lines (watch taken failed) mid new) now next said)
-          (asked-later laws m now (asked_in m s.lines) s.answered.answers (line ∷ []) s.answered.answered) a));
+          (rw (asked-later laws m now (asked_in m s.lines) s.answered.answers (line ∷ []) s.answered.answered) at a));
       all =
           s.all
           ∙ ap (λ (ls : List TextLine). s.lines ++ ls) (first-line partial' end later begun lacks)
@@ -118,7 +116,7 @@ feed-all taken failed m now old new partial partial' partial'' piece rest s begu
     let few : now.lines + length rest ≤ m.lines + length piece = s.few in
     record {
       answered =
-          subst (λ (ls : List TextLine). AreAnswered (through Lines (watch taken failed) old new) m now (asked_in m ls)) (sym all) s.answered;
+          rw all s.answered;
       next = after ∙ sym s.next;
       few = omega (arith, few);
     }
@@ -129,9 +127,7 @@ pub piece-answered : {W : Type 0} (taken : W → Option (List ℕ)) (failed : W 
     → AnswersLines taken failed m now old new partial partial' piece
     → AnswersPiece (through (face_of before) (watch taken failed) old new) (reached m before) (reached now (Line partial')) piece
 piece-answered taken failed before m now old new partial partial' piece is a =
-    subst
-    (λ (p : PartialInput). AnswersPiece (through (face_of p) (watch taken failed) old new) (reached m p) (reached now (Line partial')) piece)
-    (sym is)
+    rw is
     (record {
       said = asked_in m (lines_in partial piece);
       is_said = (refl, ap (λ (p : TextLine). Line p) a.next);

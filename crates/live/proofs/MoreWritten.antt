@@ -1,5 +1,5 @@
 -- What is written of answers, and then of others.
-use Rattle.std.proofs.Common.{◌≡◌, ℕ, ◌+◌, List, [], ◌∷◌, ◌++◌, length, sym, ap, ◌∙◌, arith, append_assoc}
+use Rattle.std.proofs.Common.{◌≡◌, ℕ, ◌+◌, List, [], ◌∷◌, ◌++◌, length, refl, sym, ap, arith, append_assoc}
 use Rattle.live_rules.specs.Asked.{Asked}
 use Rattle.live_rules.specs.Moments.{Moment, bssids_at}
 use Rattle.live_rules.specs.Answers.{Answer, Answers}
@@ -14,12 +14,10 @@ texts-append face bssids number [] others =
     let same : number ≡ number + 0 = omega arith in ap (λ n. written_answers face bssids n others) same
 texts-append face bssids number (answer ∷ some) others =
     let count : number + 1 + length some ≡ number + length (answer ∷ some) = omega arith in
-    ap (λ (t : List ℕ). written_answer face bssids number answer ++ t)
-    (texts-append face bssids (number + 1) some others
-    ∙ ap (λ n. written_answers face bssids (number + 1) some ++ written_answers face bssids n others) count)
-    ∙ sym
+    rw (texts-append face bssids (number + 1) some others, count)
+    (sym
     (append_assoc (written_answer face bssids number answer) (written_answers face bssids (number + 1) some)
-    (written_answers face bssids (number + length (answer ∷ some)) others))
+    (written_answers face bssids (number + length (answer ∷ some)) others)))
 
 pub texts-join : MoreAnswers → (face : Face) (m between : Moment) (said : List Asked) (some others : List Answer)
     → Answers m said some between
@@ -27,10 +25,11 @@ pub texts-join : MoreAnswers → (face : Face) (m between : Moment) (said : List
 texts-join laws face m between said some others h =
     let count : m.lines + 1 + length some ≡ between.lines + 1 =
     omega (arith, laws.lines m said some between h, laws.each m said some between h) in
-    texts-append face (bssids_at m) (m.lines + 1) some others
-    ∙ ap
-    (λ n. written_after face m some ++ written_answers face (bssids_at m) n others)
-    count
-    ∙ ap
-    (λ (bs : List (List ℕ)). written_after face m some ++ written_answers face bs (between.lines + 1) others)
-    (sym (laws.bssids m said some between h))
+    rw (texts-append face (bssids_at m) (m.lines + 1) some others, count, laws.bssids m said some between h) refl
+
+-- the answers to what is said, and then to more
+pub answers-join : MoreAnswers → (m between next : Moment) (said more : List Asked) (some others : List Answer)
+    → Answers m said some between → Answers between more others next → Answers m (said ++ more) (some ++ others) next
+answers-join laws m between next said more some others first later =
+    laws.join m said more (some ++ others) next
+    (record { some = some; others = others; between = between; all = refl; first = first; later = later })

@@ -1,8 +1,8 @@
 -- Lines for people, as records.
-use Rattle.std.proofs.Common.{◌≡◌, ℕ, ◌+◌, ◌*◌, ◌<◌, ◌≤◌, List, [], ◌∷◌, ◌++◌, length, refl, sym, ap, subst, ◌∙◌, arith}
-use Rattle.std.proofs.Common.{length-append, append_assoc}
+use Rattle.std.proofs.Common.{◌≡◌, ℕ, ◌+◌, ◌*◌, ◌<◌, ◌≤◌, List, [], ◌∷◌, ◌++◌, length, refl, sym, ◌∙◌, arith}
+use Rattle.std.proofs.Common.{length-append}
 use Rattle.std.proofs.lemmas.Bool.{lt-ltb, le-ltb}
-use Rattle.hex.specs.Hex.{encode_lower}
+use Rattle.hex.specs.Hex.{encode_lower, lower_digits}
 use Rattle.hex.proofs.HexLemmas.{length-encode_with}
 use Rattle.text_io.specs.Texts.{ended}
 use Rattle.live.specs.AnswerOctets.{record_header, record_of, told}
@@ -41,19 +41,16 @@ pub told-counted : (line : List ℕ) (count : ℕ) → count ≡ length line →
 unfolding told
 told-counted [] count is some few = absurd (omega (arith, is, some))
 told-counted (x ∷ xs) count is some few =
-    ap (λ (k : ℕ). record_header 78 nobody k ++ (x ∷ xs)) is
-    ∙ record-is 78 nobody (x ∷ xs) (subst (λ (k : ℕ). k ≤ 65535) is few)
+    rw is (record-is 78 nobody (x ∷ xs) (rw is at few))
 
 line-len : (line octets : List ℕ) → length (ended (line ++ encode_lower octets)) ≡ length line + 2 * length octets + 1
 line-len line octets =
-    length-append (line ++ encode_lower octets) (10 ∷ [])
-    ∙ ap (λ (k : ℕ). k + 1) (length-append line (encode_lower octets))
-    ∙ ap (λ (k : ℕ). length line + k + 1) (length-encode_with _ octets)
+    simp length-append (omega (arith, length-encode_with lower_digits octets))
 
 pub told-over : (line octets : List ℕ) → 65535 < length line + 2 * length octets + 1
     → [] ≡ told (ended (line ++ encode_lower octets))
 told-over line octets many =
-    record-over 78 nobody (ended (line ++ encode_lower octets)) (subst (λ (k : ℕ). 65535 < k) (sym (line-len line octets)) many)
+    record-over 78 nobody (ended (line ++ encode_lower octets)) (rw (line-len line octets) many)
     ∙ sym (told-is (line ++ encode_lower octets))
 
 pub told-line : (line octets : List ℕ) (count : ℕ) → count ≡ length line + 2 * length octets + 1 → count ≤ 65535
@@ -61,8 +58,4 @@ pub told-line : (line octets : List ℕ) (count : ℕ) → count ≡ length line
 told-line line octets count is few =
     let text : List ℕ = ended (line ++ encode_lower octets) in
     let len : count ≡ length text = is ∙ sym (line-len line octets) in
-    ap (λ (l : List ℕ). l ++ (10 ∷ [])) (append_assoc (record_header 78 nobody count) line (encode_lower octets))
-    ∙ append_assoc (record_header 78 nobody count) (line ++ encode_lower octets) (10 ∷ [])
-    ∙ ap (λ (k : ℕ). record_header 78 nobody k ++ text) len
-    ∙ record-is 78 nobody text (subst (λ (k : ℕ). k ≤ 65535) len few)
-    ∙ sym (told-is (line ++ encode_lower octets))
+    rw len (record-is 78 nobody text (rw len at few) ∙ sym (told-is (line ++ encode_lower octets)))

@@ -6,7 +6,6 @@ use Rattle.std.proofs.lemmas.List.{map-append, nil_from_length}
 use Rattle.std.proofs.lemmas.List.Concat.{flat_map-append}
 use Rattle.text_io.specs.Buffers.{CanWrite, watch}
 use Rattle.text_io.specs.declared.buffer.Buffered.{Buffered}
-use Rattle.live_rules.specs.Asked.{Asked}
 use Rattle.live_rules.specs.Moments.{Moment, bssids_at}
 use Rattle.live_rules.specs.MoreAnswers.{MoreAnswers}
 use Rattle.live.specs.Output.{AnswersRecords, AreAnswered, through, waiting}
@@ -111,12 +110,9 @@ records-then laws taken failed m between next old mid new partial now then piece
           ∙ ap (λ (l : List ℕ). l ++ (then ++ last)) (sym (flat_map-append (λ octets. octets) a.records b.records));
       is_partial = b.is_partial;
       answered =
-          subst (λ (said : List Asked). AreAnswered (through Records (watch taken failed) old new) m next said)
-          (sym (map-append (record_asks (bssids_at m)) a.records b.records))
+          rw (map-append (record_asks (bssids_at m)) a.records b.records)
           (answered-then laws taken failed Records m between next (records_ask (bssids_at m) a.records)
-          (records_ask (bssids_at m) b.records) old mid new a.answered
-          (subst (λ (bs : List (List ℕ)). AreAnswered (through Records (watch taken failed) mid new) between next (records_ask bs b.records))
-          same b.answered));
+          (records_ask (bssids_at m) b.records) old mid new a.answered (rw same at b.answered));
       few = omega (arith, a.few, b.few);
     }
 
@@ -125,4 +121,4 @@ pub records-all : {W : Type 0} (taken : W → Option (List ℕ)) (failed : W →
     (partial now piece rest : List ℕ) → length rest ≡ 0 → AnswersRecords (through Records (watch taken failed) old new) (waiting m partial piece) (waiting next now rest)
     → AnswersRecords (through Records (watch taken failed) old new) (waiting m partial piece) (waiting next now [])
 records-all taken failed m next old new partial now piece rest none a =
-    subst (λ (l : List ℕ). AnswersRecords (through Records (watch taken failed) old new) (waiting m partial piece) (waiting next now l)) (nil_from_length rest none) a
+    rw (nil_from_length rest none) at a

@@ -1,6 +1,6 @@
 -- What a network replied is what it may reply.
-use Rattle.std.proofs.Common.{◌≡◌, ℕ, ◌+◌, Bool, true, false, List, [], ◌∷◌, map, Option, Some, None, Result, Ok, Err, refl, sym, ap, subst, ◌∙◌}
-use Rattle.std.specs.Prelude.{◌↔◌, ◌==◌, option_to_list, if◌then◌else◌}
+use Rattle.std.proofs.Common.{◌≡◌, ℕ, ◌+◌, Bool, true, false, List, [], ◌∷◌, map, Option, Some, None, Result, Ok, Err, refl, ap, ◌∙◌}
+use Rattle.std.specs.Prelude.{◌↔◌, ◌==◌, option_to_list}
 use Rattle.std.proofs.lemmas.Bool.{eqb-true}
 use Rattle.network.specs.NetworkView.{NetworkState}
 use Rattle.events.specs.declared.event.Event.{Event}
@@ -41,18 +41,14 @@ pub sends-may : (n : NetworkState) (e : Event) (result : Result Sent NetworkRefu
     → ((result ≡ Err Clock) ↔ IsPast n e) → MayReply n e (Sends sent.air (option_to_list sent.wire))
 sends-may n e result sent is air wire clock =
     let other : IsPast n e → ⊥ = λ (h : IsPast n e). let same : result ≡ Err Clock = clock.1 h in absurd (cc) in
-    ap (λ (fs : List (List ℕ)). Sends fs (option_to_list sent.wire)) air
-    ∙ ap (λ (fs : List (List ℕ)). Sends (sending n e).air fs) wire
-    ∙ sym
-    (ap (λ b. if b then Refuses Clock else Sends (sending n e).air (sending n e).wire) (not-past n e other))
+    rw (not-past n e other) (λ i. Sends (air i) (wire i))
 
 pub refuses-may : (n : NetworkState) (e : Event) (result : Result Sent NetworkRefusal) (why : NetworkRefusal)
     → result ≡ Err why → ((result ≡ Err Clock) ↔ IsPast n e) → MayReply n e (Refuses why)
 refuses-may n e result NoMemory is clock =
     not-past n e (λ (h : IsPast n e). let same : result ≡ Err Clock = clock.1 h in absurd (cc))
 refuses-may n e result Clock is clock =
-    sym
-    (ap (λ b. if b then Refuses Clock else Sends (sending n e).air (sending n e).wire) (is-past n e (clock.0 is)))
+    rw (is-past n e (clock.0 is)) refl
 
 -- ---- one network
 
@@ -74,14 +70,14 @@ may-have : {W : Type 0} (sink : Watch W) (face : Face) (number place : ℕ) (sai
     → MayHaveReplied (through face sink old new) number place said n next
 may-have sink face number place said n next old new can None is h = record {
   reply = None;
-  may = subst (λ (o : Option Event). MayReplyIf n o None) (sym is) refl;
-  after = h.0 ∙ sym (ap (λ (o : Option Event). after_if n (taken_if o None)) is);
-  puts = subst (λ (w : Buffered _). Puts sink old w []) (sym h.1) (Puts-nothing old can);
+  may = rw is refl;
+  after = h.0 ∙ rw is refl;
+  puts = rw h.1 (Puts-nothing old can);
 }
 may-have sink face number place said n next old new can (Some e) is h = record {
   reply = Some h.reply;
-  may = subst (λ (o : Option Event). MayReplyIf n o (Some h.reply)) (sym is) h.may;
-  after = h.after ∙ sym (ap (λ (o : Option Event). after_if n (taken_if o (Some h.reply))) is);
+  may = rw is h.may;
+  after = h.after ∙ rw is refl;
   puts = h.puts;
 }
 
@@ -103,7 +99,7 @@ have-replied sink face number place said [] next old new can h = record {
   replies = [];
   may = refl;
   after = h.0;
-  puts = subst (λ (w : Buffered _). Puts sink old w []) (sym h.1) (Puts-nothing old can);
+  puts = rw h.1 (Puts-nothing old can);
 }
 have-replied sink face number place said (n ∷ ns) [] old new can h = absurd h
 have-replied sink face number place said (n ∷ ns) (m ∷ ms) old new can h =

@@ -1,5 +1,5 @@
 -- What a run leaves, by how it ended.
-use Rattle.std.proofs.Common.{◌≡◌, ℕ, ◌+◌, List, [], ◌++◌, length, Option, Result, Ok, Err, refl, sym, ap, subst, ◌∙◌, append_assoc, append-nil, arith, inl, inr}
+use Rattle.std.proofs.Common.{◌≡◌, ℕ, ◌+◌, List, [], ◌++◌, length, Result, Ok, Err, refl, sym, ap, subst, ◌∙◌, append_assoc, append-nil, arith, inl, inr}
 use Rattle.std.proofs.KnownBytes.{Appends-trans, Consumes-nil, Keeps-refl}
 use Rattle.std.specs.Io.KnownBytes.{Appends, Keeps}
 use Rattle.ap_config.specs.declared.config.ConfigFault.{ConfigFault}
@@ -28,9 +28,9 @@ use Rattle.live.specs.declared.face.Face.{Face}
 use Rattle.live.specs.declared.fault.LiveFault.{LiveFault}
 use Rattle.live.specs.declared.fault.LiveFault.TheVariants.{Config, NoMemory, Read, Write}
 use Rattle.live.proofs.InputSteps.{empty-in, said-all, said-ended, said-face, said-none}
-use Rattle.live.proofs.MoreWritten.{texts-join}
+use Rattle.live.proofs.MoreWritten.{answers-join, texts-join}
 use Rattle.live.proofs.Pieces.{LastLine}
-use Rattle.live.proofs.RunSteps.{counted-none, prefix-after, prefix-longer}
+use Rattle.live.proofs.RunSteps.{counted-none, ends-after, prefix-after, prefix-longer}
 
 -- ---- what the lower laws say
 
@@ -112,18 +112,7 @@ all-answered laws face c ct input between last partial said some more is are fir
     let end : List Asked = last_said (bssids_at m) partial in
     said-whole face c ct input (said ++ end) (some ++ more) last is
     (said-all laws.last face (bssids_at m) input said partial are)
-    (laws.more.join m said end (some ++ more) last
-    (record {
-      some = some;
-      others = more;
-      between = between;
-      all = refl;
-      first = first;
-      later =
-          subst (λ (bs : List (List ℕ)). Answers between (last_said bs partial) more last)
-          (laws.more.bssids m said some between first)
-          later;
-    }))
+    (answers-join laws.more m between last said end some more first (rw (laws.more.bssids m said some between first) at later))
 
 -- it begins with what was to be written of what had ended
 whole-is : MoreAnswers → (face : Face) (c : RadioConfig) (between last : Moment) (said : List Asked) (some more : List Answer)
@@ -132,15 +121,7 @@ whole-is : MoreAnswers → (face : Face) (c : RadioConfig) (between last : Momen
     ++ (written_after face between more ++ written_tables face last.networks)
     ≡ whole face c (some ++ more) last
 whole-is laws face c between last said some more h =
-    let count : List ℕ = written_count face (length c.networks) in
-    let one : List ℕ = written_after face (first_moment c) some in
-    let two : List ℕ = written_after face between more in
-    let tables : List ℕ = written_tables face last.networks in
-    let joined : written_after face (first_moment c) (some ++ more) ≡ one ++ two =
-    texts-join laws face (first_moment c) between said some more h in
-    sym (append_assoc (count ++ one) two tables)
-    ∙ ap (λ (t : List ℕ). t ++ tables) (append_assoc count one two)
-    ∙ ap (λ (t : List ℕ). count ++ t ++ tables) (sym joined)
+    rw (texts-join laws face (first_moment c) between said some more h) (simp append_assoc)
 
 -- ---- a write failed
 
@@ -202,9 +183,7 @@ stops-reading face c ct input old mid new is count s =
       };
       rest = s.rest;
       grown =
-          subst (Appends old.taken new.streams.sink.taken)
-          (sym
-          (append_assoc (written_count face (length c.networks)) (written_after face (first_moment c) s.answers) s.rest))
+          rw (append_assoc (written_count face (length c.networks)) (written_after face (first_moment c) s.answers) s.rest)
           (Appends-trans old.taken mid.sink.taken new.streams.sink.taken (written_count face (length c.networks))
           (written_after face (first_moment c) s.answers ++ s.rest) count s.written);
     }
@@ -262,20 +241,25 @@ input-runs laws face (Config fault) c ct old mid new moment partial is count s =
 
 -- ---- the source came to its end
 
--- the end is written in the face of the partial line or record
-end-in : (face : Face) (r : Result Unit Failed) (moment : Moment) (partial : PartialInput) (old new : Option (List ℕ))
-    → face_of partial ≡ face → Finishes r (running (reached moment partial) old) new
-    → (answers : List Answer) × (last : Moment) × Answers moment (last_said (bssids_at moment) partial) answers last
-    × Ends (ending_of write_ending r) (Ok (written_after face moment answers ++ written_tables face last.networks)) old new
-end-in face r moment partial old new same t = (
-  t.answers,
-  t.last,
-  t.answered,
-  subst
-      (λ (f : Face). Ends (ending_of write_ending r) (Ok (written_after f moment t.answers ++ written_tables f t.last.networks)) old new)
-      same
-      t.written,
-)
+-- all that is said is answered, and what was to be written of that is, or a prefix of it where a write failed
+all-ends : EndLaws → (face : Face) (r : Result Unit Failed) (u : Unit {0}) (c : RadioConfig) (ct : List ℕ) (old : SinkView)
+    (mid read : Streams) (new : SinkView) (moment : Moment) (partial : PartialInput) → configuration_of ct ≡ Ok c
+    → Appends old.taken mid.sink.taken (written_count face (length c.networks))
+    → (s : AnswersInput face (Ok u) (first face c mid) (progress (reached moment partial) read))
+    → Finishes r (running (reached moment partial) read.sink.taken) new.taken
+    → (written : List ℕ) × AnswersAll (texts face ct s.input) written
+    × Ends (ending_of write_ending r) (Ok written) old.taken new.taken
+all-ends laws face r u c ct old mid read new moment partial is count s t =
+    let same : face_of partial ≡ face = said-face face (bssids_at (first_moment c)) s.input s.said partial s.is_said in (
+      whole face c (s.answers ++ t.answers) t.last,
+      all-answered laws face c ct s.input moment t.last partial s.said s.answers t.answers is s.is_said s.answered t.answered,
+      rw (← whole-is laws.more face c moment t.last s.said s.answers t.answers s.answered)
+          (ends-after _ _ _ r (written_count face (length c.networks) ++ written_after face (first_moment c) s.answers)
+          (written_after face moment t.answers ++ written_tables face t.last.networks)
+          (Appends-trans old.taken mid.sink.taken read.sink.taken (written_count face (length c.networks))
+          (written_after face (first_moment c) s.answers) count s.written.1)
+          (rw same at t.written)),
+    )
 
 pub end-runs : EndLaws → (face : Face) (e : Failed) (u : Unit {0}) (c : RadioConfig) (ct : List ℕ) (old : SinkView)
     (mid read : Streams) (new : SinkView) (moment : Moment) (partial : PartialInput) → configuration_of ct ≡ Ok c
@@ -283,11 +267,8 @@ pub end-runs : EndLaws → (face : Face) (e : Failed) (u : Unit {0}) (c : RadioC
     → AnswersInput face (Ok u) (first face c mid) (progress (reached moment partial) read)
     → Finishes (Err e) (running (reached moment partial) read.sink.taken) new.taken
     → Runs (setup face ct) (Err Write) (both mid.source old) (both read.source new)
-end-runs laws face e u c ct old mid read new moment partial is count s finished =
-    let same : face_of partial ≡ face = said-face face (bssids_at (first_moment c)) s.input s.said partial s.is_said in
-    let t = end-in face (Err e) moment partial read.sink.taken new.taken same finished in
-    let part : AppendsPrefix read.sink.taken new.taken (written_after face moment t.0 ++ written_tables face t.1.networks) =
-    t.3 in
+end-runs laws face e u c ct old mid read new moment partial is count s t =
+    let all = all-ends laws face (Err e) u c ct old mid read new moment partial is count s t in
     record {
       input = s.input;
       reads = record {
@@ -298,16 +279,9 @@ end-runs laws face e u c ct old mid read new moment partial is count s finished 
         failed = s.reads.failed;
       };
       end = record {
-        written = whole face c (s.answers ++ t.0) t.1;
-        all = all-answered laws face c ct s.input moment t.1 partial s.said s.answers t.0 is s.is_said s.answered t.2;
-        grown =
-            subst (AppendsPrefix old.taken new.taken)
-            (whole-is laws.more face c moment t.1 s.said s.answers t.0 s.answered)
-            (prefix-after (written_count face (length c.networks) ++ written_after face (first_moment c) s.answers)
-            (written_after face moment t.0 ++ written_tables face t.1.networks)
-            (Appends-trans old.taken mid.sink.taken read.sink.taken (written_count face (length c.networks))
-            (written_after face (first_moment c) s.answers) count s.written.1)
-            part);
+        written = all.0;
+        all = all.1;
+        grown = all.2;
         stops =
             inr
             (stops-reading face c ct s.input old mid (progress (reached moment partial) (both read.source new)) is count
@@ -321,10 +295,10 @@ end-runs laws face e u c ct old mid read new moment partial is count s finished 
               between = moment;
               is_said = said-ended face (bssids_at (first_moment c)) s.input s.said partial s.is_said;
               answered = s.answered;
-              rest = part.written;
+              rest = t.written.written;
               written =
                   Appends-trans mid.sink.taken read.sink.taken new.taken (written_after face (first_moment c) s.answers)
-                  part.written s.written.1 part.taken;
+                  t.written.written s.written.1 t.written.taken;
             }));
       };
     }
@@ -335,26 +309,12 @@ pub whole-runs : EndLaws → (face : Face) (u v w : Unit {0}) (c : RadioConfig) 
     → AnswersInput face (Ok u) (first face c mid) (progress (reached moment partial) read)
     → Finishes (Ok v) (running (reached moment partial) read.sink.taken) new.taken
     → Runs (setup face ct) (Ok w) (both mid.source old) (both read.source new)
-whole-runs laws face u v w c ct old mid read new moment partial is count s finished =
-    let same : face_of partial ≡ face = said-face face (bssids_at (first_moment c)) s.input s.said partial s.is_said in
-    let t = end-in face (Ok v) moment partial read.sink.taken new.taken same finished in
+whole-runs laws face u v w c ct old mid read new moment partial is count s t =
+    let all = all-ends laws face (Ok v) u c ct old mid read new moment partial is count s t in
     record {
       input = s.input;
       reads = s.reads;
-      end = record {
-        written = whole face c (s.answers ++ t.0) t.1;
-        all = all-answered laws face c ct s.input moment t.1 partial s.said s.answers t.0 is s.is_said s.answered t.2;
-        at_end = s.written.0;
-        grown =
-            subst (Appends old.taken new.taken)
-            (whole-is laws.more face c moment t.1 s.said s.answers t.0 s.answered)
-            (Appends-trans old.taken read.sink.taken new.taken
-            (written_count face (length c.networks) ++ written_after face (first_moment c) s.answers)
-            (written_after face moment t.0 ++ written_tables face t.1.networks)
-            (Appends-trans old.taken mid.sink.taken read.sink.taken (written_count face (length c.networks))
-            (written_after face (first_moment c) s.answers) count s.written.1)
-            t.3);
-      };
+      end = record { written = all.0; all = all.1; at_end = s.written.0; grown = all.2 };
     }
 
 -- ---- as the call has it
@@ -363,8 +323,7 @@ pub from-first : (face : Face) (r : Result Unit LiveFault) (c : RadioConfig) (li
     → live ≡ reached (first_moment c) (empty_partial face) → AnswersInput (face_of live.partial) r (progress live mid) end
     → AnswersInput face r (first face c mid) end
 from-first face r c live mid end is s =
-    subst (λ (f : Face). AnswersInput f r (first face c mid) end) (empty-in face).same
-    (subst (λ (l : Reached). AnswersInput (face_of l.partial) r (progress l mid) end) is s)
+    rw (is, (empty-in face).same) at s
 
 -- it begins with nothing
 pub begins-so : (face : Face) (m : Moment) (live : Reached) → live ≡ reached m (empty_partial face)
@@ -372,13 +331,3 @@ pub begins-so : (face : Face) (m : Moment) (live : Reached) → live ≡ reached
 begins-so face m live is =
     let none : live.partial ≡ empty_partial face = ap (λ (l : Reached). l.partial) is in
     none ∙ ap empty_partial (sym (empty-in face).same) ∙ ap (λ (b : PartialInput). empty_partial (face_of b)) (sym none)
-
-pub counted : (face : Face) (count : ℕ) (c : RadioConfig) (old new : Option (List ℕ)) → count ≡ length c.networks
-    → Appends old new (written_count face count) → Appends old new (written_count face (length c.networks))
-counted face count c old new is h = subst (λ (n : ℕ). Appends old new (written_count face n)) is h
-
-pub counted-part : (face : Face) (e : ReportFault) (count : ℕ) (c : RadioConfig) (old new : Option (List ℕ))
-    → count ≡ length c.networks → Ends (ending_of {A = Unit} report_ending (Err e)) (Ok (written_count face count)) old new
-    → Ends (ending_of {A = Unit} report_ending (Err e)) (Ok (written_count face (length c.networks))) old new
-counted-part face e count c old new is h =
-    subst (λ (n : ℕ). Ends (ending_of {A = Unit} report_ending (Err e)) (Ok (written_count face n)) old new) is h

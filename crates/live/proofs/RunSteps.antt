@@ -1,25 +1,26 @@
 -- What was read of an input, and the answers to what was said in it.
-use Rattle.std.specs.Prelude.{max, min}
-use Rattle.std.proofs.Common.{◌≡◌, ℕ, ◌+◌, ◌-◌, ◌*◌, ◌^◌, ◌≤◌, List, [], ◌++◌, length, Option, Ok, Err}
-use Rattle.std.proofs.Common.{refl, sym, ap, subst, ◌∙◌, arith, append_assoc}
+use Rattle.std.proofs.Common.{◌≡◌, ℕ, ◌+◌, ◌*◌, ◌≤◌, List, [], ◌++◌, length, Option, Result, Ok, Err}
+use Rattle.std.proofs.Common.{refl, sym, ap, ◌∙◌, arith, append_assoc}
 use Rattle.std.proofs.KnownBytes.{Appends-nil, Appends-trans, Consumes-nil, Consumes-trans}
 use Rattle.std.specs.Io.KnownBytes.{Appends, Consumes}
-use Rattle.text_io.specs.Endings.{AppendsPrefix}
-use Rattle.text_io.specs.Streams.{reads_after}
+use Rattle.text_io.specs.Endings.{AppendsPrefix, Ends, ending_of}
+use Rattle.text_io.specs.Sinks.{write_ending}
+use Rattle.text_io.specs.Streams.{FailsAt, Streams, changed, reads_after}
 use Rattle.text_io.specs.declared.sink.Failed.{Failed}
 use Rattle.live_rules.specs.Answers.{Answer, Answers}
 use Rattle.live_rules.specs.Asked.{Asked}
 use Rattle.live.specs.Inputs.{IsSaidIn, face_of, empty_partial, saying}
-use Rattle.live.specs.LiveView.{Takes, reached, running}
+use Rattle.live.specs.LiveView.{Reached, Takes, reached, running}
 use Rattle.live_rules.specs.Moments.{Moment, bssids_at}
 use Rattle.live_rules.specs.MoreAnswers.{MoreAnswers}
-use Rattle.live.specs.Run.{AllAnswered, AnswersInput, Progress, max_reads}
+use Rattle.live.specs.Run.{AllAnswered, AnswersInput, Progress, WrittenSoFar, live_ending, max_reads, progress}
 use Rattle.live.specs.Written.{written_after}
 use Rattle.live.specs.declared.partial_input.PartialInput.{PartialInput}
 use Rattle.live.specs.declared.face.Face.{Face}
+use Rattle.live.specs.declared.fault.LiveFault.{LiveFault}
 use Rattle.live.specs.declared.fault.LiveFault.TheVariants.{Write}
 use Rattle.live.proofs.InputSteps.{said-none, said-more, said-ended, said-face}
-use Rattle.live.proofs.MoreWritten.{texts-join}
+use Rattle.live.proofs.MoreWritten.{answers-join, texts-join}
 use Rattle.live.proofs.Pieces.{InPieces}
 
 -- ---- a prefix
@@ -44,21 +45,20 @@ prefix-longer {old} {new} t u p = record {
   taken = p.taken;
 }
 
+-- all that was written next, or a prefix of it
+pub ends-after : (old mid new : Option (List ℕ)) (r : Result Unit Failed) (t u : List ℕ) → Appends old mid t
+    → Ends (ending_of write_ending r) (Ok u) mid new → Ends (ending_of write_ending r) (Ok (t ++ u)) old new
+ends-after old mid new (Ok x) t u a e = Appends-trans old mid new t u a e
+ends-after old mid new (Err x) t u a e = prefix-after t u a e
+
 -- ---- the reads that were made
 
-none_more : (most reads : ℕ) → reads ≡ max reads (min (reads + 0) most)
-none_more most reads = omega arith
-
-one_more : (most old mid new count : ℕ) → mid ≡ max old (min (old + count) most) → new ≡ max mid (min (mid + 1) most)
-    → new ≡ max old (min (old + (count + 1)) most)
-one_more most old mid new count before here = omega (arith, before, here)
-
 pub counted-none : (reads : ℕ) → reads ≡ reads_after reads 0
-counted-none reads = none_more (2 ^ 64 - 1) reads
+counted-none reads = omega arith
 
 pub counted-more : (old mid new count : ℕ) → mid ≡ reads_after old count → new ≡ reads_after mid 1
     → new ≡ reads_after old (count + 1)
-counted-more old mid new count before here = one_more (2 ^ 64 - 1) old mid new count before here
+counted-more old mid new count before here = omega (arith, before, here)
 
 -- ---- so far
 
@@ -82,9 +82,7 @@ input-none face old partial first = record {
   answers = [];
   took = Consumes-nil old.streams.source.left;
   counted = counted-none old.streams.source.reads;
-  is_said =
-      subst (λ (b : PartialInput). IsSaidIn (bssids_at old.moment) (empty_partial face) [] (saying [] b)) (sym partial)
-      (said-none face (bssids_at old.moment));
+  is_said = rw partial (said-none face (bssids_at old.moment));
   answered = refl;
   written = Appends-nil old.streams.sink.taken;
   lines = omega arith;
@@ -94,7 +92,7 @@ input-none face old partial first = record {
 pub answered-so-far : (count : ℕ) (first old now : Progress) → first ≡ old → InputSoFar (face_of old.partial) count old now
     → AllAnswered first now.streams.source.left now.streams.sink.taken
 answered-so-far count first old now is s =
-    subst (λ (p : Progress). AllAnswered p now.streams.source.left now.streams.sink.taken) (sym is)
+    rw is
     (record {
       read = s.input;
       said = s.said;
@@ -106,13 +104,6 @@ answered-so-far count first old now is s =
       written = s.written;
     })
 
--- what is said in a piece more
-piece-more : MoreAnswers → (m between next : Moment) (said more : List Asked) (some others : List Answer) → Answers m said some between
-    → Answers between more others next → Answers m (said ++ more) (some ++ others) next
-piece-more laws m between next said more some others first later =
-    laws.join m said more (some ++ others) next
-    (record { some = some; others = others; between = between; all = refl; first = first; later = later })
-
 -- it is said to the same networks
 piece-said : MoreAnswers → InPieces → (face : Face) (m between : Moment) (input piece : List ℕ) (said more : List Asked) (some : List Answer)
     (mid next : PartialInput) → Answers m said some between → IsSaidIn (bssids_at m) (empty_partial face) input (saying said mid)
@@ -120,7 +111,7 @@ piece-said : MoreAnswers → InPieces → (face : Face) (m between : Moment) (in
     → IsSaidIn (bssids_at m) (empty_partial face) (input ++ piece) (saying (said ++ more) next)
 piece-said laws pieces face m between input piece said more some mid next h is k =
     said-more pieces face (bssids_at m) input piece said more mid next is
-    (subst (λ (bs : List (List ℕ)). IsSaidIn bs mid piece (saying more next)) (laws.bssids m said some between h) k)
+    (rw (laws.bssids m said some between h) at k)
 
 pub input-more : MoreAnswers → InPieces → (face : Face) (count : ℕ) (old mid new : Progress) (piece : List ℕ) (u : Unit {0})
     → InputSoFar face count old mid → Consumes mid.streams.source.left new.streams.source.left piece
@@ -129,11 +120,7 @@ pub input-more : MoreAnswers → InPieces → (face : Face) (count : ℕ) (old m
     (running (reached new.moment new.partial) new.streams.sink.taken)
     → new.moment.lines ≤ mid.moment.lines + length piece → InputSoFar face (count + 1) old new
 input-more laws pieces face count old mid new piece u s took one few t lines =
-    let same : face_of mid.partial ≡ face =
-    said-face face (bssids_at old.moment) s.input s.said mid.partial s.is_said in
-    let grown : Appends mid.streams.sink.taken new.streams.sink.taken (written_after face mid.moment t.answers) =
-    subst (λ (f : Face). Appends mid.streams.sink.taken new.streams.sink.taken (written_after f mid.moment t.answers)) same
-    t.written in
+    let same : face_of mid.partial ≡ face = said-face face (bssids_at old.moment) s.input s.said mid.partial s.is_said in
     record {
       input = s.input ++ piece;
       said = s.said ++ t.said;
@@ -145,12 +132,11 @@ input-more laws pieces face count old mid new piece u s took one few t lines =
       is_said =
           piece-said laws pieces face old.moment mid.moment s.input piece s.said t.said s.answers mid.partial new.partial s.answered s.is_said
           t.is_said;
-      answered = piece-more laws old.moment mid.moment new.moment s.said t.said s.answers t.answers s.answered t.answered;
+      answered = answers-join laws old.moment mid.moment new.moment s.said t.said s.answers t.answers s.answered t.answered;
       written =
-          subst (Appends old.streams.sink.taken new.streams.sink.taken)
-          (sym (texts-join laws face old.moment mid.moment s.said s.answers t.answers s.answered))
+          rw (texts-join laws face old.moment mid.moment s.said s.answers t.answers s.answered)
           (Appends-trans old.streams.sink.taken mid.streams.sink.taken new.streams.sink.taken
-          (written_after face old.moment s.answers) (written_after face mid.moment t.answers) s.written grown);
+          (written_after face old.moment s.answers) (written_after face mid.moment t.answers) s.written (rw same at t.written));
       lines = omega (arith, s.lines, lines, few);
     }
 
@@ -163,13 +149,8 @@ pub input-cut : MoreAnswers → InPieces → (face : Face) (count : ℕ) (old mi
     → Takes (Err e) piece (running (reached mid.moment mid.partial) mid.streams.sink.taken)
     (running (reached new.moment new.partial) new.streams.sink.taken)
     → AnswersInput face (Err Write) old new
-input-cut laws pieces face count old mid new piece e s within took one same short t =
-    let known : face_of mid.partial ≡ face =
-    said-face face (bssids_at old.moment) s.input s.said mid.partial s.is_said in
-    let part : AppendsPrefix mid.streams.sink.taken new.streams.sink.taken (written_after face mid.moment t.answers) =
-    subst
-    (λ (f : Face). AppendsPrefix mid.streams.sink.taken new.streams.sink.taken (written_after f mid.moment t.answers)) known
-    t.written in
+input-cut laws pieces face count old mid new piece e s within took one failed short t =
+    let same : face_of mid.partial ≡ face = said-face face (bssids_at old.moment) s.input s.said mid.partial s.is_said in
     record {
       input = s.input ++ piece;
       said = s.said ++ t.said;
@@ -181,16 +162,16 @@ input-cut laws pieces face count old mid new piece e s within took one same shor
         within = within;
         counted =
             counted-more old.streams.source.reads mid.streams.source.reads new.streams.source.reads count s.counted one;
-        failed = same;
+        failed = failed;
       };
       is_said =
           piece-said laws pieces face old.moment mid.moment s.input piece s.said t.said s.answers mid.partial new.partial s.answered s.is_said
           t.is_said;
-      answered = piece-more laws old.moment mid.moment new.moment s.said t.said s.answers t.answers s.answered t.answered;
+      answered = answers-join laws old.moment mid.moment new.moment s.said t.said s.answers t.answers s.answered t.answered;
       written =
-          subst (AppendsPrefix old.streams.sink.taken new.streams.sink.taken)
-          (sym (texts-join laws face old.moment mid.moment s.said s.answers t.answers s.answered))
-          (prefix-after (written_after face old.moment s.answers) (written_after face mid.moment t.answers) s.written part);
+          rw (texts-join laws face old.moment mid.moment s.said s.answers t.answers s.answered)
+          (prefix-after (written_after face old.moment s.answers) (written_after face mid.moment t.answers) s.written
+          (rw same at t.written));
       stops = λ _. record {
         before = s.input;
         piece = piece;
@@ -201,9 +182,28 @@ input-cut laws pieces face count old mid new piece e s within took one same shor
         between = mid.moment;
         is_said = said-ended face (bssids_at old.moment) s.input s.said mid.partial s.is_said;
         answered = s.answered;
-        rest = part.written;
+        rest = t.written.written;
         written =
             Appends-trans old.streams.sink.taken mid.streams.sink.taken new.streams.sink.taken
-            (written_after face old.moment s.answers) part.written s.written part.taken;
+            (written_after face old.moment s.answers) t.written.written s.written t.written.taken;
       };
     }
+
+-- no more was said, and no write failed
+pub input-ends : (face : Face) (r : Result Unit LiveFault) (count made : ℕ) (first : Progress) (live : Reached)
+    (mid new : Streams) (s : InputSoFar face count first (progress live mid)) → made ≤ max_reads
+    → Consumes first.streams.source.left new.source.left s.input
+    → new.source.reads ≡ reads_after first.streams.source.reads made
+    → FailsAt (ending_of live_ending r) max_reads made (changed first.streams.source new.source)
+    → WrittenSoFar r (written_after face first.moment s.answers) first.streams new → (r ≡ Err Write → ⊥)
+    → AnswersInput face r first (progress live new)
+input-ends face r count made first live mid new s within took counted failed written other = record {
+  input = s.input;
+  said = s.said;
+  answers = s.answers;
+  reads = record { taken = took; made = made; within = within; counted = counted; failed = failed };
+  is_said = s.is_said;
+  answered = s.answered;
+  written = written;
+  stops = λ e. absurd (other e);
+}

@@ -1,9 +1,5 @@
-use Rattle.std.proofs.Common.{◌≤◌, ◌++◌, ℕ, List, [], ◌∷◌, length, arith, sym, subst}
-use Rattle.text_io.specs.Buffers.{watch}
-use Rattle.live_rules.specs.Moments.{bssids_at}
-use Rattle.live.specs.Output.{AreAnswered, through}
-use Rattle.live_rules.specs.Records.{IsPartialRecord, IsRecord, records_ask}
-use Rattle.live.specs.declared.face.Face.TheVariants.{Records}
+use Rattle.std.proofs.Common.{◌≤◌, ◌++◌, ℕ, List, length, arith}
+use Rattle.live_rules.specs.Records.{IsRecord}
 use Rattle.live.proofs.RecordSteps.{parts-are, records-front, records-added, records-whole}
 use Rattle.live.proofs.records.answer_next.Goals as goal
 
@@ -22,11 +18,7 @@ returns-then-is_whole-clause-answers g c =
     omega (arith, c.split_at.ensures.front_len, c.min.ensures, c.lacking.ensures.some, c.requires.some) in
     records-whole c.answers_to_more.ensures _ _ c.args.networks.now _ _ _ c.args.partial.now more c.add.new.self c.begin.new.self c.args.piece.now
     c.split_at.result.1.now c.add.ensures c.begin.ensures front some (c.is_whole.ensures.0 c.if-is_whole.true)
-    (subst
-    (λ (r : List ℕ).
-    AreAnswered (through Records (watch g.W.Sink.taken g.W.Sink.failed) c.args.out.now c.answer_record-then-is_whole.new.out) c.args.networks.now c.answer_record-then-is_whole.new.self (records_ask (bssids_at c.args.networks.now) (r ∷ [])))
-    c.as_slice.ensures
-    c.answer_record-then-is_whole.ensures)
+    (rw c.as_slice.ensures at c.answer_record-then-is_whole.ensures)
 
 pub returns-else-is_whole-clause-answers : goal.returns-else-is_whole-clause-answers
 returns-else-is_whole-clause-answers g c =
@@ -35,9 +27,9 @@ returns-else-is_whole-clause-answers g c =
     let few : length more ≤ c.lacking.result = omega (arith, c.split_at.ensures.front_len, c.min.ensures) in
     let not : IsRecord (c.args.partial.now ++ more) → ⊥ =
     λ (e : IsRecord (c.args.partial.now ++ more)).
-    let yes = c.is_whole.ensures.1 (subst IsRecord (sym c.add.ensures) e) in cc (yes, c.if-is_whole.false) in
+    let yes = c.is_whole.ensures.1 (rw c.add.ensures e) in cc (yes, c.if-is_whole.false) in
     records-added _ _ c.args.networks.now _ c.args.partial.now more c.add.new.self c.args.piece.now c.split_at.result.1.now
     c.requires.can_write c.add.ensures front
-    (subst IsPartialRecord (sym c.add.ensures)
+    (rw c.add.ensures
     (c.records_come_in_pieces.ensures.partial c.args.partial.now more c.requires.partial
-    (subst (λ (k : ℕ). length more ≤ k) c.lacking.ensures.value few) not))
+    (rw c.lacking.ensures.value at few) not))

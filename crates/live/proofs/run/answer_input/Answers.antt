@@ -1,11 +1,12 @@
-use Rattle.std.proofs.Common.{◌≡◌, ◌∙◌, ◌+◌, ◌≤◌, ℕ, List, [], take, length, ap, subst, refl, inl, inr, arith}
-use Rattle.std.proofs.Common.{append-nil, Option}
+use Rattle.std.proofs.Common.{◌≡◌, ◌∙◌, ◌+◌, ◌≤◌, ℕ, List, [], take, length, ap, refl, inl, inr, arith}
+use Rattle.std.proofs.Common.{append-nil, Option, Ok, Err}
 use Rattle.std.proofs.KnownBytes.{Consumes-trans, Consumes-kept}
 use Rattle.std.proofs.lemmas.List.{length-take-le}
 use Rattle.std.proofs.lemmas.Result.{err_from_is_err_and}
 use Rattle.std.specs.Io.KnownBytes.{Consumes}
 use Rattle.live.specs.Inputs.{face_of}
-use Rattle.live.proofs.RunSteps.{answered-so-far, counted-more, input-none, input-more, input-cut}
+use Rattle.live.specs.declared.fault.LiveFault.TheVariants.{Read}
+use Rattle.live.proofs.RunSteps.{answered-so-far, counted-more, input-none, input-more, input-cut, input-ends}
 use Rattle.live.proofs.run.answer_input.Goals as goal
 
 pub loop-init : goal.loop-init
@@ -44,58 +45,28 @@ loop-preserved g c =
 pub returns-in_default-clause-answers : goal.returns-in_default-clause-answers
 returns-in_default-clause-answers g c =
     let s = c.loop.invariant.so_far in
-    let within : c.loop.counter + 1 ≤ 70368744177664 = omega (arith, c.loop-test.true) in
-    record {
-      input = s.input;
-      said = s.said;
-      answers = s.answers;
-      reads = record {
-        taken =
-            Consumes-kept (g.R.Source.left c.args.input.now) (g.R.Source.left c.loop.input)
-            (g.R.Source.left c.read_more.new.input) s.input s.took c.in_default.ensures.err;
-        made = c.loop.counter + 1;
-        within = within;
-        counted = counted-more _ _ _ c.loop.counter s.counted c.in_default.ensures.reads;
-        failed = inl (c.in_default.ensures.failures ∙ ap (λ n. n + 1) c.loop.invariant.none_failed);
-      };
-      is_said = s.is_said;
-      answered = s.answered;
-      written = s.written;
-      stops = λ e. absurd (cc);
-    }
+    input-ends (face_of c.args.live.now.partial) (Err Read) c.loop.counter (c.loop.counter + 1) _ c.loop.live _ _ s
+    (omega (arith, c.loop-test.true))
+    (Consumes-kept (g.R.Source.left c.args.input.now) (g.R.Source.left c.loop.input)
+    (g.R.Source.left c.read_more.new.input) s.input s.took c.in_default.ensures.err)
+    (counted-more _ _ _ c.loop.counter s.counted c.in_default.ensures.reads)
+    (inl (c.in_default.ensures.failures ∙ ap (λ n. n + 1) c.loop.invariant.none_failed))
+    s.written
+    (λ e. cc)
 
 pub returns-then-count-eq0-clause-answers : goal.returns-then-count-eq0-clause-answers
 returns-then-count-eq0-clause-answers g c =
     let s = c.loop.invariant.so_far in
-    let none : c.in-Ok.count ≡ 0 = c.if-count-eq0.true in
     let first : Option (List ℕ) = g.R.Source.left c.args.input.now in
-    let before : Option (List ℕ) = g.R.Source.left c.loop.input in
     let after : Option (List ℕ) = g.R.Source.left c.read_more.new.input in
-    let took : Consumes before after [] =
-    subst (λ (n : ℕ). Consumes before after (take n c.read_more.new.buffer)) none c.in-Ok.ensures.prefix.1 in
-    let same : g.R.Source.failed c.read_more.new.input ≡ g.R.Source.failed c.args.input.now =
-    omega (arith, c.in-Ok.ensures.failures, c.loop.invariant.none_failed) in
-    let within : c.loop.counter + 1 ≤ 70368744177664 = omega (arith, c.loop-test.true) in
-    record {
-      input = s.input;
-      said = s.said;
-      answers = s.answers;
-      reads = record {
-        taken =
-            subst
-            (λ (t : List ℕ). Consumes first after t)
-            (append-nil s.input)
-            (Consumes-trans first before after s.input [] s.took took);
-        made = c.loop.counter + 1;
-        within = within;
-        counted = counted-more _ _ _ c.loop.counter s.counted c.in-Ok.ensures.reads;
-        failed = same;
-      };
-      is_said = s.is_said;
-      answered = s.answered;
-      written = (c.in-Ok.ensures.end none, s.written);
-      stops = λ e. absurd (cc);
-    }
+    let took : Consumes (g.R.Source.left c.loop.input) after [] = rw c.if-count-eq0.true at c.in-Ok.ensures.prefix.1 in
+    input-ends (face_of c.args.live.now.partial) (Ok tt) c.loop.counter (c.loop.counter + 1) _ c.loop.live _ _ s
+    (omega (arith, c.loop-test.true))
+    (rw append-nil at (Consumes-trans first (g.R.Source.left c.loop.input) after s.input [] s.took took))
+    (counted-more _ _ _ c.loop.counter s.counted c.in-Ok.ensures.reads)
+    (omega (arith, c.in-Ok.ensures.failures, c.loop.invariant.none_failed))
+    (c.in-Ok.ensures.end c.if-count-eq0.true, s.written)
+    (λ e. cc)
 
 pub returns-in_err-feed-clause-answers : goal.returns-in_err-feed-clause-answers
 returns-in_err-feed-clause-answers g c =
@@ -117,23 +88,11 @@ pub returns-clause-answers : goal.returns-clause-answers
 returns-clause-answers g c =
     let s = c.loop.invariant.so_far in
     let all : c.loop.counter ≡ 70368744177664 = omega (arith, c.loop-test.false) in
-    let within : c.loop.counter ≤ 70368744177664 = omega arith in
-    record {
-      input = s.input;
-      said = s.said;
-      answers = s.answers;
-      reads = record {
-        taken = s.took;
-        made = c.loop.counter;
-        within = within;
-        counted = s.counted;
-        failed = inr (c.loop.invariant.none_failed, all);
-      };
-      is_said = s.is_said;
-      answered = s.answered;
-      written = s.written;
-      stops = λ e. absurd (cc);
-    }
+    input-ends (face_of c.args.live.now.partial) (Err Read) c.loop.counter c.loop.counter _ c.loop.live _ _ s (omega arith) s.took
+    s.counted
+    (inr (c.loop.invariant.none_failed, all))
+    s.written
+    (λ e. cc)
 
 pub returns-then-count-eq0-clause-countable : goal.returns-then-count-eq0-clause-countable
 returns-then-count-eq0-clause-countable g c = omega (arith, c.loop.invariant.so_far.lines)

@@ -2,7 +2,7 @@ use Rattle.std.proofs.Common.{ap, length, ◌∙◌}
 use Rattle.std.proofs.KnownBytes.{Keeps-refl}
 use Rattle.std.proofs.lemmas.Result.{err_from_is_err_and}
 use Rattle.live.proofs.RunEnds.{memory-runs, config-runs, count-runs, input-runs, end-runs, whole-runs, from-first}
-use Rattle.live.proofs.RunEnds.{begins-so, count-failures, counted, counted-part}
+use Rattle.live.proofs.RunEnds.{begins-so, count-failures}
 use Rattle.live.proofs.live_in.LiveIn.run.Goals as goal
 
 pub returns-in_err-config-clause-ends : goal.returns-in_err-config-clause-ends
@@ -25,7 +25,7 @@ returns-in_err-write_open-clause-ends g c =
     (count-runs
     (record { more = c.answers_to_more.ensures; last = c.lines_come_in_pieces.ensures.last; some = c.enough_memory.ensures.some })
     g.F.InFace.face c.in_err-write_open.field-0.0 config c.args.config.now _ _ _ c.in_ok-config.ensures.exact
-    (counted-part g.F.InFace.face _ _ config _ _ (ap length c.as_slice-count.ensures) c.in_err-write_open.ensures.ends)
+    (rw (ap length c.as_slice-count.ensures) at c.in_err-write_open.ensures.ends)
     c.in_err-write_open.ensures.memory)
 
 pub returns-in_err-write_open-clause-failures : goal.returns-in_err-write_open-clause-failures
@@ -44,7 +44,7 @@ returns-in_err-answer_input-clause-ends g c =
     (record { more = c.answers_to_more.ensures; last = c.lines_come_in_pieces.ensures.last; some = c.enough_memory.ensures.some })
     g.F.InFace.face c.in_err-answer_input.field-0.0 config c.args.config.now _ _ _ c.answer_input.new.live.moment c.answer_input.new.live.partial
     c.in_ok-config.ensures.exact
-    (counted g.F.InFace.face _ config _ _ (ap length c.as_slice-count.ensures) c.in_ok-write_open.ensures.ends)
+    (rw (ap length c.as_slice-count.ensures) at c.in_ok-write_open.ensures.ends)
     (from-first g.F.InFace.face _ config c.in_ok-live.live _ _ c.in_ok-live.ensures
     c.in_err-answer_input.ensures.answers))
 
@@ -56,7 +56,7 @@ returns-in_err-end-clause-ends g c =
     (end-runs
     (record { more = c.answers_to_more.ensures; last = c.lines_come_in_pieces.ensures.last; some = c.enough_memory.ensures.some })
     g.F.InFace.face _ _ config c.args.config.now _ _ _ _ c.answer_input.new.live.moment c.answer_input.new.live.partial c.in_ok-config.ensures.exact
-    (counted g.F.InFace.face _ config _ _ (ap length c.as_slice-count.ensures) c.in_ok-write_open.ensures.ends)
+    (rw (ap length c.as_slice-count.ensures) at c.in_ok-write_open.ensures.ends)
     (from-first g.F.InFace.face _ config c.in_ok-live.live _ _ c.in_ok-live.ensures
     c.in_ok-answer_input.ensures.answers)
     c.in_err-end.ensures.finishes)
@@ -67,7 +67,7 @@ returns-clause-ends g c =
     whole-runs
     (record { more = c.answers_to_more.ensures; last = c.lines_come_in_pieces.ensures.last; some = c.enough_memory.ensures.some })
     g.F.InFace.face _ _ _ config c.args.config.now _ _ _ _ c.answer_input.new.live.moment c.answer_input.new.live.partial c.in_ok-config.ensures.exact
-    (counted g.F.InFace.face _ config _ _ (ap length c.as_slice-count.ensures) c.in_ok-write_open.ensures.ends)
+    (rw (ap length c.as_slice-count.ensures) at c.in_ok-write_open.ensures.ends)
     (from-first g.F.InFace.face _ config c.in_ok-live.live _ _ c.in_ok-live.ensures
     c.in_ok-answer_input.ensures.answers)
     c.in_ok-end.ensures.finishes

@@ -1,6 +1,4 @@
-use Rattle.std.proofs.Common.{◌≡◌, ◌<◌, ◌∷◌, [], ap, subst, arith}
-use Rattle.text_io.specs.Buffers.{watch}
-use Rattle.live.specs.Output.{AreAnswered, through}
+use Rattle.std.proofs.Common.{◌≡◌, ◌<◌, ap, arith}
 use Rattle.live_rules.specs.Moments.{Moment}
 use Rattle.live.proofs.AnswerSteps.{at, countable, moment-reading}
 use Rattle.live.proofs.live_networks.LiveNetworks.answer.Goals as goal
@@ -19,8 +17,4 @@ invariant_of-self g c =
 
 pub returns : goal.returns
 returns g c said is =
-    subst
-    (λ (m : Moment).
-    AreAnswered (through c.args.face (watch g.W.Sink.taken g.W.Sink.failed) c.args.out.now c.answer_reading.new.out) m (at c.answer_reading.new.lines c.answer_reading.new.networks) (said ∷ []))
-    c.self.view_is
-    (c.answer_reading.ensures said is)
+    rw (← c.self.view_is) (c.answer_reading.ensures said is)
