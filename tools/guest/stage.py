@@ -43,6 +43,8 @@ done
 {program} "$@" | tee "$answers"
 """
 READY, TIMEOUT = "networks are on channel", 30
+# Where BY names the interfaces that networks have (tools/live, `--by`), each start gets it.
+BY = ("--by", os.environ["BY"]) if "BY" in os.environ else ()
 LONGEST_PACKET = "4096"
 SECONDS_TO_END = 60
 TOP = os.path.dirname(os.path.dirname(os.path.dirname(os.path.realpath(__file__))))
@@ -304,7 +306,7 @@ class Start:
         self.observed = Tcpdump("obs0", os.path.join(self.folder, "observed.pcap"))
         # What keeps the answers is a script, which couldn't run within the program's bounds.
         words = [self.bridge, self.config, "--phy", self.phy, "--program", self.keeping, "--record", self.record,
-                 "--as-root", *self.more]
+                 "--as-root", *BY, *self.more]
         for net in self.networks if "--wires" not in self.more else ():
             words += ["--wire", f"{net.bssid}={net.port}"]
         with open(self.log, "wb") as log:
