@@ -19,6 +19,9 @@ MTU = 2304
 ADDRESS_MODE, NO_ADDRESS = "/proc/sys/net/ipv6/conf/{}/addr_gen_mode", "none"
 ADDRESS_MODES = {"0": "eui64", "1": "none", "2": "stable_secret", "3": "random"}
 RUNNING, UNMANAGED = "/run/NetworkManager", "/run/NetworkManager/conf.d/{}.conf"
+# The words of `iw` for the interface of a network, which has this address; `flags` have to stand last.
+KINDS = {Way.ACTIVE_MONITORS: "monitor addr {} flags active", Way.MANAGED: "managed addr {}",
+         Way.ACCESS_POINTS: "__ap addr {}"}
 # What `ethtool -K` calls an offload, and `ethtool -k`.
 RECEIVING = {"gro": "generic-receive-offload", "lro": "large-receive-offload"}
 SENDING = {"tx": "tx-checksumming", "gso": "generic-segmentation-offload", "tso": "tcp-segmentation-offload"}
@@ -191,14 +194,7 @@ class SettingUp:
 
     def set_up_network(self, part: NetworkPart) -> None:
         """Adds the interface that stands for a network, and brings it up."""
-        match part.way:
-            case Way.ACTIVE_MONITORS:  # `flags` have to stand last
-                words = "type", "monitor", "addr", address_text(part.bssid), "flags", "active"
-            case Way.MANAGED:
-                words = "type", "managed", "addr", address_text(part.bssid)
-            case Way.ACCESS_POINTS:
-                words = "type", "__ap", "addr", address_text(part.bssid)
-        self.add(part.interface, *words)
+        self.add(part.interface, "type", *KINDS[part.way].format(address_text(part.bssid)).split())
         self.keep_without_address(part.interface)
         self.bring_network_up(part)
 
