@@ -20,20 +20,21 @@ from contextlib import ExitStack
 from dataclasses import replace
 from unittest import mock
 
-from frames import address_of
+from frames import address_of, address_text
 from live import (asking, changes, checks, keeping, machine, record, rights, running, serving, setting_up, showing,
                   telling, wires)
 from live.bridge import Bridge, Signals
 from live.changes import Change, Changes
-from live.checks import (Plan, Wanted, check_abilities, check_bridge, check_config, check_left, check_names, check_port,
+from live.checks import (Plan, Wanted, check_bridge, check_channel, check_config, check_left, check_names, check_port,
                          check_program, check_record, check_wires, face_of, read_wires, set_country)
 from live.faults import Fault
 from live.machine import Interface
-from live.phys import read_phy
+from live.phys import ACCESS_POINT, MANAGED, read_phy
 from live.record import make_record
 from live.rights import Rights
 from live.service import Service
 from live.settings import Network, Settings, read_settings
+from live.ways import Way, kernel_of, ways_of
 from statuses import document, network, only_known, station
 
 TOOLS = os.path.dirname(os.path.dirname(os.path.realpath(__file__)))
@@ -67,6 +68,7 @@ SIMULATED = """Wiphy phy0
 \t\tFrequencies:
 \t\t\t* 2412 MHz [1] (20.0 dBm)
 \t\t\t* 2437 MHz [6] (20.0 dBm)
+\t\t\t* 2462 MHz [11] (20.0 dBm)
 \t\t\t* 2467 MHz [12] (20.0 dBm) (no IR)
 \t\t\t* 2484 MHz [14] (disabled)
 \tBand 2:
@@ -82,6 +84,7 @@ SIMULATED = """Wiphy phy0
 \t\t   total <= 2050, #channels <= 1, radar detect widths: { 20 MHz (no HT), 20 MHz }
 
 \tDevice supports TX status socket option.
+\tDevice supports active monitor (which will ACK incoming frames)
 """
 SMALL = """\tSupported interface modes:
 \t\t * managed
@@ -118,7 +121,8 @@ class Radios(unittest.TestCase):
     def test_simulated(self):
         """Many networks, and of its channels those that may be used."""
         phy = read_phy(SIMULATED)
-        self.assertEqual(phy.most_networks(), 2048)
+        self.assertEqual([phy.most_networks(mode) for mode in (MANAGED, ACCESS_POINT)], [2048, 2048])
+        self.assertEqual((phy.has_active_monitors, phy.has_contexts), (True, False))
         self.assertIsNone(phy.fault_of(2437))
         self.assertEqual([phy.fault_of(frequency) for frequency in (2467, 2484, 5260, 2407)],
                          ["no IR", "disabled", "no IR", "this radio doesn't have it"])
@@ -126,27 +130,77 @@ class Radios(unittest.TestCase):
     def test_small(self):
         """Without combinations it has one interface beside the monitor."""
         phy = read_phy(SMALL)
-        self.assertEqual((phy.most_networks(), phy.fault_of(2437)), (1, None))
+        self.assertEqual([phy.most_networks(mode) for mode in (MANAGED, ACCESS_POINT)], [1, 0])
+        self.assertEqual((phy.fault_of(2437), phy.has_active_monitors), (None, False))
 
     def test_monitor_that_is_counted(self):
-        """Where the monitor is one of the combination, it takes a place."""
-        self.assertEqual(read_phy(COUNTED).most_networks(), 2)
+        """Where the monitor is one of the combination, it takes a place; access points that none has beside them are
+        none."""
+        phy = read_phy(COUNTED)
+        self.assertEqual([phy.most_networks(mode) for mode in (MANAGED, ACCESS_POINT)], [2, 0])
 
-    def settings(self, networks, channel=6):
-        """Settings of so many networks."""
-        return Settings(channel, 100, tuple(Network(bytes([2, 0, 0, 0, 0, place]), b"\x82")
-                                            for place in range(networks)))
+    def test_channels(self):
+        """More than one at a time are a sign of channel contexts."""
+        self.assertTrue(read_phy(SIMULATED.replace("#channels <= 1", "#channels <= 2")).has_contexts)
 
-    def test_faults(self):
-        """Each is told by name."""
-        for text, settings, says in (
-                (SMALL, self.settings(2), "allows 1 managed interfaces"),
-                (SMALL.replace("* monitor", "* AP"), self.settings(1), "no mode monitor"),
-                (SIMULATED, self.settings(1, 12), "channel 12 (2467 MHz): no IR"),
-                (SIMULATED, self.settings(1, 14), "channel 14 (2484 MHz): disabled")):
-            with self.assertRaisesRegex(Fault, says.replace("(", r"\(").replace(")", r"\)")):
-                check_abilities("phy0", read_phy(text), settings)
-        check_abilities("phy0", read_phy(SIMULATED), self.settings(16))
+    def test_channel_that_may_not_be_used(self):
+        """It is told by name."""
+        for channel, says in ((12, r"channel 12 \(2467 MHz\): no IR"), (14, r"channel 14 \(2484 MHz\): disabled")):
+            with self.assertRaisesRegex(Fault, says):
+                check_channel(read_phy(SIMULATED), Settings(channel, 100, ()))
+        check_channel(read_phy(SIMULATED), Settings(6, 100, ()))
+
+
+class Ways(unittest.TestCase):
+    """Which way a radio takes on a kernel."""
+
+    PASSIVE = SIMULATED.replace("Device supports active monitor", "Device supports nothing")
+    CONTEXTS = PASSIVE.replace("#channels <= 1", "#channels <= 2")
+    OLD, NEW = (6, 1), (6, 12)
+
+    def ways(self, text, kernel, networks=3, forced=None):
+        """The ways of a radio."""
+        return ways_of("phy0", read_phy(text), kernel, networks, forced)
+
+    def test_rule(self):
+        """Active monitors where the radio has them; else managed interfaces before Linux 6.9, and then access points."""
+        for text, kernel, wanted in (
+                (SIMULATED, self.OLD, (Way.ACTIVE_MONITORS,)), (SIMULATED, self.NEW, (Way.ACTIVE_MONITORS,)),
+                (self.PASSIVE, self.OLD, (Way.MANAGED, Way.ACCESS_POINTS)),
+                (self.PASSIVE, (6, 8), (Way.MANAGED, Way.ACCESS_POINTS)), (self.PASSIVE, (6, 9), (Way.ACCESS_POINTS,)),
+                (self.PASSIVE, self.NEW, (Way.ACCESS_POINTS,)), (self.PASSIVE, (7, 3), (Way.ACCESS_POINTS,)),
+                (self.CONTEXTS, self.OLD, (Way.ACCESS_POINTS,))):
+            self.assertEqual(self.ways(text, kernel), wanted, kernel)
+
+    def test_number_of_networks(self):
+        """A way that doesn't hold so many is left out; active monitors hold any number."""
+        self.assertEqual(self.ways(SIMULATED, self.OLD, 3000), (Way.ACTIVE_MONITORS,))
+        self.assertEqual(self.ways(SMALL, self.OLD, 1), (Way.MANAGED,))
+        with self.assertRaisesRegex(Fault, "not by managed interfaces: it allows 1 of them beside a monitor interface, and 2"):
+            self.ways(SMALL, self.OLD, 2)
+
+    def test_forced(self):
+        """It is the only one, and refused where the radio or the kernel can't."""
+        self.assertEqual(self.ways(SIMULATED, self.OLD, forced=Way.MANAGED), (Way.MANAGED,))
+        self.assertEqual(self.ways(SIMULATED, self.NEW, forced=Way.ACCESS_POINTS), (Way.ACCESS_POINTS,))
+        for text, way, says in ((SIMULATED, Way.MANAGED, "from kernel 6.9 on they take the channel away"),
+                                (self.PASSIVE, Way.ACTIVE_MONITORS, "it has no active monitors"),
+                                (SMALL, Way.ACCESS_POINTS, "it has no mode AP")):
+            with self.assertRaisesRegex(Fault, f"^phy0: .*not by {way.interfaces}: {says}"):
+                self.ways(text, self.NEW, 1, way)
+
+    def test_none(self):
+        """Each way is told, with why the radio can't take it."""
+        with self.assertRaises(Fault) as refused:
+            self.ways(SMALL.replace("* monitor", "* AP"), self.NEW)
+        self.assertEqual(str(refused.exception).count("it has no mode monitor"), 3)
+
+    def test_kernels(self):
+        """The version of a release; one that tells none is a fault."""
+        self.assertEqual([kernel_of(text) for text in ("6.1.0-50-amd64", "6.12.117+deb13-amd64", "7.3.4")],
+                         [(6, 1), (6, 12), (7, 3)])
+        with self.assertRaisesRegex(Fault, "tells no version"):
+            kernel_of("unknown")
 
 
 class OnMachine(unittest.TestCase):
@@ -155,11 +209,13 @@ class OnMachine(unittest.TestCase):
     SETTINGS = Settings(6, 100, (Network(OURS, b"\x82"), Network(OTHER, b"\x82")))
     WIRES = ((OURS, "nowire1"),)
     WANTED = Wanted("radio.toml", "apctl", "bridge", "phy9", "mon0", WIRES, None, None)
-    RADIO = [
+    MONITOR = [
         "iw phy phy9 interface add mon0 type monitor flags control", "ip link set mon0 mtu 2304",
-        "ip link set mon0 up", "iw dev mon0 set freq 2437",
-        "iw phy phy9 interface add mon0n1 type managed addr 02:00:00:00:01:01", "ip link set mon0n1 up",
-        "iw phy phy9 interface add mon0n2 type managed addr 02:00:00:00:01:02", "ip link set mon0n2 up"]
+        "ip link set mon0 up", "iw dev mon0 set freq 2437", "ip link set mon0 down", "ip link set mon0 up",
+        "iw dev mon0 info"]
+    RADIO = MONITOR + [
+        "iw phy phy9 interface add mon0n1 type monitor addr 02:00:00:00:01:01 flags active", "ip link set mon0n1 up",
+        "iw phy phy9 interface add mon0n2 type monitor addr 02:00:00:00:01:02 flags active", "ip link set mon0n2 up"]
     # What `ethtool -k` and `ethtool -i` say of a veth.
     ANSWERS = {"-k": "Features for nowire1:\ngeneric-receive-offload: on\nlarge-receive-offload: off [fixed]\n",
                "-i": "driver: veth\n"}
@@ -167,6 +223,7 @@ class OnMachine(unittest.TestCase):
     def setUp(self):
         self.commands = []
         self.failing = None
+        self.channel = ""  # what `iw` says of the monitor interface
         folder = tempfile.TemporaryDirectory()
         self.addCleanup(folder.cleanup)
         self.folder = folder.name
@@ -183,7 +240,18 @@ class OnMachine(unittest.TestCase):
         self.commands.append(" ".join(words))
         if self.commands[-1] == self.failing:
             raise Fault("it failed")
-        return self.ANSWERS.get(words[1], "") if words[0] == "ethtool" else ""
+        match words:
+            case ("ethtool", word, *_):
+                return self.ANSWERS.get(word, "")
+            case ("iw", "dev", _, "set", "freq", frequency):
+                self.channel = self.channel or f"channel 6 ({frequency} MHz), width: 20 MHz (no HT)"
+            case ("iw", "dev", _, "info"):
+                return f"Interface mon0\n\t{self.channel}\n"
+            case ("iw", "dev", "mon0", "del"):
+                self.channel = ""
+            case ("iw", "phy", _, "info"):
+                return SIMULATED
+        return ""
 
 
 class Machine(OnMachine):
@@ -199,9 +267,10 @@ class Machine(OnMachine):
                 before = len(self.commands)
         return self.commands[:before], self.commands[before:], told.getvalue()
 
-    def plan(self, bssids=(OURS, OTHER), wires=(), channel=6):
+    def plan(self, bssids=(OURS, OTHER), wires=(), channel=6, ways=(Way.ACTIVE_MONITORS,)):
         """A plan of networks with these addresses."""
-        return Plan(Settings(channel, 100, tuple(Network(bssid, b"\x82") for bssid in bssids)), wires, "text")
+        networks = tuple(Network(bssid, b"\x82") for bssid in bssids)
+        return Plan(Settings(channel, 100, networks), wires, "text", ways=ways)
 
     def test_radio(self):
         """The channel is set while the monitor interface is alone; what was added is deleted, and nothing else."""
@@ -210,29 +279,63 @@ class Machine(OnMachine):
         self.assertEqual(taken_back, ["iw dev mon0n2 del", "iw dev mon0n1 del", "iw dev mon0 del"])
         self.assertEqual(os.listdir(self.folder), ["phy9.lock"])
 
+    def test_ways(self):
+        """The interfaces of networks are of the kind that the plan names; each that isn't of that kind is set up anew."""
+        kinds = {Way.MANAGED: "managed addr 02:00:00:00:01:01", Way.ACTIVE_MONITORS: "monitor addr 02:00:00:00:01:01 flags active"}
+        for way, kind in kinds.items():
+            made, _, _ = self.changed(self.plan((OURS,), ways=(way,)))
+            self.assertEqual(made, [*self.MONITOR, f"iw phy phy9 interface add mon0n1 type {kind}", "ip link set mon0n1 up"])
+            self.commands.clear()
+        made, _, _ = self.changed(*(self.plan((OURS,), ways=(way,)) for way in kinds))
+        self.assertEqual(made[9:12], ["iw dev mon0n1 del", "iw dev mon0 del", self.MONITOR[0]])
+
+    def test_access_points(self):
+        """The kernel's beacon is as rare as it allows, and of an address that no network has, those with the radio's own
+        one included."""
+        own = {OURS: "000000000101", address_of("02:00:00:00:00:00"): "020000000000"}
+        for bssid, sender in own.items():
+            with mock.patch.object(machine, "read_file", lambda *_, bssid=bssid: address_text(bssid)):
+                made, taken_back, _ = self.changed(self.plan((OURS,), ways=(Way.ACCESS_POINTS,)))
+            self.assertEqual(made[7:], [
+                "iw phy phy9 interface add mon0n1 type __ap addr 02:00:00:00:01:01",
+                "ip link set mon0n1 addrgenmode none", "ip link set mon0n1 up",
+                "iw dev mon0n1 ap start waltigon 2437 10000 1 hidden-ssid head 80000000ffffffffffff"
+                f"{sender}{sender}00000000000000000000" "1027" "0000" "0000" "010182"])
+            self.assertEqual(taken_back, ["iw dev mon0n1 del", "iw dev mon0 del"])
+            self.commands.clear()
+
+    def test_another_channel_than_was_asked_for(self):
+        """It is told, and what was set up is taken back; so it is where the kernel names none."""
+        for said, says in (("channel 1 (2412 MHz), width: 20 MHz", "was set to 2437 MHz, and mon0 is on 2412 MHz"),
+                           ("type monitor", "was set to 2437 MHz, and mon0 is on no channel")):
+            self.channel = said
+            with self.assertRaisesRegex(Fault, f"^phy9: .*{says}"):
+                self.changed(self.plan())
+            self.assertEqual(self.commands[-2:], ["iw dev mon0 info", "iw dev mon0 del"])
+
     def test_what_stays_is_left_alone(self):
         """A plan like the one before changes nothing; one with another network that one's interface alone."""
         made, taken_back, _ = self.changed(self.plan(), self.plan(), self.plan((OURS, STRANGER)), self.plan((OURS,)))
         self.assertEqual(made[len(self.RADIO):], [
-            "iw dev mon0n2 del", "iw phy phy9 interface add mon0n2 type managed addr 02:bb:00:00:00:01",
+            "iw dev mon0n2 del", "iw phy phy9 interface add mon0n2 type monitor addr 02:bb:00:00:00:01 flags active",
             "ip link set mon0n2 up", "iw dev mon0n2 del"])
         self.assertEqual(taken_back, ["iw dev mon0n1 del", "iw dev mon0 del"])
 
     def test_another_channel(self):
         """It can only be set while the monitor interface is alone: all of the radio is set up anew, and no wire is."""
         made, _, _ = self.changed(self.plan((OURS,), self.WIRES), self.plan((OURS,), self.WIRES, 11))
-        self.assertEqual(made[10:], [
-            "iw dev mon0n1 del", "iw dev mon0 del", *self.RADIO[:3], "iw dev mon0 set freq 2462", *self.RADIO[4:6]])
+        self.assertEqual(made[13:], [
+            "iw dev mon0n1 del", "iw dev mon0 del", *self.RADIO[:3], "iw dev mon0 set freq 2462", *self.RADIO[4:9]])
 
     def test_wires_that_change(self):
         """A wire that is given no more is taken back before another is set up."""
         self.changed(self.plan((OURS,), self.WIRES), self.plan((OURS,), ((OURS, "nowire2"),)))
-        self.assertEqual(self.commands[10:13], [
+        self.assertEqual(self.commands[13:16], [
             "ip link set nowire1 down", "ethtool -K nowire1 gro on", "ethtool -k nowire2"])
 
     def test_fault_in_the_middle(self):
         """What was done before it is taken back, where one of these fails too the others."""
-        self.failing = "iw phy phy9 interface add mon0n2 type managed addr 02:00:00:00:01:02"
+        self.failing = "iw phy phy9 interface add mon0n2 type monitor addr 02:00:00:00:01:02 flags active"
         with self.assertRaisesRegex(Fault, "it failed"):
             self.changed(self.plan())
         self.assertEqual(self.commands[-2:], ["iw dev mon0n1 del", "iw dev mon0 del"])
@@ -371,8 +474,7 @@ class HandedOn(OnMachine):
         self.patch(machine, "country", lambda: self.found_country)
         self.patch(machine, "radios", lambda: ["phy9"])
         self.patch(machine, "interfaces", lambda: [Interface(name) for name in (*self.phys, "nowire1")])
-        self.patch(checks, "check_abilities", lambda *_: None)
-        self.patch(checks, "read_phy", lambda text: text)
+        self.patch(checks, "this_kernel", lambda: (6, 12))
 
     def patch(self, where, name, value):
         """Puts something in place until the test ends."""
@@ -386,7 +488,8 @@ class HandedOn(OnMachine):
             case ("iw", "reg", "set", country):
                 self.found_country = country
             case ("iw", "phy", phy, "interface", "add", name, *more):
-                self.phys[name], self.addresses[name] = phy, more[-1]
+                self.phys[name] = phy
+                self.addresses[name] = more[more.index("addr") + 1] if "addr" in more else None
             case ("iw", "dev", name, "del"):
                 del self.phys[name]
                 self.up.discard(name)
@@ -405,11 +508,11 @@ class HandedOn(OnMachine):
         self.made = made
         with contextlib.redirect_stderr(io.StringIO()) as told, ExitStack() as stack:
             stack.callback(made.close)
-            checks.check_radio(wanted, settings, made, stack)
-            setting_up.SettingUp(wanted, made, stack).follow(Plan(settings, wires, "text"))
+            ways = checks.check_radio(wanted, settings, made, stack)
+            setting_up.SettingUp(wanted, made, stack).follow(Plan(settings, wires, "text", ways=ways))
             done, self.commands = self.commands, []
             if hands_on:
-                made.hand_on(checks.as_set_up(settings))
+                made.hand_on(checks.as_set_up(settings, Way.ACTIVE_MONITORS))
         ended, self.commands = self.commands, []
         return done, ended, told.getvalue()
 
@@ -417,14 +520,14 @@ class HandedOn(OnMachine):
         """A start leaves all as it is set up."""
         self.made.close()
         done, ended, _ = self.start(self.WORDS, self.SETTINGS, hands_on=True)
-        self.assertEqual((done[0], done[-len(self.RADIO):]), ("iw reg set DE", self.RADIO))
+        self.assertEqual((done[1], done[-len(self.RADIO):]), ("iw reg set DE", self.RADIO))
         self.assertEqual(ended, [])
 
     def test_goes_on(self):
         """Nothing of the radio is set up anew, and all is taken back in the end, in reverse order."""
         self.hand_on()
         done, ended, told = self.start(self.WORDS, self.SETTINGS)
-        self.assertEqual(done, ["iw phy phy9 info", "ethtool -k nowire1", "ethtool -i nowire1"])
+        self.assertEqual(done, ["iw phy phy9 info"] * 2 + ["ethtool -k nowire1", "ethtool -i nowire1"])
         self.assertEqual(ended, [
             "iw dev mon0n2 del", "iw dev mon0n1 del", "iw dev mon0 del", "ip link set nowire1 down",
             "ethtool -K nowire1 gro on", "iw reg set 00"])
@@ -442,7 +545,7 @@ class HandedOn(OnMachine):
         """A wire that is given no more."""
         self.hand_on()
         done, ended, _ = self.start(self.WORDS, self.SETTINGS, wires=())
-        self.assertEqual(done[1:], ["ip link set nowire1 down", "ethtool -K nowire1 gro on"])
+        self.assertEqual(done[2:], ["ip link set nowire1 down", "ethtool -K nowire1 gro on"])
         self.assertEqual(ended, ["iw dev mon0n2 del", "iw dev mon0n1 del", "iw dev mon0 del", "iw reg set 00"])
 
     def test_another_radio_than_it_would_be(self):
@@ -457,7 +560,9 @@ class HandedOn(OnMachine):
                 (self.WORDS, self.SETTINGS, lambda: self.addresses.update(mon0n1="02:00:00:00:01:09")),
                 (self.WORDS, self.SETTINGS, lambda: self.up.remove("mon0n2")),
                 (self.WORDS, self.SETTINGS, lambda: setattr(self, "found_country", "US")),
-                (self.WORDS, self.SETTINGS, lambda: self.write("2 2437\n")),
+                (replace(self.WORDS, way=Way.ACCESS_POINTS), self.SETTINGS, lambda: None),
+                (self.WORDS, self.SETTINGS, lambda: self.write("1 2437\n")),
+                (self.WORDS, self.SETTINGS, lambda: self.write("2 managed 2437\n")),
                 (self.WORDS, self.SETTINGS, lambda: self.write("")),
                 (self.WORDS, self.SETTINGS, lambda: os.unlink(os.path.join(self.folder, "phy9.stay")))):
             self.setUp()
@@ -1175,7 +1280,7 @@ class Running(WithFiles):
                          "^--name live --face octets --phy phy0 --channel 6 --monitor mon0 --interval 100 --idle 300 --socket [0-9]+ "
                          f"--record [0-9]+:{self.path('a.trace')} --bounds [0-9]+ --network 02:00:00:00:01:01/6c6162/82840b16/8/16/1/wire1 apctl {self.config}\n$")
         self.assertEqual(self.read("asked"), "state\nopen\ntables\n")
-        self.assertRegex(self.told.getvalue(), "^live: 1 networks are on channel 6; Ctrl-C ends it, .*\nlive: the program "
+        self.assertRegex(self.told.getvalue(), "^live: 1 networks are on channel 6, by active monitor interfaces; Ctrl-C ends it, .*\nlive: the program "
                                                "ended with status 0; taking down what was set up\n$")
         self.assertEqual(len(self.followed), 1)
         self.assertEqual([name for name in os.listdir(self.folder) if name.startswith("phy0.")], ["phy0.lock"])
@@ -1187,7 +1292,7 @@ class Running(WithFiles):
             self.end()
         self.run_bridge(later)
         self.assertIn("; all stays as it is set up, for the next start\n", self.told.getvalue())
-        self.assertEqual(self.read("phy0.stay"), "1 2437\n")
+        self.assertEqual(self.read("phy0.stay"), "2 active-monitors 2437\n")
         left = ["phy0.lock", "phy0.state.0", "phy0.state.1", "phy0.stay"]
         self.assertEqual(sorted(name for name in os.listdir(self.folder) if name.startswith("phy0.")), left)
         self.run_bridge(self.end)

@@ -93,7 +93,7 @@ class AccessPoint:
             stays = self.signals.is_ending and self.made.is_to_stay()
             self.bridge.end("all stays as it is set up, for the next start" if stays else "taking down what was set up")
         if stays:
-            self.made.hand_on(as_set_up(self.plan.settings))
+            self.made.hand_on(as_set_up(self.plan.settings, self.plan.way))
             self.state.leave()
 
     def open(self) -> None:
@@ -187,10 +187,10 @@ class AccessPoint:
 
     def tell_of_networks(self) -> None:
         """The first beacon was seen as sent."""
-        number, channel = len(self.plan.settings.networks), self.plan.settings.channel
-        tell(f"{number} networks are on channel {channel}; Ctrl-C ends it, `kill -USR1 {os.getpid()}` shows the "
-             f"tables, `kill -HUP {os.getpid()}` reads {self.wanted.config} again")
-        self.service.ready(f"{number} networks are on channel {channel}")
+        served = f"{len(self.plan.settings.networks)} networks are on channel {self.plan.settings.channel}"
+        tell(f"{served}, by {self.plan.way.interfaces}; Ctrl-C ends it, `kill -USR1 {os.getpid()}` shows the tables, "
+             f"`kill -HUP {os.getpid()}` reads {self.wanted.config} again")
+        self.service.ready(served)
 
     def reload(self) -> None:
         """Reads the configuration again: where it has a fault, or the program doesn't take it, all stays as it is; else
