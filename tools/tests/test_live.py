@@ -25,20 +25,19 @@ from live import (asking, changes, checks, keeping, machine, record, rights, run
                   telling, wires)
 from live.bridge import Bridge, Signals
 from live.changes import Change, Changes
-from live.checks import (Plan, Wanted, check_bridge, check_channel, check_config, check_left, check_names, check_port,
+from live.checks import (Plan, Wanted, check_bridge, check_config, check_left, check_names, check_port,
                          check_program, check_record, check_wires, face_of, read_wires, set_country)
 from live.faults import Fault
 from live.machine import Interface
-from live.phys import ACCESS_POINT, MANAGED, read_phy
 from live.record import make_record
 from live.rights import Rights
 from live.service import Service
 from live.settings import Network, Settings, read_settings
-from live.ways import Way, kernel_of, ways_of
+from live.ways import Way
+from machines import OTHER, OURS, OnMachine
 from statuses import document, network, only_known, station
 
 TOOLS = os.path.dirname(os.path.dirname(os.path.realpath(__file__)))
-OURS, OTHER = address_of("02:00:00:00:01:01"), address_of("02:00:00:00:01:02")
 STRANGER = address_of("02:bb:00:00:00:01")
 CONFIG = """version = 1
 channel = 6
@@ -54,58 +53,6 @@ max_known = 16
 quota = 8
 max_events = 100
 """
-# Of `iw phy phy0 info` of mac80211_hwsim, kernel 6.1, iw 5.19; lines that say nothing of these things are left out.
-SIMULATED = """Wiphy phy0
-\twiphy index: 0
-\tSupported interface modes:
-\t\t * IBSS
-\t\t * managed
-\t\t * AP
-\t\t * AP/VLAN
-\t\t * monitor
-\t\t * mesh point
-\tBand 1:
-\t\tFrequencies:
-\t\t\t* 2412 MHz [1] (20.0 dBm)
-\t\t\t* 2437 MHz [6] (20.0 dBm)
-\t\t\t* 2462 MHz [11] (20.0 dBm)
-\t\t\t* 2467 MHz [12] (20.0 dBm) (no IR)
-\t\t\t* 2484 MHz [14] (disabled)
-\tBand 2:
-\t\tFrequencies:
-\t\t\t* 5260 MHz [52] (20.0 dBm) (no IR, radar detection)
-\tSupported commands:
-\t\t * new_interface
-\tsoftware interface modes (can always be added):
-\t\t * AP/VLAN
-\t\t * monitor
-\tvalid interface combinations:
-\t\t * #{ IBSS } <= 1, #{ managed, AP, mesh point, P2P-client, P2P-GO } <= 2048, #{ P2P-device } <= 1,
-\t\t   total <= 2050, #channels <= 1, radar detect widths: { 20 MHz (no HT), 20 MHz }
-
-\tDevice supports TX status socket option.
-\tDevice supports active monitor (which will ACK incoming frames)
-"""
-SMALL = """\tSupported interface modes:
-\t\t * managed
-\t\t * monitor
-\tBand 1:
-\t\tFrequencies:
-\t\t\t* 2437.0 MHz [6] (20.0 dBm)
-\tsoftware interface modes (can always be added):
-\t\t * monitor
-\tinterface combinations are not supported
-"""
-COUNTED = """\tSupported interface modes:
-\t\t * managed
-\t\t * monitor
-\tsoftware interface modes (can always be added):
-\tvalid interface combinations:
-\t\t * #{ managed } <= 2, #{ AP } <= 1,
-\t\t   total <= 2, #channels <= 1
-\t\t * #{ managed, monitor } <= 3,
-\t\t   total <= 3, #channels <= 1
-"""
 
 
 def setUpModule():
@@ -113,145 +60,6 @@ def setUpModule():
     called_so = mock.patch.object(sys, "argv", ["tools/live"])
     called_so.start()
     unittest.addModuleCleanup(called_so.stop)
-
-
-class Radios(unittest.TestCase):
-    """What `iw` says of a radio."""
-
-    def test_simulated(self):
-        """Many networks, and of its channels those that may be used."""
-        phy = read_phy(SIMULATED)
-        self.assertEqual([phy.most_networks(mode) for mode in (MANAGED, ACCESS_POINT)], [2048, 2048])
-        self.assertEqual((phy.has_active_monitors, phy.has_contexts), (True, False))
-        self.assertIsNone(phy.fault_of(2437))
-        self.assertEqual([phy.fault_of(frequency) for frequency in (2467, 2484, 5260, 2407)],
-                         ["no IR", "disabled", "no IR", "this radio doesn't have it"])
-
-    def test_small(self):
-        """Without combinations it has one interface beside the monitor."""
-        phy = read_phy(SMALL)
-        self.assertEqual([phy.most_networks(mode) for mode in (MANAGED, ACCESS_POINT)], [1, 0])
-        self.assertEqual((phy.fault_of(2437), phy.has_active_monitors), (None, False))
-
-    def test_monitor_that_is_counted(self):
-        """Where the monitor is one of the combination, it takes a place; access points that none has beside them are
-        none."""
-        phy = read_phy(COUNTED)
-        self.assertEqual([phy.most_networks(mode) for mode in (MANAGED, ACCESS_POINT)], [2, 0])
-
-    def test_channels(self):
-        """More than one at a time are a sign of channel contexts."""
-        self.assertTrue(read_phy(SIMULATED.replace("#channels <= 1", "#channels <= 2")).has_contexts)
-
-    def test_channel_that_may_not_be_used(self):
-        """It is told by name."""
-        for channel, says in ((12, r"channel 12 \(2467 MHz\): no IR"), (14, r"channel 14 \(2484 MHz\): disabled")):
-            with self.assertRaisesRegex(Fault, says):
-                check_channel(read_phy(SIMULATED), Settings(channel, 100, ()))
-        check_channel(read_phy(SIMULATED), Settings(6, 100, ()))
-
-
-class Ways(unittest.TestCase):
-    """Which way a radio takes on a kernel."""
-
-    PASSIVE = SIMULATED.replace("Device supports active monitor", "Device supports nothing")
-    CONTEXTS = PASSIVE.replace("#channels <= 1", "#channels <= 2")
-    OLD, NEW = (6, 1), (6, 12)
-
-    def ways(self, text, kernel, networks=3, forced=None):
-        """The ways of a radio."""
-        return ways_of("phy0", read_phy(text), kernel, networks, forced)
-
-    def test_rule(self):
-        """Active monitors where the radio has them; else managed interfaces before Linux 6.9, and then access points."""
-        for text, kernel, wanted in (
-                (SIMULATED, self.OLD, (Way.ACTIVE_MONITORS,)), (SIMULATED, self.NEW, (Way.ACTIVE_MONITORS,)),
-                (self.PASSIVE, self.OLD, (Way.MANAGED, Way.ACCESS_POINTS)),
-                (self.PASSIVE, (6, 8), (Way.MANAGED, Way.ACCESS_POINTS)), (self.PASSIVE, (6, 9), (Way.ACCESS_POINTS,)),
-                (self.PASSIVE, self.NEW, (Way.ACCESS_POINTS,)), (self.PASSIVE, (7, 3), (Way.ACCESS_POINTS,)),
-                (self.CONTEXTS, self.OLD, (Way.ACCESS_POINTS,))):
-            self.assertEqual(self.ways(text, kernel), wanted, kernel)
-
-    def test_number_of_networks(self):
-        """A way that doesn't hold so many is left out; active monitors hold any number."""
-        self.assertEqual(self.ways(SIMULATED, self.OLD, 3000), (Way.ACTIVE_MONITORS,))
-        self.assertEqual(self.ways(SMALL, self.OLD, 1), (Way.MANAGED,))
-        with self.assertRaisesRegex(Fault, "not by managed interfaces: it allows 1 of them beside a monitor interface, and 2"):
-            self.ways(SMALL, self.OLD, 2)
-
-    def test_forced(self):
-        """It is the only one, and refused where the radio or the kernel can't."""
-        self.assertEqual(self.ways(SIMULATED, self.OLD, forced=Way.MANAGED), (Way.MANAGED,))
-        self.assertEqual(self.ways(SIMULATED, self.NEW, forced=Way.ACCESS_POINTS), (Way.ACCESS_POINTS,))
-        for text, way, says in ((SIMULATED, Way.MANAGED, "from kernel 6.9 on they take the channel away"),
-                                (self.PASSIVE, Way.ACTIVE_MONITORS, "it has no active monitors"),
-                                (SMALL, Way.ACCESS_POINTS, "it has no mode AP")):
-            with self.assertRaisesRegex(Fault, f"^phy0: .*not by {way.interfaces}: {says}"):
-                self.ways(text, self.NEW, 1, way)
-
-    def test_none(self):
-        """Each way is told, with why the radio can't take it."""
-        with self.assertRaises(Fault) as refused:
-            self.ways(SMALL.replace("* monitor", "* AP"), self.NEW)
-        self.assertEqual(str(refused.exception).count("it has no mode monitor"), 3)
-
-    def test_kernels(self):
-        """The version of a release; one that tells none is a fault."""
-        self.assertEqual([kernel_of(text) for text in ("6.1.0-50-amd64", "6.12.117+deb13-amd64", "7.3.4")],
-                         [(6, 1), (6, 12), (7, 3)])
-        with self.assertRaisesRegex(Fault, "tells no version"):
-            kernel_of("unknown")
-
-
-class OnMachine(unittest.TestCase):
-    """A machine whose commands are only kept here."""
-
-    SETTINGS = Settings(6, 100, (Network(OURS, b"\x82"), Network(OTHER, b"\x82")))
-    WIRES = ((OURS, "nowire1"),)
-    WANTED = Wanted("radio.toml", "apctl", "bridge", "phy9", "mon0", WIRES, None, None)
-    MONITOR = [
-        "iw phy phy9 interface add mon0 type monitor flags control", "ip link set mon0 mtu 2304",
-        "ip link set mon0 up", "iw dev mon0 set freq 2437", "ip link set mon0 down", "ip link set mon0 up",
-        "iw dev mon0 info"]
-    RADIO = MONITOR + [
-        "iw phy phy9 interface add mon0n1 type monitor addr 02:00:00:00:01:01 flags active", "ip link set mon0n1 up",
-        "iw phy phy9 interface add mon0n2 type monitor addr 02:00:00:00:01:02 flags active", "ip link set mon0n2 up"]
-    # What `ethtool -k` and `ethtool -i` say of a veth.
-    ANSWERS = {"-k": "Features for nowire1:\ngeneric-receive-offload: on\nlarge-receive-offload: off [fixed]\n",
-               "-i": "driver: veth\n"}
-
-    def setUp(self):
-        self.commands = []
-        self.failing = None
-        self.channel = ""  # what `iw` says of the monitor interface
-        folder = tempfile.TemporaryDirectory()
-        self.addCleanup(folder.cleanup)
-        self.folder = folder.name
-        self.made = Changes("phy9", self.folder)
-        self.addCleanup(self.made.close)
-        for where, name, value in (
-                (machine, "run", self.run_command), (setting_up.shutil, "which", lambda command: None)):
-            patch = mock.patch.object(where, name, value)
-            patch.start()
-            self.addCleanup(patch.stop)
-
-    def run_command(self, *words):
-        """Keeps a command, which fails where the test says so."""
-        self.commands.append(" ".join(words))
-        if self.commands[-1] == self.failing:
-            raise Fault("it failed")
-        match words:
-            case ("ethtool", word, *_):
-                return self.ANSWERS.get(word, "")
-            case ("iw", "dev", _, "set", "freq", frequency):
-                self.channel = self.channel or f"channel 6 ({frequency} MHz), width: 20 MHz (no HT)"
-            case ("iw", "dev", _, "info"):
-                return f"Interface mon0\n\t{self.channel}\n"
-            case ("iw", "dev", "mon0", "del"):
-                self.channel = ""
-            case ("iw", "phy", _, "info"):
-                return SIMULATED
-        return ""
 
 
 class Machine(OnMachine):
@@ -1215,7 +1023,8 @@ class Running(WithFiles):
             self.stack.callback(signal.signal, number, signal.getsignal(number))
         self.told = self.stack.enter_context(contextlib.redirect_stderr(io.StringIO()))
 
-    def run_bridge(self, later=lambda: None, tables=None, does=SENDS, status=0, after="true", port=None):
+    def run_bridge(self, later=lambda: None, tables=None, does=SENDS, status=0, after="true", port=None,
+                   ways=(Way.ACTIVE_MONITORS,)):
         """Runs it; `later` is called by another thread after a while. Of the machine nothing is changed: what is set up
         is only kept."""
         path = self.write("bridge", BRIDGE.format(folder=self.folder, does=does, status=status, after=after), 0o755)
@@ -1223,14 +1032,14 @@ class Running(WithFiles):
         wanted = Wanted(self.config, "apctl", path, "phy0", "mon0", wires, self.path("a.trace"), tables,
                         status=port)
         self.followed, self.outcomes = [], []
-        setting_up = mock.Mock(follow=lambda plan, missing: self.followed.append(plan))
+        setting_up = mock.Mock(follow=lambda plan, missing: self.followed.append(plan), radio_interfaces=lambda: [])
         with ExitStack() as stack:
             for where, name, value in (
                     (changes, "RUN", self.folder), (serving, "page_user_of", lambda _: None),
                     (serving, "check_rights", mock.Mock()), (serving, "SettingUp", lambda *_: setting_up),
                     (serving, "rights_of", lambda _: Rights()), (serving, "open_radio", lambda _: []),
                     (serving, "Wires", lambda _: mock.Mock(are_missing=False, open=lambda plan: {})),
-                    (serving, "check", lambda *_: Plan(read_settings(self.config), wires, "octets")),
+                    (serving, "check", lambda *_: Plan(read_settings(self.config), wires, "octets", ways=ways)),
                     (serving, "check_again", lambda _, before: self.check_again(before))):
                 stack.enter_context(mock.patch.object(where, name, value))
             stack.enter_context(mock.patch.object(running.RunFile, "reloaded", lambda _, fault: self.outcomes.append(fault)))
@@ -1243,7 +1052,7 @@ class Running(WithFiles):
 
     def check_again(self, before):
         """The configuration is read again: where it isn't one that is a fault."""
-        return Plan(read_settings(self.config), before.wires, before.face)
+        return replace(before, settings=read_settings(self.config))
 
     def read(self, name):
         """What the bridge has written."""
@@ -1360,6 +1169,32 @@ class Running(WithFiles):
         changed.join()
         self.assertEqual([plan.settings.channel for plan in self.followed], [6, 11])
         self.assertIn("has changed since it was read, and is read again", self.told.getvalue())
+
+    def test_sends_nothing(self):
+        """Then the radio is set up in the next way; where there is none all ends."""
+        self.write("words", "")
+        nothing = "this radio does not send beside its interfaces: no beacon was seen as sent within 1 second"
+        does = f"[ \"$request\" != open ] || {{ [ -e {self.folder}/second ] || {{ touch {self.folder}/second; break; }}; echo sending; }}"
+        after = f"[ -e {self.folder}/third ] || {{ touch {self.folder}/third; echo 'fault {nothing}'; exit 1; }}"
+        self.run_bridge(lambda: self.end_once_told("networks are on channel"), does=does, after=after,
+                        ways=(Way.MANAGED, Way.ACCESS_POINTS))
+        self.assertEqual([plan.way for plan in self.followed], [Way.MANAGED, Way.ACCESS_POINTS])
+        self.assertIn("by managed interfaces this radio sends nothing, so it serves by access point interfaces; it begins anew",
+                      self.told.getvalue())
+        self.assertIn("1 networks are on channel 6, by access point interfaces", self.told.getvalue())
+        for name in ("second", "third"):
+            os.unlink(self.path(name))
+        with self.assertRaisesRegex(Fault, "^this radio does not send beside its interfaces"):
+            self.run_bridge(does=does, after=after, ways=(Way.ACCESS_POINTS,))
+
+    def test_beacons_and_channel(self):
+        """What the bridge tells of them is told to people."""
+        does = SENDS + "; [ $request = open ] && (sleep 0.3; echo unsent; sleep 0.3; echo sending; echo elsewhere 2412; sleep 0.3; echo here)"
+        self.run_bridge(lambda: self.end_once_told("is on 2437 MHz again"), does=does)
+        told = self.told.getvalue()
+        places = [told.index(text) for text in ("phy0 has told no beacon", "phy0 was set up anew", "phy0 sends again",
+                                                "phy0 is on 2412 MHz, and not on 2437 MHz", "phy0 is on 2437 MHz again")]
+        self.assertEqual(places, sorted(places))
 
     def test_does_not_begin_anew_with_a_fault(self):
         """A configuration that has a fault by then is told, and all ends."""

@@ -78,6 +78,11 @@ class Plan:
         """The one that is taken."""
         return self.ways[0]
 
+    @property
+    def served(self) -> str:
+        """What is served, in few words."""
+        return f"{len(self.settings.networks)} networks are on channel {self.settings.channel}"
+
 
 def check(wanted: Wanted, made: Changes, stack: ExitStack) -> Plan:
     """The plan, where all is as it has to be. What an earlier start left is taken back, and the country is set: all else

@@ -6,6 +6,7 @@ import subprocess
 from dataclasses import dataclass
 
 from live.faults import Fault
+from live.links import MONITOR
 from live.phys import Phy, read_phy
 
 PACKAGES = {"iw": "iw", "ip": "iproute2", "ethtool": "ethtool"}
@@ -97,6 +98,11 @@ class Interface:
     def radio(self) -> str | None:
         """The radio that it is of, or None."""
         return read_file(self.folder, "phy80211", "name")
+
+    @property
+    def is_monitor(self) -> bool:
+        """Whether it is a monitor interface of a radio."""
+        return read_file(self.folder, "type") == str(MONITOR)
 
     @property
     def frequency(self) -> int | None:

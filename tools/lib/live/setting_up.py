@@ -104,6 +104,26 @@ class SettingUp:
             case NetworkPart(name):
                 return {name}
 
+    def radio_interfaces(self) -> list[str]:
+        """The interfaces of the radio that were set up: the monitor interface, and then those of networks."""
+        networks = [part.interface for part in self.parts if isinstance(part, NetworkPart)]
+        return [self.wanted.monitor, *networks] if any(isinstance(part, RadioPart) for part in self.parts) else []
+
+    def set_up_radio_again(self) -> None:
+        """Takes all interfaces of the radio down, and up again in their order, which gives the radio its channel back: the
+        monitor interface is the first that is up."""
+        for name in reversed(self.radio_interfaces()):
+            if Interface(name).exists:
+                machine.run("ip", "link", "set", name, "down")
+        for part in self.parts:
+            match part:
+                case RadioPart(frequency):
+                    self.tune(frequency)
+                case NetworkPart(name):
+                    if not Interface(name).exists:
+                        machine.run(*self.adding(part))
+                    self.bring_network_up(part)
+
     def has_wire(self, interface: Interface) -> bool:
         """Whether this very interface was set up as a wire."""
         return WirePart(interface.name) in self.parts and interface.index == self.indices.get(interface.name)
@@ -174,7 +194,8 @@ class SettingUp:
         radio acknowledges."""
         self.keep_network_manager_out()
         monitor = self.wanted.monitor
-        self.add(monitor, "type", "monitor", "flags", "control")
+        self.change(Change(changes.INTERFACE, monitor),
+                    "iw", "phy", self.wanted.phy, "interface", "add", monitor, "type", "monitor", "flags", "control")
         machine.run("ip", "link", "set", monitor, "mtu", str(MTU))
         self.tune(frequency)
 
@@ -194,19 +215,20 @@ class SettingUp:
 
     def set_up_network(self, part: NetworkPart) -> None:
         """Adds the interface that stands for a network, and brings it up."""
-        self.add(part.interface, "type", *KINDS[part.way].format(address_text(part.bssid)).split())
-        self.keep_without_address(part.interface)
+        self.change(Change(changes.INTERFACE, part.interface), *self.adding(part))
         self.bring_network_up(part)
+
+    def adding(self, part: NetworkPart) -> list[str]:
+        """The command that adds it."""
+        kind = KINDS[part.way].format(address_text(part.bssid)).split()
+        return ["iw", "phy", self.wanted.phy, "interface", "add", part.interface, "type", *kind]
 
     def bring_network_up(self, part: NetworkPart) -> None:
         """Brings it up; a driver may take no more of them, or not with this address."""
+        self.keep_without_address(part.interface)
         machine.run("ip", "link", "set", part.interface, "up")
         if part.way is Way.ACCESS_POINTS:
             machine.run("iw", "dev", part.interface, *start_words(part.frequency, part.beacon_from))
-
-    def add(self, name: str, *words: str) -> None:
-        """Adds an interface to the radio."""
-        self.change(Change(changes.INTERFACE, name), "iw", "phy", self.wanted.phy, "interface", "add", name, *words)
 
     def bring_up(self, name: str) -> None:
         """Sets an interface up, without an address of its own."""
