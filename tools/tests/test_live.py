@@ -659,7 +659,8 @@ class FilesAndPrograms(WithFiles):
         phy = [self.config, "--phy", "phy0"]
         for words in ([], [self.config], [*phy, "--wire", "x=y"], [*phy, "--tables", "0"], [*phy, "--idle", "-1"],
                       [*phy, "--country", "Germany"], [*phy, "--status", "70000"], ["kick"], ["kick", "x", "y"],
-                      ["status", "more"], ["status", "--json", "--watch"], ["reload", "more"]):
+                      ["status", "more"], ["status", "--json", "--watch"], ["reload", "more"], [*phy, "--by", "cable"],
+                      ["check-radio"], ["check-radio", "phy0", "phy1"]):
             self.assertEqual(subprocess.run([tool, *words], capture_output=True, check=False).returncode, 2, words)
         done = subprocess.run([tool, self.config, "--phy", "phy0", "--program", os.path.join(self.folder, "apctl")],
                               capture_output=True, text=True, check=False)
@@ -667,6 +668,9 @@ class FilesAndPrograms(WithFiles):
         done = subprocess.run([tool, "status", "--phy", "no-such-radio"], capture_output=True, text=True, check=False)
         self.assertEqual((done.returncode, done.stdout), (1, ""))
         self.assertIn("no-such-radio.sock: no bridge answers", done.stderr)
+        done = subprocess.run([tool, "check-radio", "no-such-radio"], capture_output=True, text=True, check=False)
+        self.assertEqual((done.returncode, done.stdout), (1, ""))
+        self.assertIn("live: no-such-radio: there is no such radio", done.stderr)
 
 
 class Unit(WithFiles):

@@ -9,6 +9,7 @@ from frames import address_text
 from live import changes, machine
 from live.changes import Change, Changes, reload_network_manager
 from live.checks import Plan, Wanted
+from live.drivers import meaning_of
 from live.faults import Fault
 from live.kernel_beacon import other_address, start_words
 from live.machine import Interface
@@ -226,7 +227,11 @@ class SettingUp:
     def bring_network_up(self, part: NetworkPart) -> None:
         """Brings it up; a driver may take no more of them, or not with this address."""
         self.keep_without_address(part.interface)
-        machine.run("ip", "link", "set", part.interface, "up")
+        try:
+            machine.run("ip", "link", "set", part.interface, "up")
+        except Fault as fault:
+            meaning = meaning_of(str(fault), self.wanted.phy)
+            raise Fault(f"{fault}: {meaning}" if meaning else str(fault)) from None
         if part.way is Way.ACCESS_POINTS:
             machine.run("iw", "dev", part.interface, *start_words(part.frequency, part.beacon_from))
 
