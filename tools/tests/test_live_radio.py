@@ -332,6 +332,14 @@ class Watched(OnMachine):
                 self.watch.begin(Plan(self.SETTINGS, (), "octets", ways=(way,)))
             self.assertIn(f"wlan0 of phy9 is up: {says}", told.getvalue())
 
+    def test_access_points_keep_their_channel(self):
+        """Nothing of them is set up anew for another interface."""
+        self.plan = Plan(self.SETTINGS, (), "octets", ways=(Way.ACCESS_POINTS,))
+        self.set("wlan0", True)
+        self.set("wlan0", False)
+        self.assertIn("wlan0 of phy9 is down again", self.look())
+        self.assertEqual(self.commands, [])
+
     def test_own_that_is_taken_down(self):
         """It is told, and set up anew; one that is gone is made again."""
         self.set("mon0n1", False, hardware=803)
