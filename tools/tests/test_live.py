@@ -1025,6 +1025,16 @@ class Shown(unittest.TestCase):
         self.assertEqual(lines[8], "02:00:00:00:01:02 (no name): 0 stations, wire none, down for 0:01:05")
         self.assertEqual(lines[10], "1:02:05 ago: fault memory line 7 network 02:00:00:00:01:02")
 
+    def test_radio(self):
+        """By which interfaces it acknowledges, and what keeps stations from all networks."""
+        told = {**self.DOCUMENT, "by": "active-monitors",
+                "radio": {"down": None, "unsent": 7.2, "elsewhere": 2412, "heard_elsewhere": 3}}
+        lines = showing.text_of(told).splitlines()
+        self.assertTrue(lines[0].startswith("phy0, channel 6 by active monitors, for 0:00:12"))
+        self.assertEqual(lines[1:3], ["the radio has told no beacon as sent for 0:00:07", "the radio is on 2412 MHz"])
+        told["radio"] = {"down": 61, "unsent": None, "elsewhere": None, "heard_elsewhere": 0}
+        self.assertEqual(showing.text_of(told).splitlines()[1:3], ["the monitor interface is down for 0:01:01", ""])
+
     def test_watched(self):
         """Each second until Ctrl-C, also while nobody answers."""
         answers = [self.DOCUMENT, Fault("no bridge answers"), KeyboardInterrupt()]
@@ -1110,7 +1120,7 @@ class Running(WithFiles):
             self.end()
         self.run_bridge(later)
         self.assertRegex(self.read("words"),
-                         "^--name live --face octets --phy phy0 --channel 6 --monitor mon0 --interval 100 --idle 300 --socket [0-9]+ "
+                         "^--name live --face octets --phy phy0 --channel 6 --monitor mon0 --interval 100 --by active-monitors --idle 300 --socket [0-9]+ "
                          f"--record [0-9]+:{self.path('a.trace')} --bounds [0-9]+ --network 02:00:00:00:01:01/6c6162/82840b16/8/16/1/wire1 apctl {self.config}\n$")
         self.assertEqual(self.read("asked"), "state\nopen\ntables\n")
         self.assertRegex(self.told.getvalue(), "^live: 1 networks are on channel 6, by active monitor interfaces; Ctrl-C ends it, .*\nlive: the program "

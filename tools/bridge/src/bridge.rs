@@ -1,7 +1,8 @@
 //! The bridge while it runs: one thread that waits for what comes first, and does it. `reading` is what comes by the
-//! interfaces, `answering` what the program answers and others ask, `timing` what beacons go before, `staying` how
-//! stations stay from one bridge to the next, and `telling` what people are told.
+//! interfaces, `answering` what the program answers and others ask, `timing` what beacons go before, `radio` whether the
+//! radio does what it has to, `staying` how stations stay from one bridge to the next, and `telling` what people are told.
 mod answering;
+mod radio;
 mod reading;
 mod staying;
 mod telling;
@@ -11,11 +12,12 @@ use std::collections::BTreeMap;
 use std::thread::sleep;
 use std::time::Duration;
 
+use crate::by::By;
 use crate::clients::Clients;
 use crate::control::{say, Handed, Notice, Request, Requests};
 use crate::faces::Event;
 use crate::faults::Fault;
-use crate::filter::{acknowledged_filter, monitor_filter, nothing_filter, Shown};
+use crate::filter::{monitor_filter, nothing_filter, Shown};
 use crate::frames::{Address, Frame};
 use crate::gathering::Gathering;
 use crate::keeping::Keeping;
@@ -30,6 +32,7 @@ use crate::status::Faults;
 use crate::tables::{Asker, Tables};
 use crate::time::{now, Lateness, Nanos, Ticks, MILLISECOND, SECOND};
 use crate::waiting::{Source, Waiter, Waiting};
+use radio::Radio;
 
 const TO_BEACON: Nanos = SECOND;
 const TO_READY: Nanos = 20 * SECOND;
@@ -49,6 +52,8 @@ const ALIVE_EVERY: Nanos = SECOND;
 pub struct Manner {
     /// The radio, its channel and the beacon interval.
     pub setting: Setting,
+    /// By which interfaces the radio acknowledges, where that is known.
+    pub by: Option<By>,
     /// After how long an associated station of which nothing was heard is asked; `None` asks nobody.
     pub most_silence: Option<Nanos>,
     /// Whether `tools/live` is told that the program answers.
@@ -116,6 +121,7 @@ struct Running<P> {
     /// Until when the first beacon has to be seen as sent, while none was.
     beacon_due: Option<Nanos>,
     has_told_sending: bool,
+    radio: Radio,
     given: Given,
     left_out: BTreeMap<(Way, LeftOut), u64>,
     has_told_drops: bool,
@@ -257,6 +263,7 @@ impl<P: OfSocket> Bridge<P> {
         self.send()?;
         self.take_acknowledged()?;
         self.tell_sending()?;
+        self.watch_radio()?;
         self.keep(false);
         Ok(())
     }
@@ -301,7 +308,8 @@ impl<P: OfSocket> Bridge<P> {
                 let tick = if is_late { self.time + MILLISECOND } else { running.ticks.due() };
                 let alive = (self.manner.tells_alive && running.is_answered).then_some(self.alive_told + ALIVE_EVERY);
                 let look = Some(running.next_look().max(self.time)).filter(|look| running.is_before_beacon(*look));
-                let times = [running.beacon_due, running.sender.due(), running.sends_next(self.time), alive, look];
+                let (radio, sends) = (running.radio.due(self.time), running.sends_next(self.time));
+                let times = [running.beacon_due, running.sender.due(), sends, alive, look, radio];
                 times.into_iter().flatten().fold(tick, Nanos::min)
             }
             _ => Nanos::MAX,
@@ -430,12 +438,12 @@ impl<P: OfSocket> Bridge<P> {
     /// The radio sends: from now on of the frames that it shows as sent only their outcomes come, and those that were
     /// acknowledged wake nobody where they have a port of their own.
     fn filter_outcomes(&mut self) -> Result<(), Fault> {
-        let acknowledged = self.running.as_mut().and_then(|running| running.sender.acknowledged());
-        let shown = if acknowledged.is_some() { Shown::Failures } else { Shown::Outcomes };
-        if let Some(port) = acknowledged {
-            let outcome = port.set_filter(&acknowledged_filter());
-            outcome.map_err(|fault| Fault::of(format!("{}: no filter", port.interface()), &fault))?;
-        }
+        let running = match &mut self.running {
+            Some(running) => running,
+            None => return Ok(()),
+        };
+        running.filter_acknowledged()?;
+        let shown = if running.sender.acknowledged().is_some() { Shown::Failures } else { Shown::Outcomes };
         self.set_filter(shown)
     }
 
@@ -602,7 +610,9 @@ impl<P: OfSocket> Bridge<P> {
 impl<P: Port> Running<P> {
     fn new(sender: Sender<P>, networks: Vec<Network>, manner: &Manner) -> Running<P> {
         let start = now();
+        let ticks = Ticks::new(start, manner.setting.interval);
         Running {
+            radio: Radio::new(manner.setting.channel, networks.len(), &ticks),
             sender,
             air: Air::new(networks.iter().map(|network| network.bssid)),
             waiting: Waiting::new(networks.len()),
@@ -611,7 +621,7 @@ impl<P: Port> Running<P> {
             tables: Tables::new(networks.len()),
             read_in: vec![0; 1 + networks.len()],
             networks,
-            ticks: Ticks::new(start, manner.setting.interval),
+            ticks,
             said_tick: start,
             is_answered: false,
             beacons_awaited: 0,

@@ -39,8 +39,10 @@
 //! stay, `open PLACE...`, once the interfaces are there, with their sockets, `wire PLACE`, with the socket of a wire that
 //! is there again, `tables`, and `dismiss PLACE...`, by which all stations of these networks are told to join again; the
 //! end of its input ends it. It writes `ready`, once the networks are open,
-//! `sending`, once the first beacon was seen as sent, `alive` while the program answers, `down PLACE` where a wire ended,
-//! `dismissed`, `status N` with the status of the program, and `fault TEXT`, after which it ends with status 1.
+//! `sending`, once the first beacon was seen as sent, `unsent` where none was for a while, and `sending` again,
+//! `elsewhere MHZ` where the radio hears on another frequency than its channel's, and `here` once it is back, `alive`
+//! while the program answers, `down PLACE` where a wire ended, `dismissed`, `status N` with the status of the program, and
+//! `fault TEXT`, after which it ends with status 1.
 //!
 //! Where a bridge takes the place of another one, stations stay (`restoring`). The state that the one before has left in
 //! the files says who is associated, and by which request. The new program is told of these before anything else, and the
@@ -51,27 +53,36 @@
 //! fallen silent whether they are there; for one that isn't, or that doesn't associate where a network is nearly full,
 //! it tells the program that the station left. It answers who connects to its socket (`clients`).
 #![deny(unsafe_code)]
+// Shifts go before `&` and `|`, and need no parentheses for that: clippy 1.85 alone asks for them.
+#![allow(clippy::precedence)]
 
 mod airtime;
+mod beacon_watch;
 mod bridge;
+mod by;
 mod clients;
+mod clock;
 mod control;
 mod digits;
+mod epoll;
 mod faces;
 mod faults;
 mod filter;
 mod flight;
 mod frames;
 mod gathering;
+mod hashing;
 mod keeping;
 mod lanes;
 mod lateness;
+mod link;
 mod log;
 mod meaning;
 #[cfg(test)]
 mod mutator;
 mod operating;
 mod own_frames;
+mod pipes;
 mod poller;
 mod program;
 mod radiotap;
@@ -91,6 +102,7 @@ mod status;
 mod tables;
 mod time;
 mod transmitting;
+mod tuning;
 mod waiting;
 mod words;
 
@@ -139,6 +151,7 @@ fn run(words: &Words) -> Result<(), Fault> {
     let (program, feeder) = Program::start(&words.program, &words.config, words.face, bounds, record)?;
     let manner = Manner {
         setting: Setting { phy: words.phy.clone(), channel: words.channel, interval: words.interval },
+        by: words.by,
         most_silence: Some(Nanos::from(words.idle) * SECOND).filter(|silence| *silence > 0),
         tells_alive: words.tells_alive,
     };

@@ -60,8 +60,15 @@ const WRITES: u32 = (libc::O_ACCMODE | libc::O_CREAT | libc::O_TRUNC | libc::O_A
     & !(libc::O_DIRECTORY as u32);
 const RUNS: u32 = libc::PROT_EXEC as u32;
 const IS_THREAD: u32 = libc::CLONE_THREAD as u32;
-/// What the bridge asks of its descriptors by ioctl(2): how much waits to be read or sent, and to wait for nothing.
-const ASKED: &[u32] = &[libc::FIONREAD as u32, libc::TIOCOUTQ as u32, libc::FIONBIO as u32];
+/// What the bridge asks of its descriptors by ioctl(2): how much waits to be read or sent, to wait for nothing, and the
+/// name and the flags of an interface.
+const ASKED: &[u32] = &[
+    libc::FIONREAD as u32,
+    libc::TIOCOUTQ as u32,
+    libc::FIONBIO as u32,
+    libc::SIOCGIFNAME as u32,
+    libc::SIOCGIFFLAGS as u32,
+];
 
 /// What any program needs that has begun: its memory, its end, its signals and the time.
 const ANY: &[Rule] = &[
@@ -114,6 +121,7 @@ const OF_BRIDGE: &[Rule] = &[
     Rule::Allowed(libc::SYS_recvmsg),
     Rule::Allowed(libc::SYS_recvfrom),
     Rule::Allowed(libc::SYS_getsockopt),
+    Rule::Allowed(libc::SYS_getsockname),
     // Filters of its own sockets.
     Rule::OneOf(libc::SYS_setsockopt, 2, &[libc::SO_ATTACH_FILTER as u32]),
     Rule::Allowed(libc::SYS_accept4),
@@ -536,6 +544,19 @@ mod tests {
             });
             assert_eq!(found, refused(libc::EACCES));
             assert_eq!(bridge_that(|| libc::syscall(libc::SYS_getpid)), Some(0));
+        }
+    }
+
+    /// The errors are of a descriptor that is no socket.
+    #[test]
+    fn a_bridge_asks_how_an_interface_is() {
+        // SAFETY: no memory is handed over.
+        unsafe {
+            let found = bridge_that(|| libc::syscall(libc::SYS_getsockname, 0, 0, 0));
+            assert_eq!(found, Some(-libc::ENOTSOCK));
+            for what in crate::link::ASKED {
+                assert_eq!(bridge_that(move || libc::syscall(libc::SYS_ioctl, 0, what, 0)), Some(-libc::ENOTTY));
+            }
         }
     }
 

@@ -508,7 +508,7 @@ mod tests {
     use crate::time::SECOND;
 
     const FIRST: Member = (0, STATION);
-    const PLAIN: Reception = Reception { signal: Some(-40), rate: Some(22) };
+    const PLAIN: Reception = Reception { signal: Some(-40), rate: Some(22), frequency: None };
 
     fn roster() -> Roster {
         Roster::new(vec![OURS, OTHER])

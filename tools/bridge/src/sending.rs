@@ -268,6 +268,22 @@ impl<P: Port> Sender<P> {
         self.acknowledged.as_mut()
     }
 
+    /// Whether the radio's interface is down.
+    pub fn is_radio_down(&self) -> bool {
+        self.air.is_down()
+    }
+
+    /// The radio's interface is down: what is to be sent by it waits.
+    pub fn radio_went_down(&mut self) {
+        self.air.went_down();
+    }
+
+    /// The radio's interface is up again, after so long.
+    pub fn radio_came_up(&mut self, after: Nanos) {
+        self.air.came_up(after);
+        self.acknowledged.iter().for_each(Port::forget_fault);
+    }
+
     /// Whether one waits for what the radio tells of the frames that it has.
     pub fn awaits_outcomes(&self) -> bool {
         self.air.awaits_outcomes()

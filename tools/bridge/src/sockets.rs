@@ -1,5 +1,5 @@
 //! Packet sockets (packet(7)): those of the monitor interface, one of each wired port, all of which `tools/live` opens and
-//! hands over. What is unsafe of the bridge is here and in `rights` alone: the calls of the system that no crate has.
+//! hands over. What is unsafe here are the calls of the system that std doesn't have.
 #![allow(unsafe_code)]
 use std::collections::VecDeque;
 use std::io;
@@ -9,9 +9,8 @@ use std::os::unix::net::{UnixListener, UnixStream};
 use std::ptr;
 
 use libc::{c_int, c_void, iovec, mmsghdr, sock_filter, sockaddr_ll};
-use nix::sys::socket::getsockopt;
-use nix::sys::socket::sockopt::{AcceptConn, PeerCredentials};
 
+use crate::link::{link_of, Link};
 use crate::time::{Nanos, SECOND};
 
 /// How many packets are read or written by one call. Four calls read no more than may wait of one flow
@@ -84,6 +83,12 @@ pub trait Port {
     fn count_dropped(&mut self) -> u64;
     /// How many octets the interface was given and hasn't sent yet, what the kernel keeps beside them included.
     fn unsent(&self) -> io::Result<usize>;
+    /// How the interface is.
+    fn link(&self) -> io::Result<Link> {
+        Ok(Link::Up)
+    }
+    /// Forgets that the interface was down, where nobody was told that yet.
+    fn forget_fault(&self) {}
     /// Gives the interface up: nothing is heard or sent by it any more, and it has no descriptor. What is read or sent
     /// from then on is refused as by an interface that is down. A port without a socket has nothing to close.
     fn close(&mut self) {}
@@ -143,13 +148,7 @@ impl Port for PacketSocket {
             return self.dropped;
         }
         let mut found = Statistics::default();
-        let mut length = size_of_val(&found) as u32;
-        // SAFETY: the kernel writes at most `length` octets into `found`, which is as long.
-        let answer = unsafe {
-            let place: *mut Statistics = &mut found;
-            libc::getsockopt(self.descriptor(), libc::SOL_PACKET, PACKET_STATISTICS, place.cast(), &mut length)
-        };
-        if answer == 0 {
+        if read_option(self.descriptor(), libc::SOL_PACKET, PACKET_STATISTICS, &mut found).is_ok() {
             self.dropped += u64::from(found.drops);
         }
         self.dropped
@@ -159,6 +158,16 @@ impl Port for PacketSocket {
         number_of(self.open_socket()?.as_raw_fd(), libc::TIOCOUTQ)
     }
 
+    fn link(&self) -> io::Result<Link> {
+        link_of(self.open_socket()?.as_raw_fd())
+    }
+
+    fn forget_fault(&self) {
+        let mut fault: c_int = 0;
+        // The kernel forgets it by telling it.
+        let _ = read_option(self.descriptor(), libc::SOL_SOCKET, libc::SO_ERROR, &mut fault);
+    }
+
     fn close(&mut self) {
         self.count_dropped();
         self.socket = None;
@@ -166,7 +175,7 @@ impl Port for PacketSocket {
 }
 
 /// What a call of the system answered, or its fault.
-fn checked(answer: c_int) -> io::Result<c_int> {
+pub fn checked(answer: c_int) -> io::Result<c_int> {
     if answer < 0 {
         Err(io::Error::last_os_error())
     } else {
@@ -179,6 +188,17 @@ fn set_option<T>(socket: &OwnedFd, level: c_int, name: c_int, value: &T) -> io::
     // SAFETY: the kernel reads as many octets as the value has.
     unsafe {
         checked(libc::setsockopt(socket.as_raw_fd(), level, name, place.cast::<c_void>(), size_of::<T>() as u32))?
+    };
+    Ok(())
+}
+
+/// Reads an option of a socket, for one that any octets are a value of.
+fn read_option<T: Copy>(socket: RawFd, level: c_int, name: c_int, value: &mut T) -> io::Result<()> {
+    let mut length = size_of::<T>() as u32;
+    // SAFETY: the kernel writes at most `length` octets into the value, which is as long.
+    unsafe {
+        let place: *mut T = value;
+        checked(libc::getsockopt(socket, level, name, place.cast::<c_void>(), &mut length))?
     };
     Ok(())
 }
@@ -212,7 +232,9 @@ pub fn inherited(number: RawFd) -> io::Result<OwnedFd> {
 
 /// The listening socket that this process was started with.
 pub fn inherited_listener(number: RawFd) -> io::Result<UnixListener> {
-    if !getsockopt(number, AcceptConn)? {
+    let mut listens: c_int = 0;
+    read_option(number, libc::SOL_SOCKET, libc::SO_ACCEPTCONN, &mut listens)?;
+    if listens == 0 {
         return Err(io::Error::from_raw_os_error(libc::EINVAL));
     }
     Ok(inherited(number)?.into())
@@ -220,7 +242,9 @@ pub fn inherited_listener(number: RawFd) -> io::Result<UnixListener> {
 
 /// The user who connected a socket of this machine.
 pub fn user_of(socket: RawFd) -> io::Result<u32> {
-    Ok(getsockopt(socket, PeerCredentials)?.uid())
+    let mut found = libc::ucred { pid: 0, uid: libc::uid_t::MAX, gid: libc::gid_t::MAX };
+    read_option(socket, libc::SOL_SOCKET, libc::SO_PEERCRED, &mut found)?;
+    Ok(found.uid)
 }
 
 /// Appends what a socket has to read, and the descriptors that come with it; answers how many octets came, and is
@@ -284,6 +308,35 @@ pub fn hand(socket: &UnixStream, octets: &[u8], descriptors: &[OwnedFd]) -> io::
         }
     }
     Ok(())
+}
+
+/// A socket of an interface, as `tools/live` opens one.
+#[cfg(test)]
+pub fn open(interface: &str) -> io::Result<PacketSocket> {
+    const PACKET_IGNORE_OUTGOING: c_int = 23;
+    let name = std::ffi::CString::new(interface)?;
+    // SAFETY: the name ends with its zero octet; the descriptor is owned from here on.
+    let (index, socket) = unsafe {
+        let kind = libc::SOCK_RAW | libc::SOCK_NONBLOCK | libc::SOCK_CLOEXEC;
+        let socket = OwnedFd::from_raw_fd(checked(libc::socket(libc::AF_PACKET, kind, 0))?);
+        (libc::if_nametoindex(name.as_ptr()) as c_int, socket)
+    };
+    let one: c_int = 1;
+    let room: c_int = 1 << 16;
+    set_option(&socket, libc::SOL_SOCKET, libc::SO_SNDBUFFORCE, &room)?;
+    set_option(&socket, libc::SOL_SOCKET, libc::SO_TIMESTAMPNS, &one)?;
+    set_option(&socket, libc::SOL_PACKET, PACKET_AUXDATA, &one)?;
+    set_option(&socket, libc::SOL_PACKET, PACKET_IGNORE_OUTGOING, &one)?;
+    // SAFETY: all zero is an address; the length is its own.
+    unsafe {
+        let mut address: sockaddr_ll = zeroed();
+        address.sll_family = libc::AF_PACKET as u16;
+        address.sll_protocol = (libc::ETH_P_ALL as u16).to_be();
+        address.sll_ifindex = index;
+        let place = &address as *const sockaddr_ll;
+        checked(libc::bind(socket.as_raw_fd(), place.cast(), size_of::<sockaddr_ll>() as u32))?;
+    }
+    Ok(PacketSocket::of(interface, socket))
 }
 
 /// Sends frames by one call.
@@ -406,7 +459,7 @@ impl Batch {
     fn told(&self, place: usize) -> (u32, Option<Nanos>) {
         let header = &self.headers[place].msg_hdr;
         let (mut status, mut arrived) = (0, None);
-        debug_assert!(header.msg_controllen as usize <= size_of_val(&self.controls[place]));
+        debug_assert!(header.msg_controllen <= size_of_val(&self.controls[place]) as _);
         // SAFETY: the kernel wrote whole control messages into the room of this header and said how long they are; each
         // is read as far as its own length says.
         unsafe {
@@ -435,47 +488,15 @@ impl Batch {
 mod tests {
     use super::*;
     use crate::filter::{monitor_filter, Shown};
-    use crate::samples::{data, radiotap, OURS, STRANGER};
+    use crate::samples::{data, radiotap, tell_not_run, OURS, STRANGER};
     use crate::time::{now, wall_now};
-    use std::io::Write;
 
-    const PACKET_IGNORE_OUTGOING: c_int = 23;
-
-    /// A socket of the loopback interface, as `tools/live` opens those of the others.
-    fn open() -> io::Result<PacketSocket> {
-        // SAFETY: no memory is handed over; the descriptor is owned from here on.
-        let socket = unsafe {
-            let kind = libc::SOCK_RAW | libc::SOCK_NONBLOCK | libc::SOCK_CLOEXEC;
-            OwnedFd::from_raw_fd(checked(libc::socket(libc::AF_PACKET, kind, 0))?)
-        };
-        let one: c_int = 1;
-        let room: c_int = 1 << 16;
-        set_option(&socket, libc::SOL_SOCKET, libc::SO_SNDBUFFORCE, &room)?;
-        set_option(&socket, libc::SOL_SOCKET, libc::SO_TIMESTAMPNS, &one)?;
-        set_option(&socket, libc::SOL_PACKET, PACKET_AUXDATA, &one)?;
-        set_option(&socket, libc::SOL_PACKET, PACKET_IGNORE_OUTGOING, &one)?;
-        // SAFETY: all zero is an address; the length is its own.
-        unsafe {
-            let mut address: sockaddr_ll = zeroed();
-            address.sll_family = libc::AF_PACKET as u16;
-            address.sll_protocol = (libc::ETH_P_ALL as u16).to_be();
-            address.sll_ifindex = 1;
-            let place = &address as *const sockaddr_ll;
-            checked(libc::bind(socket.as_raw_fd(), place.cast(), size_of::<sockaddr_ll>() as u32))?;
-        }
-        Ok(PacketSocket::of("lo", socket))
-    }
-
-    /// Two sockets on the loopback interface, or `None` where the machine gives none, as without root. That is told past
-    /// what the test's runner keeps back, so that whoever counts the tests that passed can leave this one out.
+    /// Two sockets on the loopback interface, or `None` where the machine gives none, as without root.
     fn pair() -> Option<(PacketSocket, PacketSocket)> {
-        match (open(), open()) {
+        match (open("lo"), open("lo")) {
             (Ok(hearing), Ok(sending)) => Some((hearing, sending)),
             _ => {
-                let thread = std::thread::current();
-                let name = thread.name().unwrap_or("a test");
-                let mut told = io::stderr();
-                writeln!(told, "not run: {name}: no packet socket here, which takes root").unwrap();
+                tell_not_run("no packet socket here, which takes root");
                 None
             }
         }

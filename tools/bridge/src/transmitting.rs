@@ -11,7 +11,7 @@ use std::io;
 use std::rc::Rc;
 
 use crate::airtime::{Cost, Size};
-use crate::faults::{reason, tell};
+use crate::faults::{is_down, reason, tell};
 use crate::flight::{Flight, Name};
 use crate::frames::{Address, Frame, FrameType};
 use crate::lateness::Lateness;
@@ -209,6 +209,8 @@ pub struct Transmitter<P> {
     look_due: Option<Nanos>,
     /// Whether the radio is given all that waits.
     is_ending: bool,
+    /// Whether the interface is down, so that the radio is given nothing but beacons, which it refuses.
+    is_down: bool,
     sent: u64,
 }
 
@@ -232,6 +234,7 @@ impl<P: Port> Transmitter<P> {
             is_late: false,
             look_due: None,
             is_ending: false,
+            is_down: false,
             sent: 0,
         }
     }
@@ -375,7 +378,7 @@ impl<P: Port> Transmitter<P> {
     /// Whether a frame waits that may go now.
     pub fn has_room(&self) -> bool {
         let waits = !self.chosen.is_empty() || self.shares.has_ready() && !self.is_full;
-        waits && !self.gate.is_blocked() || !self.beacons.is_empty() && !self.beacon_gate.is_blocked()
+        waits && !self.gate.is_blocked() && !self.is_down || !self.beacons.is_empty() && !self.beacon_gate.is_blocked()
     }
 
     /// Whether nothing waits, for room or to be sent.
@@ -406,6 +409,33 @@ impl<P: Port> Transmitter<P> {
         }
     }
 
+    /// Whether the interface is down.
+    pub fn is_down(&self) -> bool {
+        self.is_down
+    }
+
+    /// The interface is down: what is to be sent waits.
+    pub fn went_down(&mut self) {
+        self.is_down = true;
+    }
+
+    /// The interface is up again after so long. What had its turn before is dropped where it waited too long meanwhile;
+    /// what waits for its turn is looked at when that comes.
+    pub fn came_up(&mut self, after: Nanos) {
+        self.is_down = false;
+        self.gate.port.forget_fault();
+        self.beacon_gate.port.forget_fault();
+        if after > LONGEST {
+            for (name, packet) in std::mem::take(&mut self.chosen) {
+                *self.accounts[name.place].unsent.entry(Unsent::Late).or_default() += 1;
+                self.spare.push(packet);
+                self.flight.forget(name);
+                self.release(name.place, name.receiver);
+            }
+            self.spare.truncate(AT_A_TIME);
+        }
+    }
+
     /// From now on the radio is given all that waits, however much it has.
     pub fn end(&mut self) {
         self.is_ending = true;
@@ -426,6 +456,7 @@ impl<P: Port> Transmitter<P> {
                 }
                 Err(fault) => {
                     let beacon = self.beacons.pop_front();
+                    self.is_down |= is_down(&fault);
                     count_refused(&self.beacon_gate, beacon.map_or(0, |beacon| beacon.len()), &fault, counts);
                 }
             }
@@ -437,7 +468,7 @@ impl<P: Port> Transmitter<P> {
     pub fn flush(&mut self, now: Nanos, until: Nanos, counts: &mut Counts) {
         let mut time = now;
         self.settle(now);
-        while !self.gate.is_blocked() && self.beacons.is_empty() && time < until {
+        while !self.gate.is_blocked() && !self.is_down && self.beacons.is_empty() && time < until {
             while self.chosen.len() < AT_A_TIME && self.choose(now) {}
             if self.chosen.is_empty() {
                 break;
@@ -588,6 +619,7 @@ impl<P: Port> Transmitter<P> {
                 self.spare.truncate(AT_A_TIME);
                 self.sent += number as u64;
             }
+            Err(fault) if is_down(&fault) => self.is_down = true,
             Err(fault) => {
                 if let Some((name, packet)) = self.chosen.pop_front() {
                     count_refused(&self.gate, packet.len(), &fault, counts);
@@ -1209,6 +1241,34 @@ mod tests {
         assert_eq!(numbers(&driver.run(usize::MAX)), [1, 4]);
         assert_eq!(driver.counts["refused by mon0: Message too long"], 2);
         assert_eq!(driver.unsent(0, Unsent::Refused), 2);
+    }
+
+    /// While the interface is down, beacons are refused and counted. Else nothing is lost of what isn't late yet once it is
+    /// up again.
+    #[test]
+    fn what_waits_for_an_interface_that_is_down_goes_once_it_is_up_unless_it_is_late() {
+        for (down, lost) in [(LONGEST / 2, 0), (LONGEST * 2, 2)] {
+            let mut driver = driver([1, 1]);
+            driver.air.gate.port.is_down = true;
+            driver.air.beacon_gate.port.is_down = true;
+            driver.send(0, deauthentication(3));
+            driver.send(1, unit(OTHER, STATION, 4));
+            assert_eq!((driver.flush(), driver.air.is_down(), driver.air.chosen.len()), (vec![], true, 2));
+            driver.send(0, of_network(BEACON, OURS, Address::BROADCAST, 5, Vec::new()));
+            driver.send(1, of_network(0xc0, OTHER, STATION, 6, vec![8, 0]));
+            assert_eq!((driver.flush(), driver.beacons(), driver.air.has_room()), (vec![], vec![], false));
+            driver.now += down;
+            driver.air.gate.port.is_down = false;
+            driver.air.beacon_gate.port.is_down = false;
+            driver.air.came_up(down);
+            driver.send(0, of_network(BEACON, OURS, Address::BROADCAST, 7, Vec::new()));
+            let sent = driver.run(3);
+            assert_eq!(numbers(&sent), if lost > 0 { vec![6] } else { vec![3, 4, 6] });
+            assert_eq!(numbers(&driver.beacons()), [7]);
+            assert_eq!(driver.unsent(0, Unsent::Late) + driver.unsent(1, Unsent::Late), lost);
+            assert_eq!(driver.counts["refused by mon0: Network is down"], 1);
+            assert!(!driver.air.is_down() && driver.air.chosen.is_empty() && driver.air.shares.is_empty());
+        }
     }
 
     #[test]

@@ -4,6 +4,7 @@ use std::ops::RangeInclusive;
 use std::os::unix::io::RawFd;
 use std::str::FromStr;
 
+use crate::by::By;
 use crate::faces::Face;
 use crate::frames::Address;
 use crate::log;
@@ -13,8 +14,8 @@ use crate::shares::MOST_WEIGHT;
 /// How it is called.
 pub const USAGE: &str =
     "bridge [--name NAME] --face text|octets --phy NAME --channel NUMBER --monitor NAME --interval UNITS \
-                         [--idle SECONDS] [--socket DESCRIPTOR] [--alive] [--record DESCRIPTOR:NAME] [--bounds OCTETS] \
-                         --network BSSID/SSID/RATES/STATIONS/KNOWN/SHARE[/WIRE]... PROGRAM CONFIG";
+                         [--by active-monitors|managed|access-points] [--idle SECONDS] [--socket DESCRIPTOR] [--alive] \
+                         [--record DESCRIPTOR:NAME] [--bounds OCTETS] --network BSSID/SSID/RATES/STATIONS/KNOWN/SHARE[/WIRE]... PROGRAM CONFIG";
 
 /// What the words ask for.
 #[derive(Debug, Clone, PartialEq, Eq)]
@@ -31,6 +32,8 @@ pub struct Words {
     pub monitor: String,
     /// The beacon interval in time units.
     pub interval: u16,
+    /// By which interfaces the radio acknowledges, where that was said.
+    pub by: Option<By>,
     /// After how many seconds an associated station of which nothing was heard is asked; 0 asks nobody.
     pub idle: u32,
     /// The listening socket by which it is asked, as a descriptor.
@@ -73,7 +76,7 @@ impl Words {
         let mut words = words.into_iter();
         let (mut face, mut monitor, mut interval, mut record) = (None, None, None, None);
         let (mut phy, mut channel, mut idle, mut socket, mut tells_alive) = (None, None, IDLE, None, false);
-        let (mut name, mut bounds) = (log::UNNAMED.to_owned(), None);
+        let (mut name, mut bounds, mut by) = (log::UNNAMED.to_owned(), None, None);
         let (mut networks, mut rest) = (Vec::new(), Vec::new());
         while let Some(word) = words.next() {
             let mut value = || words.next().ok_or_else(|| NotWords(format!("{word} lacks its value")));
@@ -84,6 +87,7 @@ impl Words {
                 "--channel" => channel = Some(read_number(&value()?, "channel", 1..=14)?),
                 "--monitor" => monitor = Some(value()?),
                 "--interval" => interval = Some(read_number(&value()?, "beacon interval", 1..=u16::MAX)?),
+                "--by" => by = Some(read_by(&value()?)?),
                 "--idle" => idle = read_number(&value()?, "number of seconds", 0..=u32::MAX)?,
                 "--socket" => socket = Some(read_number(&value()?, "descriptor", FIRST_DESCRIPTOR..=RawFd::MAX)?),
                 "--alive" => tells_alive = true,
@@ -105,6 +109,7 @@ impl Words {
             channel: channel.ok_or_else(|| lacks("--channel"))?,
             monitor: monitor.ok_or_else(|| lacks("--monitor"))?,
             interval: interval.ok_or_else(|| lacks("--interval"))?,
+            by,
             idle,
             socket,
             tells_alive,
@@ -123,6 +128,10 @@ fn read_face(text: &str) -> Result<Face, NotWords> {
         "octets" => Ok(Face::Octets),
         _ => Err(NotWords(format!("{text} is no face"))),
     }
+}
+
+fn read_by(text: &str) -> Result<By, NotWords> {
+    text.parse().map_err(|_| NotWords(format!("{text} is no kind of interfaces")))
 }
 
 /// A number within limits.
@@ -160,7 +169,7 @@ mod tests {
     use crate::samples::{network, OTHER, OURS};
 
     const GOOD: &str = "--name waltigon-live \
-                        --face octets --phy phy0 --channel 6 --monitor mon0 --interval 100 --idle 60 --socket 5 \
+                        --face octets --phy phy0 --channel 6 --monitor mon0 --interval 100 --by managed --idle 60 --socket 5 \
                         --alive --record 6:r:1 --bounds 2000000 --network 02:00:00:00:01:01/6c6162/8284/64/256/1/wire1 --network \
                         02:00:00:00:01:02/20/16/2007/10000/16 apctl config";
 
@@ -194,6 +203,7 @@ mod tests {
             channel: 6,
             monitor: "mon0".into(),
             interval: 100,
+            by: Some(By::Managed),
             idle: 60,
             socket: Some(5),
             tells_alive: true,
@@ -207,6 +217,10 @@ mod tests {
         let fewer =
             read(&GOOD.replace("--idle 60 --socket 5 --alive", "").replace("--name waltigon-live", "")).unwrap();
         assert_eq!((fewer.idle, fewer.socket, fewer.tells_alive), (300, None, false));
+        for (word, by) in [("active-monitors", By::ActiveMonitors), ("access-points", By::AccessPoints)] {
+            assert_eq!(read(&GOOD.replace("managed", word)).unwrap().by, Some(by));
+        }
+        assert_eq!(read(&GOOD.replace("--by managed", "")).unwrap().by, None);
         assert_eq!(fewer.name, "bridge");
     }
 
@@ -219,6 +233,7 @@ mod tests {
             ("--phy phy0", ""),
             ("--channel 6", ""),
             ("--channel 6", "--channel 15"),
+            ("managed", "monitors"),
             ("--idle 60", "--idle x"),
             ("--socket 5", "--socket 2"),
             ("100", "0"),

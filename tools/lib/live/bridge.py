@@ -93,8 +93,8 @@ def words_of(wanted: Wanted, plan: Plan, descriptor: int, record: tuple[int, str
     with its name, and how many octets of address space the program has, where it runs within bounds."""
     settings = plan.settings
     words = [wanted.bridge, "--name", called.name(), "--face", plan.face, "--phy", wanted.phy,
-             "--channel", str(settings.channel), "--monitor", wanted.monitor, "--interval", str(settings.interval), "--idle", str(wanted.idle),
-             "--socket", str(descriptor)]
+             "--channel", str(settings.channel), "--monitor", wanted.monitor, "--interval", str(settings.interval),
+             "--by", plan.way.value, "--idle", str(wanted.idle), "--socket", str(descriptor)]
     if tells_alive:
         words += ["--alive"]
     if record is not None:

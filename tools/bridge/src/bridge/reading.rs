@@ -1,13 +1,14 @@
 //! What comes by the interfaces: it is read, judged, and waits for the program or is left out; and wires that come and
 //! go.
 use super::{Ended, Running, Way, IN_A_ROW};
-use crate::faults::{reason, Fault};
+use crate::faults::{is_down, reason, Fault};
 use crate::filter::nothing_filter;
 use crate::frames::Address;
 use crate::log::{self, Level};
 use crate::poller::{Poller, Token};
 use crate::radiotap::reception;
 use crate::receiving::{judge_wired, Judged, LeftOut};
+use crate::sending::BEACON;
 use crate::sockets::{Batch, Packet, Port, AT_A_TIME};
 use crate::time::{wall_now, Nanos, SECOND};
 use crate::waiting::{Source, Waiter};
@@ -86,9 +87,13 @@ impl<P: Port> Running<P> {
                 },
                 _ => &mut self.sender.monitor().port,
             };
-            let number = port
-                .receive(batch)
-                .map_err(|fault| Fault::new(format!("{}: {}: was it taken down?", port.interface(), reason(&fault))))?;
+            let number = match port.receive(batch) {
+                Ok(number) => number,
+                Err(fault) if is_down(&fault) && !matches!(token, Token::Wire(_)) => return self.went_down(time),
+                Err(fault) => {
+                    return Err(Fault::new(format!("{}: {}: was it taken down?", port.interface(), reason(&fault))))
+                }
+            };
             if token != Token::Acknowledged {
                 self.gathering.count(number);
             }
@@ -133,23 +138,29 @@ impl<P: Port> Running<P> {
             Judged::LeftOut(reason) => self.leave_out(Way::Air, reason),
             Judged::Sent(frame, outcome) => {
                 self.leave_out(Way::Air, LeftOut::Sent);
-                self.see_sent(frame);
+                self.see_sent(frame, arrived);
                 self.operating.shown(frame, outcome, arrived);
                 self.sender.shown(frame, outcome, arrived);
             }
             Judged::GoesOn(frame) => {
+                let reception = reception(packet.octets);
+                reception.frequency.into_iter().for_each(|frequency| self.radio.tuning.heard(frequency, arrived));
                 self.sender.heard(frame);
-                self.operating.heard(frame, reception(packet.octets), arrived);
+                self.operating.heard(frame, reception, arrived);
                 self.wait_of_air(frame.octets(), arrived);
             }
         }
     }
 
-    /// The first frame of ours that the radio shows as sent shows that it sends what it is given.
-    fn see_sent(&mut self, frame: &[u8]) {
+    /// The first frame of ours that the radio shows as sent shows that it sends what it is given, and a beacon that it
+    /// still does.
+    fn see_sent(&mut self, frame: &[u8], time: Nanos) {
         let is_ours = Address::at(frame, 10).map_or(false, |found| self.sender.place_of(&found).is_some());
         if is_ours {
             self.beacon_due = None;
+        }
+        if is_ours && frame.first() == Some(&BEACON) {
+            self.radio.beacons.shown(time);
         }
     }
 
