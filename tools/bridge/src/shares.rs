@@ -21,8 +21,7 @@
 use std::collections::{BTreeSet, HashMap, VecDeque};
 use std::hash::Hash;
 
-use ahash::RandomState;
-
+use crate::hashing::Seeds;
 use crate::lanes::Lanes;
 pub use crate::lanes::{Place, MOST_WEIGHT};
 
@@ -155,7 +154,7 @@ impl<R: Copy + Ord + Hash, T> Shares<R, T> {
 /// no debt has to be lowered when one is served.
 #[derive(Debug)]
 struct Turns<R, T> {
-    lanes: HashMap<R, Lane<T>, RandomState>,
+    lanes: HashMap<R, Lane<T>, Seeds>,
     /// Those that wait for a turn, by their starts.
     ready: BTreeSet<(u64, R)>,
     /// How many frames wait for all of them.

@@ -17,9 +17,8 @@ use std::collections::hash_map::Entry;
 use std::collections::HashMap;
 use std::fmt;
 
-use ahash::RandomState;
-
 use crate::frames::{Address, Frame, FrameType};
+use crate::hashing::Seeds;
 use crate::time::{Nanos, MILLISECOND};
 
 /// How long a frame of data waits at most, and a probe request: a station that looks for networks listens on a channel
@@ -202,7 +201,7 @@ struct Queue {
     free: Vec<usize>,
     first: Option<usize>,
     last: Option<usize>,
-    flows: HashMap<Flow, OfFlow, RandomState>,
+    flows: HashMap<Flow, OfFlow, Seeds>,
 }
 
 impl Queue {
