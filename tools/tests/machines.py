@@ -1,10 +1,11 @@
 """What tests of tools/live share: what `iw` says of radios, and a machine whose commands are only kept."""
+import os
 import tempfile
 import unittest
 from unittest import mock
 
 from frames import address_of
-from live import machine, setting_up
+from live import changes, machine, setting_up
 from live.changes import Changes
 from live.checks import Wanted
 from live.faults import Fault
@@ -92,7 +93,8 @@ class OnMachine(unittest.TestCase):
         self.made = Changes("phy9", self.folder)
         self.addCleanup(self.made.close)
         for where, name, value in (
-                (machine, "run", self.run_command), (setting_up.shutil, "which", lambda command: None)):
+                (machine, "run", self.run_command), (changes.shutil, "which", lambda command: None),
+                (setting_up, "UNMANAGED", os.path.join(self.folder, "conf.d", "waltigon-{}.conf"))):
             patch = mock.patch.object(where, name, value)
             patch.start()
             self.addCleanup(patch.stop)

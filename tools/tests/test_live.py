@@ -55,6 +55,12 @@ max_events = 100
 """
 
 
+def read(path):
+    """The text of a file."""
+    with open(path, encoding="utf-8") as file:
+        return file.read()
+
+
 def setUpModule():
     """Lines are told by the name of what is tested."""
     called_so = mock.patch.object(sys, "argv", ["tools/live"])
@@ -183,16 +189,30 @@ class Machine(OnMachine):
             self.assertEqual(machine.country(), "DE")
 
     def test_network_manager(self):
-        """Where it runs it is told to leave these interfaces alone before one is made, and in the end no more."""
-        path = os.path.join(self.folder, "conf.d", "mon0.conf")
+        """It is told to leave these interfaces alone, and the radio's other ones, before one is made, and in the end no more;
+        the file is there whether it runs or not."""
+        path = setting_up.UNMANAGED.format("mon0")
         reloaded = mock.Mock(side_effect=lambda: self.commands.append(f"reload, {os.path.exists(path)}"))
-        with (mock.patch.object(setting_up, "UNMANAGED", os.path.join(self.folder, "conf.d", "{}.conf")),
-              mock.patch.object(setting_up, "RUNNING", self.folder),
-              mock.patch.object(setting_up.shutil, "which", lambda command: "/usr/bin/nmcli"),
-              mock.patch.object(setting_up, "reload_network_manager", reloaded),
-              mock.patch.object(changes, "reload_network_manager", reloaded)):
+        others = [mock.Mock(radio=radio) for radio in ("phy9", "phy5", "phy9")]
+        for interface, name in zip(others, ("wlan3", "wlan5", "mon0n7")):
+            interface.name = name
+        written = []
+        with (mock.patch.object(setting_up, "reload_network_manager", reloaded),
+              mock.patch.object(changes, "reload_network_manager", reloaded),
+              mock.patch.object(machine, "interfaces", lambda: others),
+              mock.patch.object(setting_up.SettingUp, "tune", lambda *_: written.append(read(path)))):
             made, taken_back, _ = self.changed(self.plan())
         self.assertEqual((made[0], taken_back[-1]), ("reload, True", "reload, False"))
+        self.assertEqual(written, ["[device-waltigon-mon0]\nmatch-device=interface-name:mon0*,interface-name:wlan3\n"
+                                   "managed=0\n"])
+        self.assertEqual(os.listdir(self.folder), ["phy9.lock"])
+
+    def test_network_manager_without_a_place(self):
+        """Where the file can't be written that is told, and stations are served all the same."""
+        with mock.patch.object(setting_up, "UNMANAGED", os.path.join(self.folder, "phy9.lock", "{}.conf")):
+            made, _, told = self.changed(self.plan())
+        self.assertEqual(made, self.RADIO)
+        self.assertIn("mon0.conf: File exists: NetworkManager may take the interfaces of this radio", told)
 
     def test_left(self):
         """What others made is told with the commands; other names are not looked at, nor what an earlier start left."""
@@ -659,7 +679,8 @@ class FilesAndPrograms(WithFiles):
         phy = [self.config, "--phy", "phy0"]
         for words in ([], [self.config], [*phy, "--wire", "x=y"], [*phy, "--tables", "0"], [*phy, "--idle", "-1"],
                       [*phy, "--country", "Germany"], [*phy, "--status", "70000"], ["kick"], ["kick", "x", "y"],
-                      ["status", "more"], ["status", "--json", "--watch"], ["reload", "more"]):
+                      ["status", "more"], ["status", "--json", "--watch"], ["reload", "more"], [*phy, "--by", "cable"],
+                      ["check-radio"], ["check-radio", "phy0", "phy1"]):
             self.assertEqual(subprocess.run([tool, *words], capture_output=True, check=False).returncode, 2, words)
         done = subprocess.run([tool, self.config, "--phy", "phy0", "--program", os.path.join(self.folder, "apctl")],
                               capture_output=True, text=True, check=False)
@@ -667,6 +688,9 @@ class FilesAndPrograms(WithFiles):
         done = subprocess.run([tool, "status", "--phy", "no-such-radio"], capture_output=True, text=True, check=False)
         self.assertEqual((done.returncode, done.stdout), (1, ""))
         self.assertIn("no-such-radio.sock: no bridge answers", done.stderr)
+        done = subprocess.run([tool, "check-radio", "no-such-radio"], capture_output=True, text=True, check=False)
+        self.assertEqual((done.returncode, done.stdout), (1, ""))
+        self.assertIn("live: no-such-radio: there is no such radio", done.stderr)
 
 
 class Unit(WithFiles):

@@ -2,12 +2,13 @@
 serves."""
 import contextlib
 import io
+import os
 import struct
 import unittest
 from contextlib import ExitStack
 from unittest import mock
 
-from live import machine, setting_up, watching
+from live import drivers, machine, radio_report, setting_up, watching
 from live.checks import Plan, check_channel
 from live.faults import Fault
 from live.links import Link, Links, links_of
@@ -104,6 +105,106 @@ class Ways(unittest.TestCase):
                          [(6, 1), (6, 12), (7, 3)])
         with self.assertRaisesRegex(Fault, "tells no version"):
             kernel_of("unknown")
+
+
+class Reported(OnMachine):
+    """What is told of a radio by its name, and where it refuses an interface."""
+
+    def setUp(self):
+        super().setUp()
+        self.radios = os.path.join(self.folder, "ieee80211")
+        os.makedirs(os.path.join(self.radios, "phy9", "device"))
+        self.text, self.others, self.failing_with = SIMULATED, [], ""
+        self.drive("mac80211_hwsim")
+        with open(os.path.join(self.radios, "phy9", "macaddress"), "w", encoding="ascii") as file:
+            file.write("02:00:00:00:00:00\n")
+        for where, name, value in (
+                (machine, "RADIOS", self.radios), (machine, "interfaces", lambda: self.others),
+                (machine, "country", lambda: "DE"), (radio_report, "this_kernel", lambda: (6, 12))):
+            patch = mock.patch.object(where, name, value)
+            patch.start()
+            self.addCleanup(patch.stop)
+
+    def drive(self, name):
+        """The radio has this driver."""
+        link = os.path.join(self.radios, "phy9", "device", "driver")
+        if os.path.lexists(link):
+            os.unlink(link)
+        os.makedirs(os.path.join(self.folder, name), exist_ok=True)
+        os.symlink(os.path.join(self.folder, name), link)
+
+    def run_command(self, *words):
+        """A radio that says what the test wants, or takes no more interfaces."""
+        if words == ("iw", "phy", "phy9", "info"):
+            return self.text
+        if self.failing_with and words[:3] == ("ip", "link", "set") and words[3] == "mon0n2":
+            raise Fault(f"`{' '.join(words)}` failed: RTNETLINK answers: {self.failing_with}")
+        return super().run_command(*words)
+
+    def told(self, forced=None):
+        """What is told, and what is missing."""
+        lines, missing = radio_report.report("phy9", forced)
+        return "\n".join(lines), missing
+
+    def test_fit(self):
+        """The way, how many networks, rates, acknowledgements and channels; nothing is missing, or changed."""
+        told, missing = self.told()
+        self.assertEqual(told.splitlines(), [
+            "phy9: the driver is mac80211_hwsim (simulated, and tried)",
+            "it serves by active monitor interfaces (--by active-monitors): each network has one; no other interface of this "
+            "radio may be up meanwhile",
+            "networks: at most 16", "rates: the bridge's choice is used", "acknowledgements: told for each frame",
+            "channels that may be used: 1 6 11 (country DE)"])
+        self.assertEqual((missing, self.commands), ([], []))
+
+    def test_ways(self):
+        """Each that would be tried, the first one first; a forced one alone."""
+        self.text = SIMULATED.replace("Device supports active monitor", "Device supports nothing")
+        with mock.patch.object(radio_report, "this_kernel", lambda: (6, 1)):
+            told, missing = self.told()
+            self.assertIn("it serves by managed interfaces (--by managed)", told)
+            self.assertIn("where it sends nothing by these, it serves by access point interfaces", told)
+            self.assertEqual(missing, [])
+            self.assertNotIn("managed", self.told(Way.ACCESS_POINTS)[0])
+        self.assertIn("it has no active monitors", self.told(Way.ACTIVE_MONITORS)[1][0])
+
+    def test_drivers(self):
+        """What is known of them; of another one nothing is."""
+        for name, says in (("mt7603e", "networks: at most 4"), ("mt76x2u", "but for bits 2 to 4 of the first octet"),
+                           ("mt7601u", "networks: at most 1"), ("ath9k", "choose BSSIDs that differ in few bits"),
+                           ("mt7915e", "rates: the radio chooses those of data by itself"),
+                           ("mt7921e", "on Linux 7.3 it has no active monitors"), ("newest", "of which nothing is known"),
+                           ("newest", "acknowledgements: not known")):
+            self.drive(name)
+            self.assertIn(says, self.told()[0])
+        for name in ("ath10k_pci", "ath9k_htc", "iwlwifi", "rtw_8822be", "rtl8xxxu", "rt2800usb"):
+            self.assertIs(drivers.known(name).has_active_monitors, False, name)
+
+    def test_missing(self):
+        """No way, no channel, and another interface that is up; one that isn't there is a fault."""
+        self.text, self.others = SMALL.replace("* monitor", "* AP").replace("2437.0 MHz [6] (20.0", "2437 MHz [6] (no IR"), [
+            mock.Mock(radio="phy9", is_up=True, is_monitor=False), mock.Mock(radio="phy5", is_up=True, is_monitor=False)]
+        self.others[0].name = "wlan0"
+        told, missing = self.told()
+        self.assertIn("channels that may be used: none", told)
+        self.assertEqual([what.split()[0] for what in missing], ["phy9:", "no", "wlan0"])
+        with self.assertRaisesRegex(Fault, "phy7: there is no such radio; there are: phy9"):
+            radio_report.report("phy7", None)
+
+    def test_refused_interfaces(self):
+        """It is told what that means, with what is known of the driver."""
+        for name, failing_with, says in (
+                ("mt7603e", "No space left on device", "the driver mt7603e takes no more such interfaces, at most 4 for networks"),
+                ("newest", "No space left on device", "the driver newest takes no more such interfaces: serve fewer"),
+                ("mt76x2e", "Device or resource busy", "no interface with this address: the BSSIDs have to be the radio's own"),
+                ("newest", "Device or resource busy", "choose BSSIDs that are like the radio's own address (02:00:00:00:00:00)"),
+                ("newest", "Operation not possible", "answers: Operation not possible$")):
+            self.drive(name)
+            self.failing_with = failing_with
+            with (self.assertRaisesRegex(Fault, says.replace("(", r"\(").replace(")", r"\)")), ExitStack() as stack,
+                  contextlib.redirect_stderr(io.StringIO())):
+                setting_up.SettingUp(self.WANTED, self.made, stack).follow(Plan(self.SETTINGS, (), "octets"))
+            self.assertEqual(self.commands[-3:], ["iw dev mon0n2 del", "iw dev mon0n1 del", "iw dev mon0 del"])
 
 
 class KernelTells(unittest.TestCase):
@@ -230,6 +331,14 @@ class Watched(OnMachine):
             with contextlib.redirect_stderr(io.StringIO()) as told:
                 self.watch.begin(Plan(self.SETTINGS, (), "octets", ways=(way,)))
             self.assertIn(f"wlan0 of phy9 is up: {says}", told.getvalue())
+
+    def test_access_points_keep_their_channel(self):
+        """Nothing of them is set up anew for another interface."""
+        self.plan = Plan(self.SETTINGS, (), "octets", ways=(Way.ACCESS_POINTS,))
+        self.set("wlan0", True)
+        self.set("wlan0", False)
+        self.assertIn("wlan0 of phy9 is down again", self.look())
+        self.assertEqual(self.commands, [])
 
     def test_own_that_is_taken_down(self):
         """It is told, and set up anew; one that is gone is made again."""

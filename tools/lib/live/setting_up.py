@@ -1,7 +1,6 @@
 """What the bridge changes on this machine, part by part: when the configuration is read again, those parts alone are
 taken back that it has no more."""
 import os
-import shutil
 from contextlib import ExitStack
 from dataclasses import dataclass
 
@@ -9,16 +8,17 @@ from frames import address_text
 from live import changes, machine
 from live.changes import Change, Changes, reload_network_manager
 from live.checks import Plan, Wanted
+from live.drivers import meaning_of
 from live.faults import Fault
 from live.kernel_beacon import other_address, start_words
 from live.machine import Interface
-from live.telling import tell
+from live.telling import WARNING, tell
 from live.ways import Way
 
 MTU = 2304
 ADDRESS_MODE, NO_ADDRESS = "/proc/sys/net/ipv6/conf/{}/addr_gen_mode", "none"
 ADDRESS_MODES = {"0": "eui64", "1": "none", "2": "stable_secret", "3": "random"}
-RUNNING, UNMANAGED = "/run/NetworkManager", "/run/NetworkManager/conf.d/{}.conf"
+UNMANAGED = "/run/NetworkManager/conf.d/waltigon-{}.conf"
 # The words of `iw` for the interface of a network, which has this address; `flags` have to stand last.
 KINDS = {Way.ACTIVE_MONITORS: "monitor addr {} flags active", Way.MANAGED: "managed addr {}",
          Way.ACCESS_POINTS: "__ap addr {}"}
@@ -226,7 +226,11 @@ class SettingUp:
     def bring_network_up(self, part: NetworkPart) -> None:
         """Brings it up; a driver may take no more of them, or not with this address."""
         self.keep_without_address(part.interface)
-        machine.run("ip", "link", "set", part.interface, "up")
+        try:
+            machine.run("ip", "link", "set", part.interface, "up")
+        except Fault as fault:
+            meaning = meaning_of(str(fault), self.wanted.phy)
+            raise Fault(f"{fault}: {meaning}" if meaning else str(fault)) from None
         if part.way is Way.ACCESS_POINTS:
             machine.run("iw", "dev", part.interface, *start_words(part.frequency, part.beacon_from))
 
@@ -254,14 +258,27 @@ class SettingUp:
         self.stack.callback(self.made.take_back, change)
 
     def keep_network_manager_out(self) -> None:
-        """Where NetworkManager runs it would scan by the new interfaces, and so move the channel."""
-        if shutil.which("nmcli") is None or not os.path.isdir(RUNNING):
-            return
+        """NetworkManager would scan by the new interfaces, and so move the channel: a file says that it leaves them alone,
+        and those that the radio has already. It is there whether NetworkManager runs or not, which may begin later."""
         path = UNMANAGED.format(self.wanted.monitor)
         change = Change(changes.UNMANAGED, path)
         self.made.add(change)
-        os.makedirs(os.path.dirname(path), exist_ok=True)
-        with open(path, "w", encoding="utf-8") as file:
-            file.write(f"[keyfile]\nunmanaged-devices+=interface-name:{self.wanted.monitor}*\n")
+        others = [interface.name for interface in machine.interfaces()
+                  if interface.radio == self.wanted.phy and not interface.name.startswith(self.wanted.monitor)]
+        try:
+            os.makedirs(os.path.dirname(path), exist_ok=True)
+            with open(path, "w", encoding="utf-8") as file:
+                file.write(leave_alone(self.wanted.monitor, others))
+        except OSError as fault:
+            self.made.forget(change)
+            tell(f"{path}: {fault.strerror}: NetworkManager may take the interfaces of this radio", WARNING)
+            return
         self.stack.callback(self.made.take_back, change)
         reload_network_manager()
+
+
+def leave_alone(monitor: str, others: list[str]) -> str:
+    """A file by which NetworkManager leaves alone what has a name of ours, and others (NetworkManager.conf(5)). A section of
+    its own holds beside an operator's list of unmanaged devices."""
+    devices = ",".join(f"interface-name:{name}" for name in (f"{monitor}*", *others))
+    return f"[device-waltigon-{monitor}]\nmatch-device={devices}\nmanaged=0\n"

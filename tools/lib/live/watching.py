@@ -68,7 +68,7 @@ class RadioWatch:
         if gone:
             self.others -= gone
             self.say(f"{listed(gone)} of {self.wanted.phy} is down again", NOTICE, plan)
-            self.is_due = True
+            self.is_due |= plan.way is not Way.ACCESS_POINTS  # these have kept their channel
         down = {link.name for link in changed if link.name in own and not link.is_up}
         if down and not self.is_due:
             self.say(f"{listed(down)} was taken down by somebody", WARNING, plan)
