@@ -16,7 +16,7 @@ from live.machine import Interface
 from live.phys import ACCESS_POINT, MANAGED, read_phy
 from live.settings import Settings
 from live.ways import Way, kernel_of, ways_of
-from machines import COUNTED, OURS, SIMULATED, SMALL, OnMachine
+from machines import COUNTED, SIMULATED, SMALL, OnMachine
 
 
 class Radios(unittest.TestCase):
@@ -363,6 +363,13 @@ class Watched(OnMachine):
         self.assertEqual(self.look(), "")
         self.failing, self.watch.next_try = None, 0.0
         self.assertIn("phy9 was set up anew", self.look())
+
+    def test_down_as_it_begins(self):
+        """Where an own interface is down as another bridge begins, that is mended too."""
+        self.set("mon0n1", False, hardware=803)
+        self.watch.begin(self.plan)
+        self.assertIn("phy9 was set up anew", self.look())
+        self.assertEqual(self.commands, self.ANEW)
 
     def test_no_beacon_is_sent(self):
         """It is told, and all is set up anew once; that beacons go again is told too."""

@@ -38,8 +38,8 @@ class RadioWatch:
     def begin(self, plan: Plan) -> None:
         """From now on it is looked at: the radio has just been set up, and another bridge serves it."""
         self.links.changed()
-        self.is_due = self.is_silent = False
-        self.elsewhere = None
+        self.is_silent, self.elsewhere = False, None
+        self.is_due = not all(Interface(name).is_up for name in self.setting_up.radio_interfaces())
         self.came_up({interface.name for interface in machine.interfaces() if self.is_other(interface)}, plan)
 
     @property
