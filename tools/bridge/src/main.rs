@@ -1,5 +1,6 @@
 //! The bridge between the program's word `live` and a Linux machine's radio and wired ports: the way of a frame.
-//! `tools/live` checks all, sets the interfaces up, starts this, and takes down what it set up; docs/BRIDGE.md tells how.
+//! `tools/live` checks all, sets the interfaces up, starts this, and takes down what it set up; docs/BRIDGE.md tells
+//! how.
 //!
 //! ```text
 //!      what comes                                                                        the program
@@ -21,93 +22,65 @@
 //!  people ◀──────────────────── lines of tables and faults
 //! ```
 //!
-//! It promises: frames of the air for one network stay in their order, frames of the air for all networks, and frames of
-//! each wire. What is for all and what is for one network may overtake each other (`waiting`). What is sent by each wire
-//! stays in its order, and on the air to each receiver.
+//! It promises: frames of the air for one network stay in their order, frames of the air for all networks, and frames
+//! of each wire. What is for all and what is for one network may overtake each other (`inbound::queue`). What is sent
+//! by each wire stays in its order, and on the air to each receiver.
 //!
-//! A unit that nobody acknowledged is sent once more, if none went to its
-//! station since. Each frame that comes is given to the program once, or counted as left out or dropped, but for what
-//! the kernel's filter keeps out: control frames, and frames for no network. A beginning of a beacon interval waits for
-//! none of the frames that wait. A beacon goes before all that waits, group frames of its network included; what the
-//! program sends after a beacon never goes before it. While a network has frames waiting for the air, no other one gets
-//! more than its share of it and one frame (`shares`). All memory is bounded. One thread does all by `epoll`, and waits nowhere else but for its ends
-//! of standard error and the record, and where many frames come for a millisecond at most, in which some gather
-//! (`gathering`).
+//! A unit that nobody acknowledged is sent once more, if none went to its station since. Each frame that comes is given
+//! to the program once, or counted as left out or dropped, but for what the kernel's filter keeps out: control frames,
+//! and frames for no network. A beginning of a beacon interval waits for none of the frames that wait. A beacon goes
+//! before all that waits, group frames of its network included; what the program sends after a beacon never goes before
+//! it. While a network has frames waiting for the air, no other one gets more than its share of it and one frame
+//! (`scheduler`). All memory is bounded. One thread does all by `epoll`, and waits nowhere else but for its ends of
+//! standard error and the record, and where many frames come for a millisecond at most, in which some gather
+//! (`batching`).
 //!
 //! It leaves every decision on a frame to the program, and leaves to `tools/live` all that takes rights: it has none of
-//! its own (`rights`). It speaks with that by lines of a Unix socket: it reads `state`, with the files by which stations
-//! stay, `open PLACE...`, once the interfaces are there, with their sockets, `wire PLACE`, with the socket of a wire that
-//! is there again, `tables`, and `dismiss PLACE...`, by which all stations of these networks are told to join again; the
-//! end of its input ends it. It writes `ready`, once the networks are open,
-//! `sending`, once the first beacon was seen as sent, `alive` while the program answers, `down PLACE` where a wire ended,
-//! `dismissed`, `status N` with the status of the program, and `fault TEXT`, after which it ends with status 1.
+//! its own (`os::sandbox`). It speaks with that by lines of a Unix socket: it reads `state`, with the files by which
+//! stations stay, `open PLACE...`, once the interfaces are there, with their sockets, `wire PLACE`, with the socket of
+//! a wire that is there again, `tables`, and `dismiss PLACE...`, by which all stations of these networks are told to
+//! join again; the end of its input ends it. It writes `ready`, once the networks are open, `sending`, once the first
+//! beacon was seen as sent, `alive` while the program answers, `down PLACE` where a wire ended, `dismissed`, `status N`
+//! with the status of the program, and `fault TEXT`, after which it ends with status 1.
 //!
-//! Where a bridge takes the place of another one, stations stay (`restoring`). The state that the one before has left in
-//! the files says who is associated, and by which request. The new program is told of these before anything else, and the
-//! record marks that by comments. What it answers to these events is swallowed: that alone of its answers isn't sent. Each
-//! second in which something changed, and at its end, the bridge leaves such a state itself (`keeping`).
+//! Where a bridge takes the place of another one, stations stay (`handover::restoring`). The state that the one before
+//! has left in the files says who is associated, and by which request. The new program is told of these before anything
+//! else, and the record marks that by comments. What it answers to these events is swallowed: that alone of its answers
+//! isn't sent. Each second in which something changed, and at its end, the bridge leaves such a state itself
+//! (`handover::files`).
 //!
-//! By itself (`operating`) it watches which stations there are, tells what happens to them, and asks those that have
-//! fallen silent whether they are there; for one that isn't, or that doesn't associate where a network is nearly full,
-//! it tells the program that the station left. It answers who connects to its socket (`clients`).
+//! By itself (`stations::operating`) it watches which stations there are, tells what happens to them, and asks those
+//! that have fallen silent whether they are there; for one that isn't, or that doesn't associate where a network is
+//! nearly full, it tells the program that the station left. It answers who connects to its socket (`control::clients`).
 #![deny(unsafe_code)]
 
-mod airtime;
-mod bridge;
-mod clients;
+mod apctl;
 mod control;
-mod digits;
-mod faces;
-mod faults;
-mod filter;
-mod flight;
-mod frames;
-mod gathering;
-mod keeping;
-mod lanes;
-mod lateness;
-mod log;
-mod meaning;
-#[cfg(test)]
-mod mutator;
-mod operating;
-mod own_frames;
-mod poller;
-mod program;
-mod radiotap;
-mod rates;
-mod receiving;
-mod restoring;
-mod rights;
-mod roster;
-#[cfg(test)]
-mod samples;
-mod sending;
-mod shares;
-mod silence;
-mod sockets;
+mod formats;
+mod handover;
+mod inbound;
+mod os;
+mod outbound;
+mod run;
 mod stations;
-mod status;
-mod tables;
-mod time;
-mod transmitting;
-mod waiting;
-mod words;
+#[cfg(test)]
+mod testing;
 
 use std::os::unix::io::{AsFd, RawFd};
 use std::process::ExitCode;
 
-use bridge::{Bridge, Manner};
-use clients::Clients;
-use control::{say, Handed, Notice, Requests};
-use faults::Fault;
-use program::{Program, Record};
-use restoring::Setting;
-use rights::Bounds;
-use sending::Sender;
-use sockets::{inherited, inherited_listener, OfSocket, PacketSocket};
-use time::{Nanos, SECOND};
-use words::Words;
+use apctl::program::{Program, Record};
+use control::arguments::Words;
+use control::clients::Clients;
+use control::faults::{self, Fault};
+use control::log;
+use control::parent::{say, Handed, Notice, Requests};
+use handover::restoring::Setting;
+use os::clock::{Nanos, SECOND};
+use os::sandbox::{self, Bounds};
+use os::sockets::{inherited, inherited_listener, OfSocket, PacketSocket};
+use outbound::sender::Sender;
+use run::{Bridge, Manner};
 
 const WRONG_WORDS: u8 = 2;
 
@@ -130,7 +103,7 @@ fn main() -> ExitCode {
 /// Runs the bridge until it is ended, or until a fault. It serves once it has given up what it doesn't need then.
 fn run(words: &Words) -> Result<(), Fault> {
     log::begin(&words.name);
-    rights::give_up_capabilities()?;
+    sandbox::give_up_capabilities()?;
     let requests =
         std::io::stdin().as_fd().try_clone_to_owned().map_err(|fault| Fault::of("standard input", &fault))?;
     let record = words.record.as_ref().map(|(descriptor, name)| record(*descriptor, name)).transpose()?;
@@ -143,7 +116,7 @@ fn run(words: &Words) -> Result<(), Fault> {
         tells_alive: words.tells_alive,
     };
     let mut bridge = Bridge::new(program, feeder, Requests::new(requests.into()), clients, manner)?;
-    rights::keep_to_calls()?;
+    sandbox::keep_to_calls()?;
     bridge.serve(|handed| open(words, handed))
 }
 

@@ -1,0 +1,4 @@
+//! The program, `apctl live`, as a child: how it runs, the records that it and the bridge exchange, and its tables.
+pub mod program;
+pub mod records;
+pub mod tables;

@@ -1,0 +1,48 @@
+//! Why the bridge can't begin or go on, for a person who can act on it.
+use std::fmt;
+use std::io;
+
+use crate::control::log::{self, Level};
+
+/// What has to be changed on this machine, in the configuration or in the words.
+#[derive(Debug, Clone, PartialEq, Eq)]
+pub struct Fault(String);
+
+impl Fault {
+    /// A fault in these words.
+    pub fn new(text: impl Into<String>) -> Fault {
+        Fault(text.into())
+    }
+
+    /// A fault of the system, and of what.
+    pub fn of(what: impl fmt::Display, fault: &io::Error) -> Fault {
+        Fault(format!("{what}: {}", reason(fault)))
+    }
+}
+
+impl fmt::Display for Fault {
+    fn fmt(&self, to: &mut fmt::Formatter<'_>) -> fmt::Result {
+        write!(to, "{}", self.0)
+    }
+}
+
+impl std::error::Error for Fault {}
+
+impl From<nix::Error> for Fault {
+    fn from(fault: nix::Error) -> Fault {
+        Fault(fault.desc().to_owned())
+    }
+}
+
+/// What the system says of a fault, without its number.
+pub fn reason(fault: &io::Error) -> String {
+    match fault.raw_os_error() {
+        Some(number) => nix::Error::from_i32(number).desc().to_owned(),
+        None => fault.to_string(),
+    }
+}
+
+/// Says something to the person on standard error.
+pub fn tell(text: impl fmt::Display) {
+    log::write(Level::Notice, text);
+}

@@ -1,0 +1,3 @@
+//! The way of a frame from the program to an interface: the air, shared by all networks, or a network's wire.
+pub mod air;
+pub mod sender;

@@ -1,0 +1,7 @@
+//! The stations of each network: what is heard of them, which of them are still there, and what the bridge itself sends
+//! them.
+pub mod keep_alive;
+pub mod meaning;
+pub mod operating;
+pub mod own_frames;
+pub mod table;
