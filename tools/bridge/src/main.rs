@@ -43,7 +43,7 @@
 //! beacon was seen as sent, `alive` while the program answers, `down PLACE` where a wire ended, `dismissed`, `status N`
 //! with the status of the program, and `fault TEXT`, after which it ends with status 1.
 //!
-//! Where a bridge takes the place of another one, stations stay (`handover::restoring`). The state that the one before
+//! Where a bridge takes the place of another one, stations stay (`handover::replay`). The state that the one before
 //! has left in the files says who is associated, and by which request. The new program is told of these before anything
 //! else, and the record marks that by comments. What it answers to these events is swallowed: that alone of its answers
 //! isn't sent. Each second in which something changed, and at its end, the bridge leaves such a state itself
@@ -59,6 +59,7 @@ mod control;
 mod formats;
 mod handover;
 mod inbound;
+mod network;
 mod os;
 mod outbound;
 mod run;
@@ -69,13 +70,13 @@ mod testing;
 use std::os::unix::io::{AsFd, RawFd};
 use std::process::ExitCode;
 
+use crate::handover::state::Setting;
 use apctl::program::{Program, Record};
 use control::arguments::Words;
 use control::clients::Clients;
 use control::faults::{self, Fault};
 use control::log;
 use control::parent::{say, Handed, Notice, Requests};
-use handover::restoring::Setting;
 use os::clock::{Nanos, SECOND};
 use os::sandbox::{self, Bounds};
 use os::sockets::{inherited, inherited_listener, OfSocket, PacketSocket};

@@ -54,7 +54,7 @@ impl fmt::Display for Unknown {
 const MOST_ANSWER: usize = 1 << 17;
 const TOLD_LEN: usize = 80;
 const RECORD_HEADER_LEN: usize = 9;
-const NOBODY: Address = Address::of([0; 6]);
+pub const NOBODY: Address = Address::of([0; 6]);
 
 impl Face {
     /// Appends what is said.

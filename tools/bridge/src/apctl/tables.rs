@@ -3,7 +3,7 @@ use std::collections::{HashMap, VecDeque};
 
 use crate::formats::frames::Address;
 use crate::os::clock::{Nanos, SECOND};
-use crate::stations::table::State;
+use crate::stations::station::State;
 
 /// The tables of one second ago are new enough.
 const NEW_ENOUGH: Nanos = SECOND;

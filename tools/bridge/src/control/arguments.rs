@@ -7,8 +7,8 @@ use std::str::FromStr;
 use crate::apctl::records::Face;
 use crate::control::log;
 use crate::formats::frames::Address;
+use crate::network::Network;
 use crate::outbound::air::scheduler::MOST_WEIGHT;
-use crate::outbound::sender::Network;
 
 /// How it is called.
 pub const USAGE: &str =

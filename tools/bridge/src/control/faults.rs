@@ -1,6 +1,5 @@
 //! Why the bridge can't begin or go on, for a person who can act on it.
-use std::fmt;
-use std::io;
+use std::{fmt, io};
 
 use crate::control::log::{self, Level};
 

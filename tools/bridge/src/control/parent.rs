@@ -10,7 +10,7 @@ use crate::control::faults::Fault;
 use crate::os::sockets::receive_handed;
 
 /// How many octets of a line are kept at most, and how many descriptors that no line has named.
-const MOST_OCTETS: usize = 1024;
+pub const MOST_OCTETS: usize = 1024;
 const MOST_DESCRIPTORS: usize = 64;
 /// The sockets of the radio: what it hears, its beacons, and what it shows as acknowledged.
 const OF_RADIO: usize = 3;

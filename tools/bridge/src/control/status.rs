@@ -4,10 +4,11 @@ use std::fmt::{self, Display, Write};
 
 use crate::apctl::program::Record;
 use crate::apctl::tables::Tables;
+use crate::network::Network;
 use crate::os::clock::{Lateness, Nanos, MILLISECOND, SECOND};
-use crate::outbound::air::transmitter::Account;
-use crate::outbound::sender::Network;
-use crate::stations::table::{Roster, State, Station};
+use crate::outbound::air::account::Account;
+use crate::stations::station::{State, Station};
+use crate::stations::table::Roster;
 
 /// Which version runs.
 pub const VERSION: &str = match option_env!("BRIDGE_VERSION") {
@@ -243,7 +244,7 @@ impl Display for Milliseconds {
 mod tests {
     use super::*;
     use crate::apctl::tables::Asker;
-    use crate::outbound::air::transmitter::Unsent;
+    use crate::outbound::air::account::Unsent;
     use crate::testing::samples::{network, OTHER, OURS, STATION};
 
     #[test]

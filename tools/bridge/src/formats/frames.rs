@@ -11,6 +11,8 @@ use ahash::RandomState;
 pub const LEAST: usize = 10;
 /// The most octets of a frame that the program takes.
 pub const MOST: usize = 4096;
+/// The subtype and type of a beacon, in the first octet of Frame Control.
+pub const BEACON: u8 = 0x80;
 const HEADER_LEN: usize = 24;
 const RECEIVER_AT: usize = 4;
 const TRANSMITTER_AT: usize = 10;

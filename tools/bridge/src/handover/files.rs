@@ -9,7 +9,7 @@ use crate::control::log::{self, Level};
 use crate::os::clock::{Nanos, SECOND};
 
 /// How many octets of a file are read at most.
-const MOST_OCTETS: u64 = 1 << 28;
+pub const MOST_OCTETS: u64 = 1 << 28;
 /// So often a state is written at most while something changes, for each so many octets of it, and at least: a state
 /// that isn't written any more is old.
 const EVERY: Nanos = SECOND;

@@ -6,8 +6,7 @@
 //! whose header is as mac80211 writes it, and these the first filter keeps out.
 use libc::sock_filter;
 
-use crate::formats::frames::Address;
-use crate::outbound::sender::BEACON;
+use crate::formats::frames::{Address, BEACON};
 
 /// What is done with the frames that the radio shows as sent.
 #[derive(Debug, Clone, Copy, PartialEq, Eq)]

@@ -2,5 +2,8 @@
 //! program, and batching where many frames come.
 pub mod batching;
 pub mod filter;
+mod flows;
 pub mod judging;
+pub mod lane;
 pub mod queue;
+pub mod waiter;

@@ -1,5 +1,7 @@
 //! What the bridge takes of Linux: sockets, a poller, clocks, and a sandbox.
 pub mod clock;
+mod landlock;
 pub mod poller;
 pub mod sandbox;
+mod seccomp;
 pub mod sockets;

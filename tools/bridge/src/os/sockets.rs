@@ -3,11 +3,10 @@
 //! has.
 #![allow(unsafe_code)]
 use std::collections::VecDeque;
-use std::io;
 use std::mem::{size_of, size_of_val, zeroed};
 use std::os::unix::io::{AsRawFd, FromRawFd, OwnedFd, RawFd};
 use std::os::unix::net::{UnixListener, UnixStream};
-use std::ptr;
+use std::{io, ptr};
 
 use libc::{c_int, c_void, iovec, mmsghdr, sock_filter, sockaddr_ll};
 use nix::sys::socket::getsockopt;

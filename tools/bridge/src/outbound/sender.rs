@@ -1,198 +1,18 @@
 //! What the program sends goes to the interfaces here: on the air as `transmitter` says, and by each wire in order,
 //! many frames a call, and no longer than is worth it.
-use std::collections::{BTreeMap, VecDeque};
-use std::io::{self, ErrorKind};
-
 use crate::control::faults::Fault;
 use crate::formats::frames::{is_tagged, Address, AddressMap, Frame};
 use crate::formats::radiotap::Outcome;
-use crate::inbound::queue::LONGEST;
-use crate::os::clock::{self, Nanos};
+use crate::network::Network;
+use crate::os::clock::Nanos;
 use crate::os::sockets::{Port, AT_A_TIME};
+use crate::outbound::air::account::Account;
 use crate::outbound::air::links::Unacknowledged;
 use crate::outbound::air::scheduler::Place;
-use crate::outbound::air::transmitter::{count_refused, Account, Transmitter};
-
-const MOST_OCTETS: usize = 4 << 20;
-const BASIC: u8 = 0x80;
-/// The subtype and type of a beacon, in the first octet of Frame Control.
-pub const BEACON: u8 = 0x80;
-
-/// What the bridge knows of a network.
-#[derive(Debug, Clone, PartialEq, Eq)]
-pub struct Network {
-    /// Its address.
-    pub bssid: Address,
-    /// Its SSID.
-    pub ssid: Vec<u8>,
-    /// Its rates, as the octets of its elements: units of 500 kb/s, with the highest bit where a rate is basic.
-    pub rates: Vec<u8>,
-    /// How many stations are associated with it at most.
-    pub max_stations: u16,
-    /// How many stations it knows at most.
-    pub max_known: u16,
-    /// The interface of its wire, if it has one.
-    pub wire: Option<String>,
-    /// Its share of the air, as a part of all networks' shares: from 1 to `scheduler::MOST_WEIGHT`.
-    pub weight: u8,
-}
-
-impl Network {
-    /// Its lowest basic rate, or its lowest where none is basic, in units of 500 kb/s.
-    pub fn lowest_basic_rate(&self) -> u8 {
-        let basic = self.rates.iter().filter(|rate| **rate & BASIC != 0).map(|rate| rate & !BASIC).min();
-        basic.or_else(|| self.rates.iter().copied().min()).unwrap_or(2)
-    }
-}
-
-/// Counts with their names, for people.
-pub type Counts = BTreeMap<String, u64>;
-
-/// Adds to a count.
-pub fn count(counts: &mut Counts, what: &str, number: u64) {
-    match counts.get_mut(what) {
-        Some(found) => *found += number,
-        None => {
-            counts.insert(what.to_owned(), number);
-        }
-    }
-}
-
-/// An interface by which frames are sent, and whether it has room.
-#[derive(Debug)]
-pub struct Gate<P> {
-    /// The interface.
-    pub port: P,
-    is_blocked: bool,
-    is_waited_for: bool,
-}
-
-impl<P: Port> Gate<P> {
-    /// It has room.
-    pub fn new(port: P) -> Gate<P> {
-        Gate { port, is_blocked: false, is_waited_for: false }
-    }
-
-    /// One waits for its room from now on, or no more.
-    pub fn set_waited_for(&mut self, is_waited_for: bool) {
-        self.is_waited_for = is_waited_for;
-    }
-
-    /// Whether one waits for its room exactly where it has none.
-    pub fn is_settled(&self) -> bool {
-        self.is_blocked == self.is_waited_for
-    }
-
-    /// Whether it has no room at the moment.
-    pub fn is_blocked(&self) -> bool {
-        self.is_blocked
-    }
-
-    /// It may have room again.
-    pub fn unblock(&mut self) {
-        self.is_blocked = false;
-    }
-
-    /// Sends the first so many of these frames as there is room for. A fault is of the first one alone.
-    pub fn send(&mut self, frames: &[&[u8]]) -> io::Result<usize> {
-        match self.port.send(frames) {
-            Err(fault) if fault.kind() == ErrorKind::WouldBlock => {
-                self.is_blocked = true;
-                Ok(0)
-            }
-            Err(fault) if fault.kind() == ErrorKind::Interrupted => Ok(0),
-            outcome => outcome,
-        }
-    }
-}
-
-/// A frame on its way to a wire.
-#[derive(Debug)]
-struct Leaving {
-    octets: Vec<u8>,
-    since: Nanos,
-}
-
-/// A wire, with what waits to be sent by it.
-#[derive(Debug)]
-pub struct Exit<P> {
-    /// The interface.
-    pub gate: Gate<P>,
-    leaving: VecDeque<Leaving>,
-    octets: usize,
-    sent: u64,
-}
-
-impl<P: Port> Exit<P> {
-    /// Nothing waits.
-    pub fn new(port: P) -> Exit<P> {
-        Exit { gate: Gate::new(port), leaving: VecDeque::new(), octets: 0, sent: 0 }
-    }
-
-    /// Whether nothing waits, for room or to be sent.
-    pub fn is_idle(&self) -> bool {
-        self.leaving.is_empty() && self.gate.is_settled()
-    }
-
-    /// Whether something waits that has room.
-    fn has_room(&self) -> bool {
-        !self.leaving.is_empty() && !self.gate.is_blocked()
-    }
-
-    fn push(&mut self, frame: Leaving, counts: &mut Counts) {
-        while self.octets + frame.octets.len() > MOST_OCTETS {
-            match self.leaving.pop_front() {
-                Some(dropped) => self.octets -= dropped.octets.len(),
-                None => break,
-            }
-            count(counts, &format!("dropped, since no more could wait for {}", self.gate.port.interface()), 1);
-        }
-        self.octets += frame.octets.len();
-        self.leaving.push_back(frame);
-    }
-
-    /// Sends what waits, as far as there is room and until it is that time, and drops what waited too long.
-    pub fn flush(&mut self, now: Nanos, until: Nanos, counts: &mut Counts) {
-        let mut time = now;
-        while !self.gate.is_blocked() && !self.leaving.is_empty() && time < until {
-            self.drop_late(now, counts);
-            let mut frames: [&[u8]; AT_A_TIME] = [&[]; AT_A_TIME];
-            frames.iter_mut().zip(&self.leaving).for_each(|(frame, leaving)| *frame = &leaving.octets);
-            let number = self.leaving.len().min(AT_A_TIME);
-            if number == 0 {
-                return;
-            }
-            if number < self.leaving.len() {
-                time = clock::now();
-            }
-            match self.gate.send(&frames[..number]) {
-                Ok(number) => self.sent(number),
-                Err(fault) => {
-                    if let Some(frame) = self.leaving.pop_front() {
-                        self.octets -= frame.octets.len();
-                        count_refused(&self.gate, frame.octets.len(), &fault, counts);
-                    }
-                }
-            }
-        }
-    }
-
-    fn drop_late(&mut self, now: Nanos, counts: &mut Counts) {
-        let before = self.leaving.len();
-        while self.leaving.front().map_or(false, |frame| now.saturating_sub(frame.since) > LONGEST) {
-            self.octets -= self.leaving.pop_front().map_or(0, |frame| frame.octets.len());
-        }
-        if self.leaving.len() < before {
-            let what = format!("dropped, of data that had waited too long for {}", self.gate.port.interface());
-            count(counts, &what, (before - self.leaving.len()) as u64);
-        }
-    }
-
-    fn sent(&mut self, number: usize) {
-        self.octets -= self.leaving.drain(..number).map(|frame| frame.octets.len()).sum::<usize>();
-        self.sent += number as u64;
-    }
-}
+use crate::outbound::air::Transmitter;
+use crate::outbound::counts::{count, Counts};
+use crate::outbound::gate::Gate;
+use crate::outbound::wire::{Exit, MOST_OCTETS};
 
 /// Sends the frames of the program's answers by the monitor interface and the wires.
 #[derive(Debug)]
@@ -334,7 +154,7 @@ impl<P: Port> Sender<P> {
         match &mut self.wires[place] {
             None => count(&mut self.counts, "lost, of networks without --wire", 1),
             Some(_) if is_tagged(&octets) => count(&mut self.counts, "not sent, since they have a VLAN's tag", 1),
-            Some(exit) => exit.push(Leaving { octets, since: now }, &mut self.counts),
+            Some(exit) => exit.push(octets, now, &mut self.counts),
         }
         Ok(())
     }
@@ -393,107 +213,5 @@ impl<P: Port> Sender<P> {
 }
 
 #[cfg(test)]
-mod tests {
-    use super::*;
-    use crate::testing::samples::{network, Recorder, Unit, OTHER, OURS, STATION};
-
-    fn networks() -> Vec<Network> {
-        vec![
-            Network { rates: vec![0x0b, 0x84, 0x82], ..network(OURS) },
-            Network { rates: vec![0x16, 0x0b], wire: Some("wire2".into()), ..network(OTHER) },
-        ]
-    }
-
-    fn sender(wire: Recorder) -> Sender<Recorder> {
-        Sender::new(networks(), Recorder::default(), Recorder::default(), vec![None, Some(wire)])
-    }
-
-    fn unit(transmitter: Address) -> Vec<u8> {
-        Unit { control: [0x08, 2], receiver: STATION, transmitter, ..Unit::default() }.octets()
-    }
-
-    fn on_wire(sender: &mut Sender<Recorder>) -> &[Vec<u8>] {
-        &sender.wire(1).unwrap().port.sent
-    }
-
-    #[test]
-    fn what_is_sent_is_counted() {
-        let mut sender = sender(Recorder::default());
-        sender.send_on_air(OTHER, unit(OTHER), 0).unwrap();
-        sender.send_on_wire(OTHER, vec![0; 14], 0).unwrap();
-        sender.flush(0, Nanos::MAX);
-        assert_eq!(sender.monitor().port.sent.len(), 1);
-        assert_eq!(on_wire(&mut sender), [vec![0; 14]]);
-        let told: Vec<_> = sender.counts().into_iter().collect();
-        assert_eq!(told, [("sent on the air".to_owned(), 1), ("sent on the wires".to_owned(), 1)]);
-    }
-
-    #[test]
-    fn what_has_no_wire_or_a_tag_is_counted() {
-        let mut sender = sender(Recorder::default());
-        sender.send_on_wire(OURS, vec![0; 14], 0).unwrap();
-        sender.send_on_wire(OTHER, [&[0; 12][..], &[0x81, 0, 0, 7]].concat(), 0).unwrap();
-        sender.flush(0, Nanos::MAX);
-        assert!(on_wire(&mut sender).is_empty());
-        assert_eq!(sender.counts().values().sum::<u64>(), 2);
-    }
-
-    #[test]
-    fn a_network_that_is_not_there_is_the_program_s_fault() {
-        let mut sender = sender(Recorder::default());
-        assert!(sender.send_on_air(STATION, unit(OURS), 0).is_err());
-        assert!(sender.send_on_wire(STATION, vec![], 0).is_err());
-    }
-
-    #[test]
-    fn what_waits_for_room_at_a_wire_goes_later_and_what_is_late_is_dropped() {
-        let mut sender = sender(Recorder { room: Some(1), ..Recorder::default() });
-        for (mark, since) in [(1, 0), (2, 0), (3, LONGEST)] {
-            sender.send_on_wire(OTHER, vec![mark; 14], since).unwrap();
-        }
-        sender.flush(0, Nanos::MAX);
-        let wire = sender.wire(1).unwrap();
-        assert!(wire.is_blocked());
-        wire.port.room = None;
-        wire.unblock();
-        sender.flush(LONGEST + 1, Nanos::MAX);
-        assert_eq!(on_wire(&mut sender), [vec![1; 14], vec![3; 14]]);
-        assert_eq!(sender.counts()["dropped, of data that had waited too long for mon0"], 1);
-        assert_eq!(sender.wires[1].as_ref().unwrap().octets, 0);
-        assert!(sender.is_idle() && !sender.has_room());
-    }
-
-    #[test]
-    fn what_a_wire_refuses_is_counted_and_the_next_is_sent() {
-        let mut sender = sender(Recorder { longest: Some(60), ..Recorder::default() });
-        for length in [14, 61, 61, 15] {
-            sender.send_on_wire(OTHER, vec![0; length], 0).unwrap();
-        }
-        sender.flush(0, Nanos::MAX);
-        assert_eq!(on_wire(&mut sender), [vec![0; 14], vec![0; 15]]);
-        assert_eq!(sender.counts()["refused by mon0: Message too long"], 2);
-    }
-
-    #[test]
-    fn what_waits_for_a_wire_is_bounded_and_sent_some_at_a_time_until_a_time() {
-        let mut sender = sender(Recorder::default());
-        for _ in 0..2000 {
-            sender.send_on_wire(OTHER, vec![0; 4000], 0).unwrap();
-        }
-        let waiting = MOST_OCTETS / 4000;
-        assert_eq!(sender.counts()["dropped, since no more could wait for mon0"] as usize + waiting, 2000);
-        sender.flush(5, 5);
-        assert!(on_wire(&mut sender).is_empty() && !sender.is_idle());
-        sender.flush(0, clock::now());
-        assert_eq!(on_wire(&mut sender).len(), AT_A_TIME);
-        sender.flush(0, Nanos::MAX);
-        assert_eq!(on_wire(&mut sender).len(), waiting);
-        assert!(sender.is_idle());
-    }
-
-    #[test]
-    fn the_lowest_basic_rate_counts_or_the_lowest() {
-        let [first, second] = [0, 1].map(|place| networks()[place].lowest_basic_rate());
-        assert_eq!((first, second), (2, 0x0b));
-    }
-}
+#[path = "sender_test.rs"]
+mod tests;

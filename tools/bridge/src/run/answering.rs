@@ -6,11 +6,10 @@ use crate::control::clients::Line;
 use crate::control::faults::Fault;
 use crate::control::log::{self, Level};
 use crate::control::parent::{say, Notice};
-use crate::formats::frames::Address;
+use crate::formats::frames::{Address, BEACON};
 use crate::os::clock::{now, Nanos, SECOND};
 use crate::os::poller::{Ready, Token};
 use crate::os::sockets::{OfSocket, Port};
-use crate::outbound::sender::BEACON;
 
 impl<P: OfSocket> Bridge<P> {
     /// Reads what the program wrote, and sends it.

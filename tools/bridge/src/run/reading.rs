@@ -7,7 +7,7 @@ use crate::formats::frames::Address;
 use crate::formats::radiotap::reception;
 use crate::inbound::filter::nothing_filter;
 use crate::inbound::judging::{judge_wired, Judged, LeftOut};
-use crate::inbound::queue::{Source, Waiter};
+use crate::inbound::waiter::{Source, Waiter};
 use crate::os::clock::{wall_now, Nanos, SECOND};
 use crate::os::poller::{Poller, Token};
 use crate::os::sockets::{Batch, Packet, Port, AT_A_TIME};

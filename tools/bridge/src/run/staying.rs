@@ -5,10 +5,12 @@ use crate::control::faults::Fault;
 use crate::control::log::{self, Level};
 use crate::formats::frames::Frame;
 use crate::handover::files::Keeping;
-use crate::handover::restoring::{self, NotUsed, OfNetwork, Restored, Restoring, Setting, State};
+use crate::handover::replay::{Restored, Restoring};
+use crate::handover::state::{self, NotUsed, OfNetwork, Setting, State};
+use crate::network::Network;
 use crate::os::clock::{now, Nanos};
 use crate::os::sockets::{OfSocket, Port};
-use crate::outbound::sender::{Network, Sender};
+use crate::outbound::sender::Sender;
 
 /// Marks in the record around the events by which a new program comes to know stations: what it answers to these was
 /// swallowed.
@@ -127,7 +129,7 @@ impl<P: Port> Running<P> {
 /// What an earlier bridge has left; where it isn't used, that is told.
 pub(super) fn left_state(keeping: &mut Keeping, setting: &Setting, now: Nanos) -> Option<State> {
     let chosen = match keeping.left() {
-        Ok(texts) => restoring::choose(&texts, setting, now),
+        Ok(texts) => state::choose(&texts, setting, now),
         Err(_) => Err(NotUsed::Damaged),
     };
     match chosen {

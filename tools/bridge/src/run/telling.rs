@@ -5,7 +5,7 @@ use crate::apctl::program::Feeder;
 use crate::control::clients::Question;
 use crate::control::faults::tell;
 use crate::control::status::{error, Faults, Named, Status};
-use crate::inbound::queue::Source;
+use crate::inbound::waiter::Source;
 use crate::os::clock::Nanos;
 use crate::os::sockets::Port;
 

@@ -1,13 +1,3 @@
-use super::staying::{left_state, RESTORED_FROM, RESTORED_TO};
-use super::*;
-use crate::apctl::program::Record;
-use crate::apctl::records::Face;
-use crate::formats::radiotap::sending_header;
-use crate::handover::restoring::State;
-use crate::os::sockets::hand;
-use crate::stations::own_frames::{deauthentication, departure, INACTIVITY};
-use crate::testing::samples::{data, network, radiotap, Unit, OTHER, OURS, STATION};
-use libc::sock_filter;
 use std::fs::{self, Permissions};
 use std::io::{self, BufRead, BufReader, Write};
 use std::os::unix::fs::{MetadataExt, PermissionsExt};
@@ -18,6 +8,18 @@ use std::sync::atomic::{AtomicBool, Ordering};
 use std::sync::{Arc, Mutex};
 use std::thread;
 use std::time::Duration;
+
+use libc::sock_filter;
+
+use super::staying::{left_state, RESTORED_FROM, RESTORED_TO};
+use super::*;
+use crate::apctl::program::Record;
+use crate::apctl::records::Face;
+use crate::formats::radiotap::sending_header;
+use crate::handover::state::State;
+use crate::os::sockets::hand;
+use crate::stations::own_frames::{deauthentication, departure, INACTIVITY};
+use crate::testing::samples::{data, network, radiotap, Unit, OTHER, OURS, STATION};
 
 const BEACON: &str = "80000000ffffffffffff020000000101020000000101";
 /// A program of one network: a beacon for each tick, for each frame heard the same on the wire, for each question a
@@ -436,7 +438,7 @@ fn a_station_stays_from_one_bridge_to_the_next() {
     let answers = |stage: &Stage| {
         let sent = stage.sent.lock().unwrap();
         let kinds = sent.iter().filter_map(|frame| frame.get(sending_header(2, 0).len()));
-        kinds.filter(|kind| **kind != crate::outbound::sender::BEACON).copied().collect::<Vec<u8>>()
+        kinds.filter(|kind| **kind != crate::formats::frames::BEACON).copied().collect::<Vec<u8>>()
     };
     assert_eq!((outcome, answers(&first)), (Ok(()), vec![0xb0, 0x10]));
     for _ in 0..2 {
@@ -601,7 +603,7 @@ fn a_wire_that_goes_down_ends_alone() {
     let lines = stage.record();
     assert!(lines.contains(&format!("W 02:00:00:00:01:02 {}", hex::encode(before))), "{lines:?}");
     let ticks = lines.iter().filter(|line| *line == "T").count();
-    let is_beacon = |frame: &&Vec<u8>| frame.get(sending_header(2, 0).len()) == Some(&crate::outbound::sender::BEACON);
+    let is_beacon = |frame: &&Vec<u8>| frame.get(sending_header(2, 0).len()) == Some(&crate::formats::frames::BEACON);
     assert_eq!(stage.sent.lock().unwrap().iter().filter(is_beacon).count(), 2 * ticks);
     assert!(ticks >= 5, "{ticks}");
     for wanted in [r#""wire":"wire2","wire_down":"#, r#""wire":"wire1","wire_down":null"#, lost] {

@@ -2,6 +2,8 @@
 //! them.
 pub mod keep_alive;
 pub mod meaning;
+pub mod news;
 pub mod operating;
 pub mod own_frames;
+pub mod station;
 pub mod table;

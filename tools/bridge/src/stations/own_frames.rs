@@ -1,7 +1,7 @@
 //! The frames that the bridge makes by itself (IEEE Std 802.11-2016, 9.3): it asks a station whether it is there, tells
 //! stations that they have to join again, and tells the program that a station has left, or is there as before.
 use crate::formats::frames::Address;
-use crate::outbound::sender::Network;
+use crate::network::Network;
 
 /// Disassociated or deauthenticated due to inactivity (table 9-45).
 pub const INACTIVITY: u16 = 4;

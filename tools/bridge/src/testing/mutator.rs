@@ -1,12 +1,13 @@
 //! A seeded mutator over what the bridge reads of others: headers of radiotap, frames, and the program's answers. It
 //! tries a million inputs, each a good one that was changed in some places, cut, or joined to another.
 use crate::apctl::records::{Answer, Answers, Face};
-use crate::formats::frames::{is_tagged, Address, Frame, MOST};
+use crate::formats::frames::{is_tagged, Address, Frame, BEACON, MOST};
 use crate::formats::radiotap::{captured, reception, Outcome, SENDING_LEN};
 use crate::inbound::filter::{monitor_filter, Shown};
 use crate::inbound::judging::{judge_wired, Air, Judged};
-use crate::outbound::air::transmitter::Transmitter;
-use crate::outbound::sender::{Counts, Network, BEACON};
+use crate::network::Network;
+use crate::outbound::air::Transmitter;
+use crate::outbound::counts::Counts;
 use crate::stations::operating::{Errand, Operating};
 use crate::testing::samples::{data, network, radiotap, Recorder, Seeded, Unit, OTHER, OURS, STATION};
 

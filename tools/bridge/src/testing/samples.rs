@@ -5,8 +5,8 @@ use std::os::unix::io::RawFd;
 use libc::sock_filter;
 
 use crate::formats::frames::Address;
+use crate::network::Network;
 use crate::os::sockets::{Batch, Port};
-use crate::outbound::sender::Network;
 
 pub const OURS: Address = Address::of([2, 0, 0, 0, 1, 1]);
 pub const OTHER: Address = Address::of([2, 0, 0, 0, 1, 2]);

@@ -14,11 +14,11 @@ use std::rc::Rc;
 
 use crate::formats::frames::{Address, AddressMap, Frame, FrameType};
 use crate::formats::radiotap::{Outcome, MOST_RETRIES};
+use crate::network::Network;
 use crate::os::clock::Nanos;
 use crate::outbound::air::in_flight::MOST_OUT;
 use crate::outbound::air::rate_control::{Choice, Rates};
 use crate::outbound::air::scheduler::Place;
-use crate::outbound::sender::Network;
 
 /// How long the frames for a station wait at most for what became of the one before.
 const MOST_WAIT: Nanos = MOST_OUT;
