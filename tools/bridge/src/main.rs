@@ -58,6 +58,7 @@ mod apctl;
 mod control;
 mod formats;
 mod handover;
+mod hashing;
 mod inbound;
 mod network;
 mod os;

@@ -30,7 +30,7 @@ WRONG_WORDS = 2
 # Of a checkout of the source; an installation has none.
 MAKEFILE = os.path.join(os.path.dirname(os.path.realpath(__file__)), "..", "..", "..", "Makefile")
 CARGO = "/usr/bin/cargo"
-PACKAGES = "cargo librust-ahash-dev librust-hex-dev librust-humantime-dev librust-libc-dev librust-nix-dev"
+PACKAGES = "cargo librust-ahash-dev librust-hex-dev librust-humantime-dev librust-libc-dev"
 
 
 @dataclass(frozen=True)

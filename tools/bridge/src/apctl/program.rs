@@ -8,12 +8,11 @@ use std::process::{Child, ChildStdin, ChildStdout, Command, Stdio};
 use std::thread::sleep;
 use std::time::Duration;
 
-use nix::fcntl::{fcntl, FcntlArg, OFlag};
-
 use crate::apctl::records::{say_line, Answer, Answers, Event, Face};
 use crate::control::faults::{reason, Fault};
 use crate::control::log::{self, Level};
 use crate::os::clock::{now, Nanos};
+use crate::os::pipes::{set_nonblocking, set_room};
 use crate::os::sandbox::Bounds;
 use crate::os::sockets::octets_in_pipe;
 
@@ -132,10 +131,9 @@ impl Program {
 
 /// A pipe that blocks nobody and is as large as it may be.
 fn prepare(pipe: RawFd) -> Result<(), Fault> {
-    let flags = OFlag::from_bits_truncate(fcntl(pipe, FcntlArg::F_GETFL)?);
-    fcntl(pipe, FcntlArg::F_SETFL(flags | OFlag::O_NONBLOCK))?;
+    set_nonblocking(pipe)?;
     // One that stays smaller is only slower.
-    let _ = fcntl(pipe, FcntlArg::F_SETPIPE_SZ(PIPE_LEN));
+    let _ = set_room(pipe, PIPE_LEN);
     Ok(())
 }
 

@@ -27,18 +27,17 @@ impl fmt::Display for Fault {
 
 impl std::error::Error for Fault {}
 
-impl From<nix::Error> for Fault {
-    fn from(fault: nix::Error) -> Fault {
-        Fault(fault.desc().to_owned())
+impl From<io::Error> for Fault {
+    fn from(fault: io::Error) -> Fault {
+        Fault(reason(&fault))
     }
 }
 
 /// What the system says of a fault, without its number.
 pub fn reason(fault: &io::Error) -> String {
-    match fault.raw_os_error() {
-        Some(number) => nix::Error::from_i32(number).desc().to_owned(),
-        None => fault.to_string(),
-    }
+    let text = fault.to_string();
+    let number = fault.raw_os_error().map(|number| format!(" (os error {number})"));
+    number.and_then(|number| text.strip_suffix(&number).map(str::to_owned)).unwrap_or(text)
 }
 
 /// Says something to the person on standard error.

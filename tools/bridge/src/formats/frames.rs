@@ -5,7 +5,7 @@ use std::fmt;
 use std::hash::{Hash, Hasher};
 use std::str::FromStr;
 
-use ahash::RandomState;
+use crate::hashing::Seeds;
 
 /// The fewest octets of a frame on the air: the header of an acknowledgement.
 pub const LEAST: usize = 10;
@@ -22,9 +22,8 @@ const NO_DATA: u8 = 0x40;
 const TYPE_AT: usize = 12;
 const VLAN_TYPES: [[u8; 2]; 3] = [[0x81, 0x00], [0x88, 0xa8], [0x91, 0x00]];
 
-/// Something of each address. What addresses are hashed with is drawn at the start: who sends frames from addresses of
-/// its choice doesn't know which of them fall together.
-pub type AddressMap<V> = HashMap<Address, V, RandomState>;
+/// Something of each address.
+pub type AddressMap<V> = HashMap<Address, V, Seeds>;
 
 /// An address of 48 bits.
 #[derive(Debug, Clone, Copy, Eq, PartialOrd, Ord)]
@@ -188,7 +187,6 @@ pub fn is_tagged(octets: &[u8]) -> bool {
 #[cfg(test)]
 mod tests {
     use super::*;
-    use std::hash::BuildHasher;
 
     #[test]
     fn an_address_is_read_as_it_is_written() {
@@ -208,18 +206,6 @@ mod tests {
         assert!(Address::BROADCAST.is_group());
         assert!(Address::of([1, 0, 0x5e, 0, 0, 1]).is_group());
         assert!(!Address::of([2, 0, 0, 0, 1, 1]).is_group());
-    }
-
-    #[test]
-    fn each_table_hashes_by_what_it_drew() {
-        let hash = |table: &RandomState| {
-            let mut hasher = table.build_hasher();
-            Address::BROADCAST.hash(&mut hasher);
-            hasher.finish()
-        };
-        let [one, other] = [RandomState::default(), RandomState::default()];
-        assert_eq!(hash(&one), hash(&one.clone()));
-        assert_ne!(hash(&one), hash(&other));
     }
 
     #[test]

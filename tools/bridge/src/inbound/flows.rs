@@ -3,8 +3,7 @@
 use std::collections::hash_map::Entry;
 use std::collections::HashMap;
 
-use ahash::RandomState;
-
+use crate::hashing::Seeds;
 use crate::inbound::waiter::{Flow, Waiter};
 
 /// A queue that had more frames at a time gives its memory back once it is empty.
@@ -36,7 +35,7 @@ pub struct Queue {
     free: Vec<usize>,
     first: Option<usize>,
     pub last: Option<usize>,
-    pub flows: HashMap<Flow, OfFlow, RandomState>,
+    pub flows: HashMap<Flow, OfFlow, Seeds>,
 }
 
 impl Queue {

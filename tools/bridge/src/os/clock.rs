@@ -1,5 +1,7 @@
 //! Clocks, and when beacon intervals begin.
-use nix::time::{clock_gettime, ClockId};
+use std::time::SystemTime;
+
+use crate::os::timer::monotonic;
 
 /// Nanoseconds of a clock.
 pub type Nanos = u64;
@@ -11,19 +13,12 @@ const TIME_UNIT: Nanos = 1_024_000;
 
 /// The time of the clock that nobody sets.
 pub fn now() -> Nanos {
-    read(ClockId::CLOCK_MONOTONIC)
+    monotonic()
 }
 
 /// The time of the clock by which the kernel says when a packet came.
 pub fn wall_now() -> Nanos {
-    read(ClockId::CLOCK_REALTIME)
-}
-
-fn read(clock: ClockId) -> Nanos {
-    match clock_gettime(clock) {
-        Ok(time) => time.tv_sec() as Nanos * SECOND + time.tv_nsec() as Nanos,
-        Err(fault) => unreachable!("every kernel has this clock: {fault}"),
-    }
+    SystemTime::now().duration_since(SystemTime::UNIX_EPOCH).map_or(0, |since| since.as_nanos() as Nanos)
 }
 
 /// How late beacons were given to the radio.

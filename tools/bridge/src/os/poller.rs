@@ -1,13 +1,10 @@
 //! Waiting for what comes first: by `epoll`, with a clock of its own that is exact to less than a millisecond.
-use std::os::unix::io::{AsRawFd, RawFd};
-
-use nix::sys::epoll::{epoll_create1, epoll_ctl, epoll_wait, EpollCreateFlags, EpollEvent, EpollFlags, EpollOp};
-use nix::sys::time::TimeSpec;
-use nix::sys::timerfd::{ClockId, Expiration, TimerFd, TimerFlags, TimerSetTimeFlags};
-use nix::unistd::close;
+use std::os::unix::io::RawFd;
 
 use crate::control::faults::Fault;
-use crate::os::clock::{Nanos, SECOND};
+use crate::os::clock::Nanos;
+use crate::os::epoll::Epoll;
+use crate::os::timer::Timer;
 
 /// What is waited for.
 #[derive(Debug, Clone, Copy, PartialEq, Eq)]
@@ -81,46 +78,39 @@ pub struct Ready {
 
 /// What one waits for.
 pub struct Poller {
-    epoll: RawFd,
-    clock: TimerFd,
+    epoll: Epoll,
+    clock: Timer,
     due: Nanos,
-    events: Vec<EpollEvent>,
 }
 
 impl Poller {
     /// For nothing yet but the time that `set_due` sets.
     pub fn new() -> Result<Poller, Fault> {
-        let epoll = epoll_create1(EpollCreateFlags::EPOLL_CLOEXEC)?;
-        let flags = TimerFlags::TFD_CLOEXEC | TimerFlags::TFD_NONBLOCK;
-        let clock = TimerFd::new(ClockId::CLOCK_MONOTONIC, flags)?;
-        let poller = Poller { epoll, clock, due: Nanos::MAX, events: vec![EpollEvent::empty(); 32] };
-        poller.add(poller.clock.as_raw_fd(), Token::Clock, true, false)?;
+        let poller = Poller { epoll: Epoll::new()?, clock: Timer::new()?, due: Nanos::MAX };
+        poller.add(poller.clock.descriptor(), Token::Clock, true, false)?;
         Ok(poller)
     }
 
     /// Waits for a descriptor too.
     pub fn add(&self, descriptor: RawFd, token: Token, reads: bool, writes: bool) -> Result<(), Fault> {
-        let mut event = EpollEvent::new(flags(reads, writes), token.number());
-        Ok(epoll_ctl(self.epoll, EpollOp::EpollCtlAdd, descriptor, &mut event)?)
+        Ok(self.epoll.add(descriptor, token.number(), reads, writes)?)
     }
 
     /// Waits for something else of a descriptor.
     pub fn change(&self, descriptor: RawFd, token: Token, reads: bool, writes: bool) -> Result<(), Fault> {
-        let mut event = EpollEvent::new(flags(reads, writes), token.number());
-        Ok(epoll_ctl(self.epoll, EpollOp::EpollCtlMod, descriptor, &mut event)?)
+        Ok(self.epoll.change(descriptor, token.number(), reads, writes)?)
     }
 
     /// Waits for a descriptor no more.
     pub fn remove(&self, descriptor: RawFd) -> Result<(), Fault> {
-        Ok(epoll_ctl(self.epoll, EpollOp::EpollCtlDel, descriptor, None)?)
+        Ok(self.epoll.remove(descriptor)?)
     }
 
     /// Sets the time at which the wait ends, by the clock that nobody sets.
     pub fn set_due(&mut self, due: Nanos) -> Result<(), Fault> {
         if due != self.due {
             self.due = due;
-            let time = TimeSpec::new((due / SECOND) as i64, (due % SECOND).max(1) as i64);
-            self.clock.set(Expiration::OneShot(time), TimerSetTimeFlags::TFD_TIMER_ABSTIME)?;
+            self.clock.set(due)?;
         }
         Ok(())
     }
@@ -128,36 +118,17 @@ impl Poller {
     /// Waits until something comes, or for so many milliseconds at most.
     pub fn wait(&mut self, most: Option<u16>, found: &mut Vec<Ready>) -> Result<(), Fault> {
         found.clear();
-        let number = match epoll_wait(self.epoll, &mut self.events, most.map_or(-1, |most| most as isize)) {
-            Ok(number) => number,
-            Err(nix::Error::EINTR) => 0,
-            Err(fault) => return Err(fault.into()),
-        };
-        for event in &self.events[..number] {
-            let flags = event.events();
-            let (token, can_write) = (Token::of(event.data()), flags.contains(EpollFlags::EPOLLOUT));
-            let broken = EpollFlags::EPOLLERR | EpollFlags::EPOLLHUP;
-            found.push(Ready { token, can_read: flags.intersects(EpollFlags::EPOLLIN | broken), can_write });
+        self.epoll.wait(most)?;
+        for came in self.epoll.came() {
+            let token = Token::of(came.number);
+            found.push(Ready { token, can_read: came.can_read, can_write: came.can_write });
             if token == Token::Clock {
                 self.due = Nanos::MAX;
-                let _ = self.clock.wait();
+                self.clock.clear();
             }
         }
         Ok(())
     }
-}
-
-impl Drop for Poller {
-    fn drop(&mut self) {
-        let _ = close(self.epoll);
-    }
-}
-
-fn flags(reads: bool, writes: bool) -> EpollFlags {
-    let mut flags = EpollFlags::empty();
-    flags.set(EpollFlags::EPOLLIN, reads);
-    flags.set(EpollFlags::EPOLLOUT, writes);
-    flags
 }
 
 #[cfg(test)]
@@ -165,6 +136,7 @@ mod tests {
     use super::*;
     use crate::os::clock::{now, MILLISECOND};
     use std::io::Write;
+    use std::os::unix::io::AsRawFd;
     use std::os::unix::net::UnixStream;
 
     #[test]

@@ -1,6 +1,5 @@
 //! Packet sockets (packet(7)): those of the monitor interface, one of each wired port, all of which `tools/live` opens
-//! and hands over. What is unsafe of the bridge is here and in `sandbox` alone: the calls of the system that no crate
-//! has.
+//! and hands over. What is unsafe here are the calls of the system that std doesn't have.
 #![allow(unsafe_code)]
 use std::collections::VecDeque;
 use std::mem::{size_of, size_of_val, zeroed};
@@ -9,8 +8,6 @@ use std::os::unix::net::{UnixListener, UnixStream};
 use std::{io, ptr};
 
 use libc::{c_int, c_void, iovec, mmsghdr, sock_filter, sockaddr_ll};
-use nix::sys::socket::getsockopt;
-use nix::sys::socket::sockopt::{AcceptConn, PeerCredentials};
 
 use crate::os::clock::{Nanos, SECOND};
 
@@ -143,13 +140,7 @@ impl Port for PacketSocket {
             return self.dropped;
         }
         let mut found = Statistics::default();
-        let mut length = size_of_val(&found) as u32;
-        // SAFETY: the kernel writes at most `length` octets into `found`, which is as long.
-        let answer = unsafe {
-            let place: *mut Statistics = &mut found;
-            libc::getsockopt(self.descriptor(), libc::SOL_PACKET, PACKET_STATISTICS, place.cast(), &mut length)
-        };
-        if answer == 0 {
+        if read_option(self.descriptor(), libc::SOL_PACKET, PACKET_STATISTICS, &mut found).is_ok() {
             self.dropped += u64::from(found.drops);
         }
         self.dropped
@@ -166,7 +157,7 @@ impl Port for PacketSocket {
 }
 
 /// What a call of the system answered, or its fault.
-fn checked(answer: c_int) -> io::Result<c_int> {
+pub fn checked(answer: c_int) -> io::Result<c_int> {
     if answer < 0 {
         Err(io::Error::last_os_error())
     } else {
@@ -179,6 +170,17 @@ fn set_option<T>(socket: &OwnedFd, level: c_int, name: c_int, value: &T) -> io::
     // SAFETY: the kernel reads as many octets as the value has.
     unsafe {
         checked(libc::setsockopt(socket.as_raw_fd(), level, name, place.cast::<c_void>(), size_of::<T>() as u32))?
+    };
+    Ok(())
+}
+
+/// Reads an option of a socket, for one that any octets are a value of.
+fn read_option<T: Copy>(socket: RawFd, level: c_int, name: c_int, value: &mut T) -> io::Result<()> {
+    let mut length = size_of::<T>() as u32;
+    // SAFETY: the kernel writes at most `length` octets into the value, which is as long.
+    unsafe {
+        let place: *mut T = value;
+        checked(libc::getsockopt(socket, level, name, place.cast::<c_void>(), &mut length))?
     };
     Ok(())
 }
@@ -212,7 +214,9 @@ pub fn inherited(number: RawFd) -> io::Result<OwnedFd> {
 
 /// The listening socket that this process was started with.
 pub fn inherited_listener(number: RawFd) -> io::Result<UnixListener> {
-    if !getsockopt(number, AcceptConn)? {
+    let mut listens: c_int = 0;
+    read_option(number, libc::SOL_SOCKET, libc::SO_ACCEPTCONN, &mut listens)?;
+    if listens == 0 {
         return Err(io::Error::from_raw_os_error(libc::EINVAL));
     }
     Ok(inherited(number)?.into())
@@ -220,7 +224,9 @@ pub fn inherited_listener(number: RawFd) -> io::Result<UnixListener> {
 
 /// The user who connected a socket of this machine.
 pub fn user_of(socket: RawFd) -> io::Result<u32> {
-    Ok(getsockopt(socket, PeerCredentials)?.uid())
+    let mut found = libc::ucred { pid: 0, uid: libc::uid_t::MAX, gid: libc::gid_t::MAX };
+    read_option(socket, libc::SOL_SOCKET, libc::SO_PEERCRED, &mut found)?;
+    Ok(found.uid)
 }
 
 /// Appends what a socket has to read, and the descriptors that come with it; answers how many octets came, and is

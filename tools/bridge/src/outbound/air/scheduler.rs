@@ -22,8 +22,7 @@
 use std::collections::{BTreeSet, HashMap, VecDeque};
 use std::hash::Hash;
 
-use ahash::RandomState;
-
+use crate::hashing::Seeds;
 use crate::outbound::air::proved_rule::Lanes;
 
 pub use crate::outbound::air::proved_rule::{Place, MOST_WEIGHT};
@@ -157,7 +156,7 @@ impl<R: Copy + Ord + Hash, T> Shares<R, T> {
 /// that no debt has to be lowered when one is served.
 #[derive(Debug)]
 struct Turns<R, T> {
-    lanes: HashMap<R, Lane<T>, RandomState>,
+    lanes: HashMap<R, Lane<T>, Seeds>,
     /// Those that wait for a turn, by their starts.
     ready: BTreeSet<(u64, R)>,
     /// How many frames wait for all of them.
