@@ -71,8 +71,9 @@ mod testing;
 use std::os::unix::io::{AsFd, RawFd};
 use std::process::ExitCode;
 
+use crate::apctl::program::Program;
+use crate::apctl::recording::Record;
 use crate::handover::state::Setting;
-use apctl::program::{Program, Record};
 use control::arguments::Words;
 use control::clients::Clients;
 use control::faults::{self, Fault};
@@ -111,7 +112,7 @@ fn run(words: &Words) -> Result<(), Fault> {
     let record = words.record.as_ref().map(|(descriptor, name)| record(*descriptor, name)).transpose()?;
     let clients = words.socket.map(listen).transpose()?;
     let bounds = words.bounds.map(|memory| Bounds::of(&words.program, &words.config, memory)).transpose()?;
-    let (program, feeder) = Program::start(&words.program, &words.config, words.face, bounds, record)?;
+    let (program, feeder) = Program::start(&words.program, &words.config, bounds, record)?;
     let manner = Manner {
         setting: Setting { phy: words.phy.clone(), channel: words.channel, interval: words.interval },
         most_silence: Some(Nanos::from(words.idle) * SECOND).filter(|silence| *silence > 0),

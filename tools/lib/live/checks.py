@@ -26,7 +26,6 @@ MOST_NAME = 15
 COUNTRY_SECONDS = 3.0
 LOCAL = "127.0.0.1"
 SET_UP = 1  # the number of the way in which `setting_up` sets up a radio; another way has another number
-WRONG_WORDS = 2
 # Of a checkout of the source; an installation has none.
 MAKEFILE = os.path.join(os.path.dirname(os.path.realpath(__file__)), "..", "..", "..", "Makefile")
 CARGO = "/usr/bin/cargo"
@@ -62,12 +61,11 @@ class Wanted:
 
 @dataclass(frozen=True)
 class Plan:
-    """What is to be served: the settings of a configuration in which no fault was found, the wires, how the program is
-    spoken to, and the weights of shares of the air."""
+    """What is to be served: the settings of a configuration in which no fault was found, the wires, and the weights of
+    shares of the air."""
 
     settings: Settings
     wires: Wires
-    face: str
     shares: Shares = ()
 
 
@@ -83,7 +81,7 @@ def check(wanted: Wanted, made: Changes, stack: ExitStack) -> Plan:
     check_port(wanted.status)
     check_record(wanted, settings)
     check_radio(wanted, settings, made, stack)
-    return Plan(settings, wires, face_of(wanted), wanted.shares)
+    return Plan(settings, wires, wanted.shares)
 
 
 def check_again(wanted: Wanted, before: Plan) -> Plan:
@@ -152,13 +150,6 @@ def check_config_of(program: str, config: str) -> Settings:
         said, *reasons = explain_config(config, done.stderr.strip())
         raise Fault("\n".join([f"{config}: {said}", *reasons]))
     return read_settings(config)
-
-
-def face_of(wanted: Wanted) -> str:
-    """How the program is spoken to: in records of octets where it has that word, else in lines of text."""
-    words = [wanted.program, "live", "--octets", wanted.config]
-    done = subprocess.run(words, stdin=subprocess.DEVNULL, capture_output=True, check=False)
-    return "text" if done.returncode == WRONG_WORDS else "octets"
 
 
 def wire_of(text: str) -> tuple[bytes, str]:

@@ -4,15 +4,13 @@ use std::ops::RangeInclusive;
 use std::os::unix::io::RawFd;
 use std::str::FromStr;
 
-use crate::apctl::records::Face;
 use crate::control::log;
 use crate::formats::frames::Address;
 use crate::network::Network;
 use crate::outbound::air::scheduler::MOST_WEIGHT;
 
 /// How it is called.
-pub const USAGE: &str =
-    "bridge [--name NAME] --face text|octets --phy NAME --channel NUMBER --monitor NAME --interval UNITS \
+pub const USAGE: &str = "bridge [--name NAME] --phy NAME --channel NUMBER --monitor NAME --interval UNITS \
                          [--idle SECONDS] [--socket DESCRIPTOR] [--alive] [--record DESCRIPTOR:NAME] [--bounds OCTETS] \
                          --network BSSID/SSID/RATES/STATIONS/KNOWN/SHARE[/WIRE]... PROGRAM CONFIG";
 
@@ -21,8 +19,6 @@ pub const USAGE: &str =
 pub struct Words {
     /// By which name `tools/live` was called, which each line that is told begins with.
     pub name: String,
-    /// How the program is spoken to.
-    pub face: Face,
     /// The radio.
     pub phy: String,
     /// Its channel.
@@ -71,7 +67,7 @@ impl Words {
     /// Reads them.
     pub fn read(words: impl IntoIterator<Item = String>) -> Result<Words, NotWords> {
         let mut words = words.into_iter();
-        let (mut face, mut monitor, mut interval, mut record) = (None, None, None, None);
+        let (mut monitor, mut interval, mut record) = (None, None, None);
         let (mut phy, mut channel, mut idle, mut socket, mut tells_alive) = (None, None, IDLE, None, false);
         let (mut name, mut bounds) = (log::UNNAMED.to_owned(), None);
         let (mut networks, mut rest) = (Vec::new(), Vec::new());
@@ -79,7 +75,6 @@ impl Words {
             let mut value = || words.next().ok_or_else(|| NotWords(format!("{word} lacks its value")));
             match word.as_str() {
                 "--name" => name = value()?,
-                "--face" => face = Some(read_face(&value()?)?),
                 "--phy" => phy = Some(value()?),
                 "--channel" => channel = Some(read_number(&value()?, "channel", 1..=14)?),
                 "--monitor" => monitor = Some(value()?),
@@ -100,7 +95,6 @@ impl Words {
         }
         Ok(Words {
             name,
-            face: face.ok_or_else(|| lacks("--face"))?,
             phy: phy.ok_or_else(|| lacks("--phy"))?,
             channel: channel.ok_or_else(|| lacks("--channel"))?,
             monitor: monitor.ok_or_else(|| lacks("--monitor"))?,
@@ -114,14 +108,6 @@ impl Words {
             program,
             config,
         })
-    }
-}
-
-fn read_face(text: &str) -> Result<Face, NotWords> {
-    match text {
-        "text" => Ok(Face::Text),
-        "octets" => Ok(Face::Octets),
-        _ => Err(NotWords(format!("{text} is no face"))),
     }
 }
 
@@ -160,7 +146,7 @@ mod tests {
     use crate::testing::samples::{network, OTHER, OURS};
 
     const GOOD: &str = "--name waltigon-live \
-                        --face octets --phy phy0 --channel 6 --monitor mon0 --interval 100 --idle 60 --socket 5 \
+                        --phy phy0 --channel 6 --monitor mon0 --interval 100 --idle 60 --socket 5 \
                         --alive --record 6:r:1 --bounds 2000000 --network 02:00:00:00:01:01/6c6162/8284/64/256/1/wire1 --network \
                         02:00:00:00:01:02/20/16/2007/10000/16 apctl config";
 
@@ -189,7 +175,6 @@ mod tests {
         ];
         let wanted = Words {
             name: "waltigon-live".into(),
-            face: Face::Octets,
             phy: "phy0".into(),
             channel: 6,
             monitor: "mon0".into(),

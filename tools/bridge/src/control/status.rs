@@ -2,7 +2,7 @@
 use std::collections::{BTreeMap, VecDeque};
 use std::fmt::{self, Display, Write};
 
-use crate::apctl::program::Record;
+use crate::apctl::recording::Record;
 use crate::apctl::tables::Tables;
 use crate::network::Network;
 use crate::os::clock::{Lateness, Nanos, MILLISECOND, SECOND};

@@ -4,7 +4,6 @@ use std::time::Duration;
 
 use super::*;
 use crate::apctl::program::Program;
-use crate::apctl::records::Face;
 use crate::handover::state::{choose, OfNetwork, Setting};
 use crate::handover::state_text::MOST_AID;
 use crate::os::clock::{now, SECOND};
@@ -459,7 +458,7 @@ fn the_built_program_has_all_as_before() {
         let (state, ours) = drawn(&mut random);
         std::fs::write(&path, config_of(&ours)).unwrap();
         let words = (program.to_str().unwrap(), path.to_str().unwrap());
-        let (mut program, mut feeder) = Program::start(words.0, words.1, Face::Octets, None, None).unwrap();
+        let (mut program, mut feeder) = Program::start(words.0, words.1, None, None).unwrap();
         let mut restoring = Restoring::of(&state, std::slice::from_ref(&ours)).unwrap();
         let until = now() + 60 * SECOND;
         while !restoring.is_done() {

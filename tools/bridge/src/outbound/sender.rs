@@ -5,14 +5,14 @@ use crate::formats::frames::{is_tagged, Address, AddressMap, Frame};
 use crate::formats::radiotap::Outcome;
 use crate::network::Network;
 use crate::os::clock::Nanos;
-use crate::os::sockets::{Port, AT_A_TIME};
+use crate::os::sockets::Port;
 use crate::outbound::air::account::Account;
 use crate::outbound::air::links::Unacknowledged;
 use crate::outbound::air::scheduler::Place;
 use crate::outbound::air::Transmitter;
 use crate::outbound::counts::{count, Counts};
 use crate::outbound::gate::Gate;
-use crate::outbound::wire::{Exit, MOST_OCTETS};
+use crate::outbound::wire::Exit;
 
 /// Sends the frames of the program's answers by the monitor interface and the wires.
 #[derive(Debug)]

@@ -1,6 +1,8 @@
 use super::*;
 use crate::inbound::waiter::LONGEST;
 use crate::os::clock;
+use crate::os::sockets::AT_A_TIME;
+use crate::outbound::wire::MOST_OCTETS;
 use crate::testing::samples::{network, Recorder, Unit, OTHER, OURS, STATION};
 
 fn networks() -> Vec<Network> {

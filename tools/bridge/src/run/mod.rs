@@ -11,7 +11,8 @@ use std::collections::BTreeMap;
 use std::thread::sleep;
 use std::time::Duration;
 
-use crate::apctl::program::{Feeder, Program};
+use crate::apctl::feeder::Feeder;
+use crate::apctl::program::Program;
 use crate::apctl::records::Event;
 use crate::apctl::tables::{Asker, Tables};
 use crate::control::clients::Clients;

@@ -1,7 +1,7 @@
 //! What people are told of the interfaces and of what waits between them and the program: answers to questions, what is
 //! said once, and the counts at the end.
 use super::{Given, Manner, Running, Way};
-use crate::apctl::program::Feeder;
+use crate::apctl::feeder::Feeder;
 use crate::control::clients::Question;
 use crate::control::faults::tell;
 use crate::control::status::{error, Faults, Named, Status};

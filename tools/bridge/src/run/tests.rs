@@ -13,8 +13,7 @@ use libc::sock_filter;
 
 use super::staying::{left_state, RESTORED_FROM, RESTORED_TO};
 use super::*;
-use crate::apctl::program::Record;
-use crate::apctl::records::Face;
+use crate::apctl::recording::Record;
 use crate::formats::radiotap::sending_header;
 use crate::handover::state::State;
 use crate::os::sockets::hand;
@@ -22,90 +21,90 @@ use crate::stations::own_frames::{deauthentication, departure, INACTIVITY};
 use crate::testing::samples::{data, network, radiotap, Unit, OTHER, OURS, STATION};
 
 const BEACON: &str = "80000000ffffffffffff020000000101020000000101";
-/// A program of one network: a beacon for each tick, for each frame heard the same on the wire, for each question a
-/// table; a frame of the wire ends it.
-const LINES: &str = r#"#!/bin/bash
-[ "$*" = "live radio.toml" ] || exit 2
-echo 'ok 1'
-while read -r word rest; do
-    case $word in
-    T) echo 'air 02:00:00:00:01:01 BEACON' ;;
-    A) echo "wire 02:00:00:00:01:01 $rest" ;;
-    I) echo 'end' ;;
-    W) exit 3 ;;
-    esac
-done
-echo 'network 02:00:00:00:01:01 ssid 6c6162'
-"#;
-/// The same in records.
-const RECORDS: &str = r#"#!/usr/bin/python3
-import struct, sys
-source, sink, ours = sys.stdin.buffer, sys.stdout.buffer, bytes.fromhex("020000000101")
-def write(kind, bssid=bytes(6), octets=b""):
-    sink.write(kind + bssid + struct.pack("<H", len(octets)) + octets)
-    sink.flush()
+/// What each program begins with: how it reads and writes records.
+const PRELUDE: &str = r#"#!/usr/bin/python3
+import struct, sys, time
+OURS, OTHER, BEACON = map(bytes.fromhex, ("020000000101", "020000000102", "BEACON"))
+def write(kind, bssid, octets=b""):
+    sys.stdout.buffer.write(kind + bssid + struct.pack("<H", len(octets)) + octets)
+    sys.stdout.buffer.flush()
+def open_networks(number):
+    write(b"O", bytes([0, 0, 0, 0, 0, number]))
+def air(bssid, octets):
+    write(b"A", bssid, octets)
+def wire(bssid, octets):
+    write(b"W", bssid, octets)
+def tell(*lines):
+    for line in lines:
+        write(b"N", bytes(6), line.encode() + b"\n")
+def events():
+    while header := sys.stdin.buffer.read(9):
+        kind, length = struct.unpack("<c6xH", header)
+        yield kind, sys.stdin.buffer.read(length)
 if sys.argv[1:] != ["live", "--octets", "radio.toml"]:
     sys.exit(2)
-write(b"O", bytes(5) + b"\1")
-while header := source.read(9):
-    kind, bssid, length = struct.unpack("<c6sH", header)
-    octets = source.read(length)
+"#;
+/// A program of one network: a beacon for each tick, for each frame heard the same on the wire, for each question a
+/// table; a frame of the wire ends it.
+const ONE: &str = r#"
+open_networks(1)
+for kind, octets in events():
     if kind == b"T":
-        write(b"A", ours, bytes.fromhex("BEACON"))
+        air(OURS, BEACON)
     elif kind == b"A":
-        write(b"W", ours, octets)
+        wire(OURS, octets)
     elif kind == b"I":
-        write(b"N", octets=b"end\n")
+        tell("end")
     elif kind == b"W":
         sys.exit(3)
-write(b"N", octets=b"network 02:00:00:00:01:01 ssid 6c6162\n")
+tell("network 02:00:00:00:01:01 ssid 6c6162")
 "#;
 
 /// A program that authenticates a station, and has it in its table.
-const KNOWING: &str = r#"#!/bin/bash
-echo 'ok 1'
-while read -r word rest; do
-    case $word in
-    T) echo 'air 02:00:00:00:01:01 BEACON' ;;
-    A) [ "${rest:0:2}" != b0 ] || echo 'air 02:00:00:00:01:01 ANSWER' ;;
-    I) printf '%s\n' 'network 02:00:00:00:01:01 ssid 6c' 'events 7 clock 1 unread 0 lost 0 kept 0' \
-        'station 02:aa:00:00:00:01 authenticated' end ;;
-    esac
-done
+const KNOWING: &str = r#"
+open_networks(1)
+for kind, octets in events():
+    if kind == b"T":
+        air(OURS, BEACON)
+    elif kind == b"A" and octets[0] == 0xb0:
+        air(OURS, bytes.fromhex("ANSWER"))
+    elif kind == b"I":
+        tell("network 02:00:00:00:01:01 ssid 6c", "events 7 clock 1 unread 0 lost 0 kept 0",
+             "station 02:aa:00:00:00:01 authenticated", "end")
 "#;
 const ANSWER: &str = "b000000002aa000000010200000001010200000001011000000002000000";
 
 /// A program in which one station authenticates and associates, and then stands in its table.
-const JOINING: &str = r#"#!/bin/bash
-echo 'ok 1'
-while read -r word rest; do
-    case $word in
-    T) echo 'air 02:00:00:00:01:01 BEACON' ;;
-    A) case ${rest:0:2} in
-        b0) echo 'air 02:00:00:00:01:01 ANSWER' ;;
-        00) echo 'air 02:00:00:00:01:01 JOINED'; joined=yes ;;
-        esac ;;
-    I) printf '%s\n' 'network 02:00:00:00:01:01 ssid 6c' 'events 7 clock 1 unread 0 lost 0 kept 2'
-        [ -z "$joined" ] || echo 'station 02:aa:00:00:00:01 associated aid 1 listen 5 active kept 0'
-        echo end ;;
-    esac
-done
+const JOINING: &str = r#"
+open_networks(1)
+stations = []
+for kind, octets in events():
+    if kind == b"T":
+        air(OURS, BEACON)
+    elif kind == b"A" and octets[0] == 0xb0:
+        time.sleep(0)
+        air(OURS, bytes.fromhex("ANSWER"))
+    elif kind == b"A" and octets[0] == 0x00:
+        air(OURS, bytes.fromhex("JOINED"))
+        stations = ["station 02:aa:00:00:00:01 associated aid 1 listen 5 active kept 0"]
+    elif kind == b"I":
+        tell("network 02:00:00:00:01:01 ssid 6c", "events 7 clock 1 unread 0 lost 0 kept 2", *stations, "end")
 "#;
-const JOINED: &str = "1000000002aa00000001020000000101020000000101200001000000 01c0";
+const JOINED: &str = "1000000002aa0000000102000000010102000000010120000100000001c0";
 
 /// A program of two networks: a beacon of each for each tick, each frame heard the same on the network's wire, and
 /// tables.
-const TWO: &str = r#"#!/bin/bash
-echo 'ok 1'
-while read -r word rest; do
-    case $word in
-    T) echo 'air 02:00:00:00:01:01 BEACON'; echo 'air 02:00:00:00:01:02 BEACON' ;;
-    A) echo "wire 02:00:00:00:01:${rest:18:2} $rest" ;;
-    I) printf 'network 02:00:00:00:01:0%s ssid 6c
-end
-' 1 2 ;;
-    esac
-done
+const TWO: &str = r#"
+open_networks(1)
+for kind, octets in events():
+    if kind == b"T":
+        air(OURS, BEACON)
+        air(OTHER, BEACON)
+    elif kind == b"A":
+        wire(octets[4:10], octets)
+    elif kind == b"I":
+        for number in 1, 2:
+            tell(f"network 02:00:00:00:01:0{number} ssid 6c", "end")
 "#;
 
 fn nothing() -> OwnedFd {
@@ -228,9 +227,9 @@ impl Stage {
     }
 }
 
-/// Runs a bridge with a program of these lines, and `later` beside it; gives what came of it, and the stage.
-fn run(face: Face, text: &str, shows: bool, later: impl FnOnce(&mut Stage) + Send) -> (Result<(), Fault>, Stage) {
-    run_with(face, text, Surroundings { shows, ..Surroundings::default() }, later)
+/// Runs a bridge with a program of this text, and `later` beside it; gives what came of it, and the stage.
+fn run(text: &str, shows: bool, later: impl FnOnce(&mut Stage) + Send) -> (Result<(), Fault>, Stage) {
+    run_with(text, Surroundings { shows, ..Surroundings::default() }, later)
 }
 
 /// What a bridge runs in.
@@ -275,7 +274,6 @@ fn files_of(state: &str) -> [OwnedFd; 2] {
 }
 
 fn run_with(
-    face: Face,
     text: &str,
     surroundings: Surroundings,
     later: impl FnOnce(&mut Stage) + Send,
@@ -289,7 +287,7 @@ fn run_with(
     let folder = std::env::temp_dir().join(format!("bridge-{}-{number}", std::process::id()));
     fs::create_dir_all(&folder).unwrap();
     let path = folder.join("program");
-    fs::write(&path, text.replace("BEACON", BEACON)).unwrap();
+    fs::write(&path, [PRELUDE, text].concat().replace("BEACON\"", &format!("{BEACON}\""))).unwrap();
     fs::set_permissions(&path, Permissions::from_mode(0o755)).unwrap();
     let (asked, requests) = UnixStream::pair().unwrap();
     let (monitor, air, sent) = FakePort::new("mon0");
@@ -323,13 +321,12 @@ fn run_with(
             thread::sleep(Duration::from_millis(400));
             later(&mut stage);
         });
-        serve(face, path.to_str().unwrap(), record, (asked, clients), ports, surroundings)
+        serve(path.to_str().unwrap(), record, (asked, clients), ports, surroundings)
     });
     (outcome, stage)
 }
 
 fn serve(
-    face: Face,
     path: &str,
     record: Record,
     (asked, clients): (UnixStream, Clients),
@@ -344,7 +341,7 @@ fn serve(
     if !surroundings.has_other_wire {
         wires[1] = None;
     }
-    let (program, feeder) = Program::start(path, "radio.toml", face, None, Some(record))?;
+    let (program, feeder) = Program::start(path, "radio.toml", None, Some(record))?;
     let manner = Manner { setting: setting(interval), most_silence: Some(300 * SECOND), tells_alive: false };
     let mut bridge = Bridge::new(program, feeder, Requests::new(asked), Some(clients), manner)?;
     let mut ports = Some((monitor, wires));
@@ -360,25 +357,23 @@ fn end(stage: &mut Stage) {
 }
 
 #[test]
-fn it_runs_and_ends_in_both_faces() {
-    for (face, program) in [(Face::Text, LINES), (Face::Octets, RECORDS)] {
-        let (outcome, stage) = run(face, program, true, |stage| {
-            stage.hear(&data());
-            stage.requests.write_all(b"tables\n").unwrap();
-            thread::sleep(Duration::from_millis(400));
-            end(stage);
-        });
-        assert_eq!(outcome, Ok(()), "{face:?}");
-        let beacon = [&sending_header(2, 0)[..], &hex::decode(BEACON).unwrap()].concat();
-        let sent = stage.sent.lock().unwrap().clone();
-        assert!(sent.len() >= 6 && sent.iter().all(|frame| *frame == beacon), "{face:?}: {}", sent.len());
-        assert_eq!(*stage.sent_on_wire.lock().unwrap(), [data()], "{face:?}");
-        let lines = stage.record();
-        assert_eq!(lines.iter().filter(|line| *line == "T").count(), sent.len());
-        let mut others: Vec<_> = lines.iter().filter(|line| *line != "T").cloned().collect();
-        others.sort();
-        assert_eq!(others, ["# I".to_owned(), format!("A {}", hex::encode(data()))], "{face:?}");
-    }
+fn it_runs_and_ends() {
+    let (outcome, stage) = run(ONE, true, |stage| {
+        stage.hear(&data());
+        stage.requests.write_all(b"tables\n").unwrap();
+        thread::sleep(Duration::from_millis(400));
+        end(stage);
+    });
+    assert_eq!(outcome, Ok(()));
+    let beacon = [&sending_header(2, 0)[..], &hex::decode(BEACON).unwrap()].concat();
+    let sent = stage.sent.lock().unwrap().clone();
+    assert!(sent.len() >= 6 && sent.iter().all(|frame| *frame == beacon), "{}", sent.len());
+    assert_eq!(*stage.sent_on_wire.lock().unwrap(), [data()]);
+    let lines = stage.record();
+    assert_eq!(lines.iter().filter(|line| *line == "T").count(), sent.len());
+    let mut others: Vec<_> = lines.iter().filter(|line| *line != "T").cloned().collect();
+    others.sort();
+    assert_eq!(others, ["# I".to_owned(), format!("A {}", hex::encode(data()))]);
 }
 
 fn setting(interval: u16) -> Setting {
@@ -397,7 +392,7 @@ fn ask(stage: &Stage, question: &str) -> String {
 #[test]
 fn it_is_asked_by_its_socket() {
     let mut answers = Vec::new();
-    let (outcome, stage) = run(Face::Text, &KNOWING.replace("ANSWER", ANSWER), true, |stage| {
+    let (outcome, stage) = run(&KNOWING.replace("ANSWER", ANSWER), true, |stage| {
         stage.hear(&Unit { control: [0xb0, 0], body: vec![0, 0, 1, 0, 0, 0], ..Unit::default() }.octets());
         thread::sleep(Duration::from_millis(300));
         for question in ["status", "kick 02:00:00:00:01:01 02:aa:00:00:00:01", "hello"] {
@@ -425,10 +420,10 @@ fn it_is_asked_by_its_socket() {
 #[test]
 fn a_station_stays_from_one_bridge_to_the_next() {
     let state: &str = Box::leak(format!("{}/state-{}", std::env::temp_dir().display(), std::process::id()).into());
-    let program = JOINING.replace("ANSWER", ANSWER).replace("JOINED", &JOINED.replace(' ', ""));
+    let program = JOINING.replace("ANSWER", ANSWER).replace("JOINED", JOINED);
     let with_state = Surroundings { state: Some(state), ..Surroundings::default() };
     let request = own_request();
-    let (outcome, first) = run_with(Face::Text, &program, with_state, |stage| {
+    let (outcome, first) = run_with(&program, with_state, |stage| {
         stage.hear(&Unit { control: [0xb0, 0], body: vec![0, 0, 1, 0, 0, 0], ..Unit::default() }.octets());
         thread::sleep(Duration::from_millis(100));
         stage.hear(&request);
@@ -444,8 +439,8 @@ fn a_station_stays_from_one_bridge_to_the_next() {
     for _ in 0..2 {
         let (mut status, mut tables) = (String::new(), 0);
         // What is asked for while the program is told of the station is done afterwards.
-        let slow = program.replace("b0) echo", "b0) sleep 0.6; echo");
-        let (outcome, stage) = run_with(Face::Text, &slow, with_state, |stage| {
+        let slow = program.replace("sleep(0)", "sleep(0.6)");
+        let (outcome, stage) = run_with(&slow, with_state, |stage| {
             stage.requests.write_all(b"tables\n").unwrap();
             wait_until(|| !stage.sent.lock().unwrap().is_empty());
             wait_until(|| {
@@ -482,7 +477,7 @@ fn a_state_that_is_damaged_is_not_used() {
     let state: &str = Box::leak(format!("{}/bad-{}", std::env::temp_dir().display(), std::process::id()).into());
     fs::write(format!("{state}.0"), "state 1 and nothing else\n").unwrap();
     let with_state = Surroundings { state: Some(state), ..Surroundings::default() };
-    let (outcome, stage) = run_with(Face::Text, LINES, with_state, |stage| {
+    let (outcome, stage) = run_with(ONE, with_state, |stage| {
         thread::sleep(Duration::from_millis(300));
         end(stage);
     });
@@ -518,7 +513,7 @@ fn the_newer_state_stays_until_another_is_whole() {
 #[test]
 fn a_client_that_floods_keeps_nobody() {
     let (mut written, mut answer) = (0, String::new());
-    let (outcome, stage) = run(Face::Text, &KNOWING.replace("ANSWER", ANSWER), true, |stage| {
+    let (outcome, stage) = run(&KNOWING.replace("ANSWER", ANSWER), true, |stage| {
         let mut flooding = UnixStream::connect(stage.folder.join("socket")).unwrap();
         flooding.set_nonblocking(true).unwrap();
         let until = now() + SECOND;
@@ -538,7 +533,7 @@ fn a_client_that_floods_keeps_nobody() {
 fn a_full_disk_ends_the_recording_alone() {
     let mut status = String::new();
     let surroundings = Surroundings { record: Some("/dev/full"), ..Surroundings::default() };
-    let (outcome, stage) = run_with(Face::Text, LINES, surroundings, |stage| {
+    let (outcome, stage) = run_with(ONE, surroundings, |stage| {
         stage.hear(&data());
         thread::sleep(Duration::from_millis(400));
         status = ask(stage, "status");
@@ -555,7 +550,7 @@ fn a_full_disk_ends_the_recording_alone() {
 #[test]
 fn who_does_not_associate_is_given_up_within_five_seconds_where_the_network_is_nearly_full() {
     let rare = Surroundings { interval: 60_000, max_known: 1, ..Surroundings::default() };
-    let (outcome, stage) = run_with(Face::Text, &KNOWING.replace("ANSWER", ANSWER), rare, |stage| {
+    let (outcome, stage) = run_with(&KNOWING.replace("ANSWER", ANSWER), rare, |stage| {
         stage.hear(&Unit { control: [0xb0, 0], body: vec![0, 0, 1, 0, 0, 0], ..Unit::default() }.octets());
         thread::sleep(Duration::from_millis(4900));
         end(stage);
@@ -580,7 +575,7 @@ fn a_wire_that_goes_down_ends_alone() {
     let two = Surroundings { networks: 2, ..Surroundings::default() };
     let to_other = |sequence| Unit { receiver: OTHER, sequence, ..Unit::default() }.octets();
     let (before, lost, mut status) = ([7; 20], r#""lost, since wire2 is down":20"#, String::new());
-    let (outcome, stage) = run_with(Face::Text, TWO, two, |stage| {
+    let (outcome, stage) = run_with(TWO, two, |stage| {
         stage.hear(&to_other(0x10));
         wait_until(|| !stage.sent_on_other_wire.lock().unwrap().is_empty());
         stage.other_goes_down.store(true, Ordering::SeqCst);
@@ -620,7 +615,7 @@ fn a_wire_that_is_back_is_taken_again() {
     let to_other = |sequence| Unit { receiver: OTHER, sequence, ..Unit::default() }.octets();
     let ((near, far), mut status) = (UnixDatagram::pair().unwrap(), String::new());
     let mut came = vec![0; 4096];
-    let (outcome, stage) = run_with(Face::Text, TWO, two, |stage| {
+    let (outcome, stage) = run_with(TWO, two, |stage| {
         stage.other_goes_down.store(true, Ordering::SeqCst);
         stage.other_wire.send(&[7; 20]).unwrap();
         wait_until(|| ask(stage, "status").contains(r#""wire":"wire2","wire_down":0"#));
@@ -650,7 +645,7 @@ fn a_wire_that_is_missing_at_the_start_is_taken_later() {
     let to_other = |sequence| Unit { receiver: OTHER, sequence, ..Unit::default() }.octets();
     let (near, far) = UnixDatagram::pair().unwrap();
     let (mut before, mut came) = (String::new(), vec![0; 4096]);
-    let (outcome, stage) = run_with(Face::Text, TWO, missing, |stage| {
+    let (outcome, stage) = run_with(TWO, missing, |stage| {
         stage.hear(&data());
         stage.hear(&to_other(0x10));
         wait_until(|| ask(stage, "status").contains(r#""lost, since wire2 is down":1"#));
@@ -671,7 +666,7 @@ fn a_wire_that_is_missing_at_the_start_is_taken_later() {
 
 #[test]
 fn a_monitor_interface_that_goes_down_ends_all() {
-    let (outcome, _) = run_with(Face::Text, TWO, Surroundings { networks: 2, ..Surroundings::default() }, |stage| {
+    let (outcome, _) = run_with(TWO, Surroundings { networks: 2, ..Surroundings::default() }, |stage| {
         stage.air_goes_down.store(true, Ordering::SeqCst);
     });
     assert_eq!(outcome, Err(Fault::new("mon0: Network is down: was it taken down?")));
@@ -679,32 +674,27 @@ fn a_monitor_interface_that_goes_down_ends_all() {
 
 #[test]
 fn a_radio_that_does_not_send_is_told() {
-    let (outcome, _) = run(Face::Text, LINES, false, |_| {});
+    let (outcome, _) = run(ONE, false, |_| {});
     assert!(outcome.unwrap_err().to_string().contains("this radio does not send beside its interfaces"));
 }
 
 #[test]
 fn a_program_that_ends_by_itself_is_told() {
-    for (face, program) in [(Face::Text, LINES), (Face::Octets, RECORDS)] {
-        let (outcome, _) = run(face, program, true, |stage| {
-            stage.wire.send(&[0; 14]).unwrap();
-        });
-        assert_eq!(outcome, Err(Fault::new("the program ended by itself")));
-    }
+    let (outcome, _) = run(ONE, true, |stage| {
+        stage.wire.send(&[0; 14]).unwrap();
+    });
+    assert_eq!(outcome, Err(Fault::new("the program ended by itself")));
 }
 
 #[test]
 fn what_a_program_says_wrongly_is_told() {
     for (text, says) in [
-        ("#!/bin/sh\nexit 7\n", "the program ended with status 7 before its networks were open"),
-        ("#!/bin/sh\necho hello; cat\n", "the program wrote what isn't known: hello"),
-        ("#!/bin/sh\nprintf 'ok 1\\nair 02:00:00:00:01:09 00\\n'; cat >/dev/null\n", "a frame before it was given one"),
-        (
-            "#!/bin/sh\necho ok 1; read T; echo air 02:00:00:00:01:09 00; cat >/dev/null\n",
-            "a network that it doesn't have",
-        ),
+        ("sys.exit(7)\n", "the program ended with status 7 before its networks were open"),
+        ("print('hello', flush=True)\nlist(events())\n", "the program wrote what isn't known: hello"),
+        ("open_networks(1)\nair(OTHER, b'0')\nlist(events())\n", "a frame before it was given one"),
+        ("open_networks(1)\nnext(events())\nair(OTHER, b'0')\nlist(events())\n", "a network that it doesn't have"),
     ] {
-        let (outcome, _) = run(Face::Text, text, true, |_| {});
+        let (outcome, _) = run(text, true, |_| {});
         assert!(outcome.as_ref().unwrap_err().to_string().contains(says), "{outcome:?}");
     }
 }
@@ -713,10 +703,10 @@ fn what_a_program_says_wrongly_is_told() {
 /// them are dropped.
 #[test]
 fn what_waits_to_be_sent_does_not_keep_beacons() {
-    let answers = format!("for n in {{1..80}}; do echo 'air 02:00:00:00:01:01 {ANSWER}'; done");
-    let many = LINES.replace("echo \"wire 02:00:00:00:01:01 $rest\"", &answers);
+    let answers = format!("[air(OURS, bytes.fromhex('{ANSWER}')) for _ in range(80)]");
+    let many = ONE.replace("wire(OURS, octets)", &answers);
     let slow = Surroundings { takes: Duration::from_millis(1), ..Surroundings::default() };
-    let (outcome, stage) = run_with(Face::Text, &many, slow, |stage| {
+    let (outcome, stage) = run_with(&many, slow, |stage| {
         for sequence in 1..=8 {
             stage.hear(&Unit { sequence: sequence << 4, ..Unit::default() }.octets());
         }
@@ -733,9 +723,9 @@ fn what_waits_to_be_sent_does_not_keep_beacons() {
 
 #[test]
 fn what_floods_does_not_keep_beacons_and_is_counted() {
-    let slow = LINES.replace("A) echo", "A) sleep 0.01; echo");
+    let slow = ONE.replace("wire(OURS", "time.sleep(0.01); wire(OURS");
     let mut status = String::new();
-    let (outcome, stage) = run(Face::Text, &slow, true, |stage| {
+    let (outcome, stage) = run(&slow, true, |stage| {
         for _ in 0..1000 {
             stage.hear(&data());
         }

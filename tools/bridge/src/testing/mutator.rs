@@ -1,6 +1,6 @@
 //! A seeded mutator over what the bridge reads of others: headers of radiotap, frames, and the program's answers. It
 //! tries a million inputs, each a good one that was changed in some places, cut, or joined to another.
-use crate::apctl::records::{Answer, Answers, Face};
+use crate::apctl::records::{Answer, Answers};
 use crate::formats::frames::{is_tagged, Address, Frame, BEACON, MOST};
 use crate::formats::radiotap::{captured, reception, Outcome, SENDING_LEN};
 use crate::inbound::filter::{monitor_filter, Shown};
@@ -30,18 +30,6 @@ fn packets() -> Vec<Vec<u8>> {
 }
 
 /// Good inputs: answers of the program.
-fn lines() -> Vec<Vec<u8>> {
-    [
-        "ok 2\n",
-        "air 02:00:00:00:01:01 80000000ffffffffffff\n",
-        "wire 02:00:00:00:01:02 0202\n",
-        "fault L2 line 3\n",
-        "end\n",
-    ]
-    .map(|line| line.as_bytes().to_vec())
-    .to_vec()
-}
-
 fn records() -> Vec<Vec<u8>> {
     [
         &b"O\0\0\0\0\0\x02\0\0"[..],
@@ -122,22 +110,21 @@ fn frames() {
 /// Answers that are cut anywhere are those of the whole, and one that isn't known ends them alike.
 #[test]
 fn answers_of_the_program() {
-    for (face, good) in [(Face::Text, lines()), (Face::Octets, records())] {
-        let (mut seeded, mut known, mut unknown) = (Seeded(3), 0u32, 0u32);
-        for _ in 0..INPUTS / 2 {
-            let octets = mutated(&mut seeded, &good);
-            let whole = read(face, &octets, octets.len().max(1));
-            assert_eq!(whole, read(face, &octets, 1 + seeded.below(octets.len() + 1)));
-            known += whole.0.len() as u32;
-            unknown += u32::from(whole.1);
-        }
-        assert!(known > 100_000 && unknown > 50_000, "{known} {unknown}");
+    let (mut seeded, mut known, mut unknown) = (Seeded(3), 0u32, 0u32);
+    let good = records();
+    for _ in 0..INPUTS {
+        let octets = mutated(&mut seeded, &good);
+        let whole = read(&octets, octets.len().max(1));
+        assert_eq!(whole, read(&octets, 1 + seeded.below(octets.len() + 1)));
+        known += whole.0.len() as u32;
+        unknown += u32::from(whole.1);
     }
+    assert!(known > 200_000 && unknown > 100_000, "{known} {unknown}");
 }
 
 /// The answers of octets that come in pieces of this length, and whether one of them isn't known.
-fn read(face: Face, octets: &[u8], length: usize) -> (Vec<Answer>, bool) {
-    let mut answers = Answers::new(face);
+fn read(octets: &[u8], length: usize) -> (Vec<Answer>, bool) {
+    let mut answers = Answers::new();
     let mut found = Vec::new();
     for piece in octets.chunks(length) {
         answers.take(piece);
