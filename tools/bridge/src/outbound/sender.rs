@@ -6,7 +6,6 @@ use crate::formats::radiotap::Outcome;
 use crate::network::Network;
 use crate::os::clock::Nanos;
 use crate::os::sockets::Port;
-use crate::outbound::air::account::Account;
 use crate::outbound::air::links::Unacknowledged;
 use crate::outbound::air::scheduler::Place;
 use crate::outbound::air::Transmitter;
@@ -17,7 +16,8 @@ use crate::outbound::wire::Exit;
 /// Sends the frames of the program's answers by the monitor interface and the wires.
 #[derive(Debug)]
 pub struct Sender<P> {
-    air: Transmitter<P>,
+    /// What goes on the air.
+    pub air: Transmitter<P>,
     /// By which the radio shows the frames that were acknowledged, where it doesn't by the monitor interface's own.
     acknowledged: Option<P>,
     wires: Vec<Option<Exit<P>>>,
@@ -48,6 +48,7 @@ impl<P: Port> Sender<P> {
     /// What was sent, and what wasn't.
     pub fn counts(&self) -> Counts {
         let mut counts = self.counts.clone();
+        self.air.counts().iter().for_each(|(what, number)| count(&mut counts, what, *number));
         let Unacknowledged { again, lost } = self.air.unacknowledged();
         let of_wires = self.wires.iter().flatten().map(|wire| wire.sent).sum();
         for (what, number) in [
@@ -68,44 +69,14 @@ impl<P: Port> Sender<P> {
         counts
     }
 
-    /// What the air was to each network, in the order of their places.
-    pub fn accounts(&self) -> &[Account] {
-        self.air.accounts()
-    }
-
     /// The place of the network with this address.
     pub fn place_of(&self, bssid: &Address) -> Option<Place> {
         self.places.get(bssid).copied()
     }
 
-    /// The monitor interface.
-    pub fn monitor(&mut self) -> &mut Gate<P> {
-        self.air.gate()
-    }
-
     /// The port of the frames that the radio shows as acknowledged, where they have one.
     pub fn acknowledged(&mut self) -> Option<&mut P> {
         self.acknowledged.as_mut()
-    }
-
-    /// Whether one waits for what the radio tells of the frames that it has.
-    pub fn awaits_outcomes(&self) -> bool {
-        self.air.awaits_outcomes()
-    }
-
-    /// Whether what the radio tells of frames that it has is to be looked at now.
-    pub fn wants_outcomes(&self) -> bool {
-        self.air.wants_outcomes()
-    }
-
-    /// What the radio told so far was looked at.
-    pub fn looked(&mut self) {
-        self.air.looked();
-    }
-
-    /// How many frames were sent on the air.
-    pub fn sent_on_air(&self) -> u64 {
-        self.air.sent()
     }
 
     /// The wire of the network of this place, and what waits for it.
@@ -143,11 +114,6 @@ impl<P: Port> Sender<P> {
         Ok(())
     }
 
-    /// The bridge sends a frame of its own for a network: at the lowest basic rate, behind what waits for its receiver.
-    pub fn send_own(&mut self, place: Place, frame: Vec<u8>, retries: u8, now: Nanos) {
-        self.air.send_own(place, frame, retries, now);
-    }
-
     /// A network sends a frame on its wire; a fault where there is no such network.
     pub fn send_on_wire(&mut self, bssid: Address, octets: Vec<u8>, now: Nanos) -> Result<(), Fault> {
         let place = self.place(bssid)?;
@@ -178,34 +144,9 @@ impl<P: Port> Sender<P> {
         }
     }
 
-    /// A station is associated with the network of this place, by this request, since before this bridge began.
-    pub fn restore(&mut self, place: Place, request: Frame<'_>) {
-        self.air.restore(place, request);
-    }
-
-    /// When `expire` has something to do.
-    pub fn due(&self) -> Option<Nanos> {
-        self.air.due()
-    }
-
-    /// What has waited long enough for what became of the frame before may go.
-    pub fn expire(&mut self, now: Nanos) {
-        self.air.expire(now);
-    }
-
-    /// From now on the radio is given all that waits.
-    pub fn end(&mut self) {
-        self.air.end();
-    }
-
-    /// Sends the beacons that wait.
-    pub fn flush_beacons(&mut self) {
-        self.air.flush_beacons(&mut self.counts);
-    }
-
     /// Sends what waits, as far as there is room and until it is that time.
     pub fn flush(&mut self, now: Nanos, until: Nanos) {
-        self.air.flush(now, until, &mut self.counts);
+        self.air.flush(now, until);
         for wire in self.wires.iter_mut().flatten() {
             wire.flush(now, until, &mut self.counts);
         }

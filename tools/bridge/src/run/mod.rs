@@ -306,7 +306,7 @@ impl<P: OfSocket> Bridge<P> {
                 let tick = if is_late { self.time + MILLISECOND } else { running.ticks.due() };
                 let alive = (self.manner.tells_alive && running.is_answered).then_some(self.alive_told + ALIVE_EVERY);
                 let look = Some(running.next_look().max(self.time)).filter(|look| running.is_before_beacon(*look));
-                let times = [running.beacon_due, running.sender.due(), running.sends_next(self.time), alive, look];
+                let times = [running.beacon_due, running.sender.air.due(), running.sends_next(self.time), alive, look];
                 times.into_iter().flatten().fold(tick, Nanos::min)
             }
             _ => Nanos::MAX,
@@ -360,7 +360,7 @@ impl<P: OfSocket> Bridge<P> {
     /// The interfaces are there: frames go, and the first beacon interval begins.
     fn begin(&mut self, mut sender: Sender<P>) -> Result<(), Fault> {
         let networks = sender.networks().to_vec();
-        self.poller.add(sender.monitor().port.descriptor(), Token::Monitor, true, false)?;
+        self.poller.add(sender.air.gate().port.descriptor(), Token::Monitor, true, false)?;
         let mut ended = BTreeMap::new();
         for (place, network) in networks.iter().enumerate() {
             match sender.wire(place) {
@@ -391,7 +391,7 @@ impl<P: OfSocket> Bridge<P> {
     fn set_filter(&mut self, shown: Shown) -> Result<(), Fault> {
         if let Some(running) = &mut self.running {
             let bssids: Vec<Address> = running.networks.iter().map(|network| network.bssid).collect();
-            let port = &mut running.sender.monitor().port;
+            let port = &mut running.sender.air.gate().port;
             let outcome = port.set_filter(&monitor_filter(&bssids, shown));
             outcome.map_err(|fault| Fault::of(format!("{}: no filter", port.interface()), &fault))?;
         }
@@ -451,14 +451,14 @@ impl<P: OfSocket> Bridge<P> {
             Some(running) if self.phase == Phase::Running => running,
             _ => return Ok(()),
         };
-        let unread = running.sender.sent_on_air() - running.sent_before;
-        if unread >= UNREAD_ACKNOWLEDGED || unread > 0 && running.sender.wants_outcomes() {
+        let unread = running.sender.air.sent() - running.sent_before;
+        if unread >= UNREAD_ACKNOWLEDGED || unread > 0 && running.sender.air.wants_outcomes() {
             running.receive(Token::Acknowledged, &mut self.batch, self.time)?;
-            running.sender.looked();
+            running.sender.air.looked();
             self.send()?;
         }
         if let Some(running) = &mut self.running {
-            let awaits = running.sender.awaits_outcomes();
+            let awaits = running.sender.air.awaits_outcomes();
             match running.sender.acknowledged() {
                 Some(port) if awaits != running.awaits_acknowledged => {
                     self.poller.change(port.descriptor(), Token::Acknowledged, awaits, false)?;
@@ -488,7 +488,7 @@ impl<P: OfSocket> Bridge<P> {
                     running.given.ticks += 1;
                     running.receive(Token::Acknowledged, &mut self.batch, time)?;
                 }
-                running.sender.expire(time);
+                running.sender.air.expire(time);
                 if self.tables_asked && running.tables.may_be_asked() {
                     self.tables_asked = false;
                     self.feeder.say(Event::Tables);
@@ -555,7 +555,7 @@ impl<P: OfSocket> Bridge<P> {
     fn send(&mut self) -> Result<(), Fault> {
         let reads = self.phase == Phase::Running;
         if let Some(running) = self.running.as_mut().filter(|running| !running.sender.is_idle()) {
-            running.sender.flush_beacons();
+            running.sender.air.flush_beacons();
             let while_it_is = if reads { running.sends_while(self.time) } else { 0..Nanos::MAX };
             for (token, descriptor, is_blocked) in running.flush(self.time, while_it_is) {
                 self.poller.change(descriptor, token, reads, is_blocked)?;
@@ -572,7 +572,7 @@ impl<P: OfSocket> Bridge<P> {
             self.phase = Phase::Ending;
         }
         if let Some(running) = &mut self.running {
-            running.sender.end();
+            running.sender.air.end();
             running.stop_reading(&self.poller)?;
             // The socket is tools/live's too, and would be waited for even once it was closed here.
             if let Some(clients) = self.clients.take() {
@@ -643,7 +643,7 @@ impl<P: Port> Running<P> {
     fn run(&mut self, errands: Vec<Errand>, time: Nanos) {
         for errand in errands {
             match errand {
-                Errand::Send { place, frame, retries } => self.sender.send_own(place, frame, retries, time),
+                Errand::Send { place, frame, retries } => self.sender.air.send_own(place, frame, retries, time),
                 Errand::Say(octets) => self.wait_of_air(&octets, time),
             }
         }
@@ -659,7 +659,7 @@ impl<P: Port> Running<P> {
 
     fn unblock(&mut self, token: Token) {
         match token {
-            Token::Monitor => self.sender.monitor().unblock(),
+            Token::Monitor => self.sender.air.gate().unblock(),
             Token::Wire(place) => {
                 if let Some(wire) = self.sender.wire(place) {
                     wire.unblock();

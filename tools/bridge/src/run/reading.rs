@@ -84,7 +84,7 @@ impl<P: Port> Running<P> {
                     Some(port) => port,
                     None => return Ok(()),
                 },
-                _ => &mut self.sender.monitor().port,
+                _ => &mut self.sender.air.gate().port,
             };
             let number = port
                 .receive(batch)
@@ -116,7 +116,7 @@ impl<P: Port> Running<P> {
             Token::Monitor => 0,
             Token::Wire(place) => 1 + place,
             _ => {
-                self.sent_before = self.sender.sent_on_air();
+                self.sent_before = self.sender.air.sent();
                 return AT_A_TIME;
             }
         };
@@ -169,7 +169,7 @@ impl<P: Port> Running<P> {
 
     /// Reads the interfaces no more.
     pub(super) fn stop_reading(&mut self, poller: &Poller) -> Result<(), Fault> {
-        poller.change(self.sender.monitor().port.descriptor(), Token::Monitor, false, false)?;
+        poller.change(self.sender.air.gate().port.descriptor(), Token::Monitor, false, false)?;
         if let Some(port) = self.sender.acknowledged() {
             poller.change(port.descriptor(), Token::Acknowledged, false, false)?;
         }

@@ -92,7 +92,7 @@ impl<P: Port> Running<P> {
     pub(super) fn restore(&mut self, restored: &Restored, time: Nanos) {
         for ((place, _), kept) in &restored.stay {
             if let Some(request) = Frame::of(&kept.request) {
-                self.sender.restore(*place, request);
+                self.sender.air.restore(*place, request);
             }
         }
         for (place, network) in self.networks.iter().enumerate() {

@@ -61,7 +61,7 @@ impl<P: Port> Running<P> {
             left_out,
             networks: &self.networks,
             wires_down: (0..self.networks.len()).map(|place| self.ended.get(&place)?.since).collect(),
-            accounts: self.sender.accounts(),
+            accounts: self.sender.air.accounts(),
             roster: self.operating.roster(),
             tables: &self.tables,
             now,

@@ -82,7 +82,7 @@ impl<P: Port> Running<P> {
         for token in std::iter::once(Token::Monitor).chain((0..self.networks.len()).map(Token::Wire)) {
             let gate = match token {
                 Token::Wire(place) => self.sender.wire(place),
-                _ => Some(self.sender.monitor()),
+                _ => Some(self.sender.air.gate()),
             };
             if let Some(gate) = gate.filter(|gate| !gate.is_settled()) {
                 gate.set_waited_for(gate.is_blocked());

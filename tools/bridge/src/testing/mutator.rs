@@ -7,7 +7,6 @@ use crate::inbound::filter::{monitor_filter, Shown};
 use crate::inbound::judging::{judge_wired, Air, Judged};
 use crate::network::Network;
 use crate::outbound::air::Transmitter;
-use crate::outbound::counts::Counts;
 use crate::stations::operating::{Errand, Operating};
 use crate::testing::samples::{data, network, radiotap, Recorder, Seeded, Unit, OTHER, OURS, STATION};
 
@@ -157,7 +156,7 @@ fn the_way_to_the_air() {
     let networks = [Network { rates: vec![0x82, 0x84, 12, 108], ..network(OURS) }, network(OTHER)];
     let (mut seeded, mut time) = (Seeded(5), 0);
     let mut air = Transmitter::new(&networks, Recorder::default(), Recorder::default());
-    let (mut given, mut again, mut beacons, mut counts) = (0u64, 0u64, 0u64, Counts::new());
+    let (mut given, mut again, mut beacons) = (0u64, 0u64, 0u64);
     for _ in 0..INPUTS / 2 {
         let mut octets = mutated(&mut seeded, &good);
         let place = seeded.below(2);
@@ -187,8 +186,8 @@ fn the_way_to_the_air() {
             air.looked();
         }
         air.gate().port.unsent = [0, 100][seeded.below(2)];
-        air.flush_beacons(&mut counts);
-        air.flush(time, u64::MAX, &mut counts);
+        air.flush_beacons();
+        air.flush(time, u64::MAX);
         let sent = &mut air.gate().port.sent;
         again +=
             sent.drain(..).filter(|packet| packet.get(SENDING_LEN + 1).map_or(false, |f| f & 0x08 != 0)).count() as u64;
@@ -197,7 +196,7 @@ fn the_way_to_the_air() {
     air.gate().port.unsent = 0;
     while let Some(due) = air.due() {
         air.expire(due);
-        air.flush(due, u64::MAX, &mut counts);
+        air.flush(due, u64::MAX);
     }
     let unsent: u64 = air.accounts().iter().flat_map(|account| account.unsent.values()).sum();
     assert_eq!(air.sent() - beacons + unsent, given + air.unacknowledged().again);

@@ -37,7 +37,6 @@ impl Seen {
 struct Driver {
     air: Transmitter<Recorder>,
     now: Nanos,
-    counts: Counts,
     on_air: VecDeque<Seen>,
 }
 
@@ -47,7 +46,7 @@ fn driver(weights: [u8; 2]) -> Driver {
         Network { rates: OTHERS_RATES.to_vec(), weight: weights[1], ..network(OTHER) },
     ];
     let air = Transmitter::new(&networks, Recorder::default(), Recorder::default());
-    Driver { air, now: SECOND, counts: Counts::new(), on_air: VecDeque::new() }
+    Driver { air, now: SECOND, on_air: VecDeque::new() }
 }
 
 fn seen(packets: &mut Vec<Vec<u8>>) -> Vec<Seen> {
@@ -66,8 +65,8 @@ impl Driver {
 
     /// What goes on the air now.
     fn flush(&mut self) -> Vec<Seen> {
-        self.air.flush_beacons(&mut self.counts);
-        self.air.flush(self.now, Nanos::MAX, &mut self.counts);
+        self.air.flush_beacons();
+        self.air.flush(self.now, Nanos::MAX);
         seen(&mut self.air.gate.port.sent)
     }
 
@@ -296,7 +295,7 @@ fn no_more_frames_wait_for_a_station_than_there_is_room_for_and_the_oldest_are_d
     driver.join(0, STATION);
     (0..200).for_each(|number| {
         driver.send(0, unit(OURS, STATION, number));
-        driver.air.flush(driver.now, Nanos::MAX, &mut driver.counts);
+        driver.air.flush(driver.now, Nanos::MAX);
     });
     assert_eq!(numbers(&driver.flush()), [0]);
     assert_eq!(driver.air.accounts[0].waiting, MOST_FOR_STATION);
@@ -532,7 +531,7 @@ fn a_refused_frame_is_counted_and_the_next_is_sent() {
         driver.send(0, of_network(0x08, OURS, STATION, number, body));
     }
     assert_eq!(numbers(&driver.run(usize::MAX)), [1, 4]);
-    assert_eq!(driver.counts["refused by mon0: Message too long"], 2);
+    assert_eq!(driver.air.counts()["refused by mon0: Message too long"], 2);
     assert_eq!(driver.unsent(0, Unsent::Refused), 2);
 }
 

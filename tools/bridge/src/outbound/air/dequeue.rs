@@ -14,7 +14,7 @@ use crate::outbound::air::lateness::Lateness;
 use crate::outbound::air::links::Stations;
 use crate::outbound::air::rate_control::Choice;
 use crate::outbound::air::scheduler::Place;
-use crate::outbound::counts::{count_refused, Counts};
+use crate::outbound::counts::count_refused;
 
 /// How long the tries of one sending take at most, the waits before them included. Linux stations and hostapd give up
 /// after seven tries, which take so long for a long unit at 54 Mb/s.
@@ -50,7 +50,7 @@ impl<P: Port> Transmitter<P> {
 
     /// Sends what waits, as far as the radio may have more and until it is that time. Nothing goes before a beacon that
     /// waits.
-    pub fn flush(&mut self, now: Nanos, until: Nanos, counts: &mut Counts) {
+    pub fn flush(&mut self, now: Nanos, until: Nanos) {
         let mut time = now;
         self.settle(now);
         while !self.gate.is_blocked() && self.beacons.is_empty() && time < until {
@@ -58,7 +58,7 @@ impl<P: Port> Transmitter<P> {
             if self.chosen.is_empty() {
                 break;
             }
-            self.hand_over(counts);
+            self.hand_over();
             if self.has_room() {
                 time = clock::now();
             }
@@ -195,7 +195,7 @@ impl<P: Port> Transmitter<P> {
     }
 
     /// Hands the chosen frames to the radio's socket.
-    pub(super) fn hand_over(&mut self, counts: &mut Counts) {
+    pub(super) fn hand_over(&mut self) {
         let mut frames: [&[u8]; AT_A_TIME] = [&[]; AT_A_TIME];
         frames.iter_mut().zip(&self.chosen).for_each(|(frame, (_, chosen))| *frame = chosen);
         let number = self.chosen.len().min(AT_A_TIME);
@@ -207,7 +207,7 @@ impl<P: Port> Transmitter<P> {
             }
             Err(fault) => {
                 if let Some((name, packet)) = self.chosen.pop_front() {
-                    count_refused(&self.gate, packet.len(), &fault, counts);
+                    count_refused(&self.gate, packet.len(), &fault, &mut self.counts);
                     *self.accounts[name.place].unsent.entry(Unsent::Refused).or_default() += 1;
                     self.flight.forget(name);
                     self.release(name.place, name.receiver);

@@ -70,6 +70,8 @@ pub struct Transmitter<P> {
     /// Whether the radio is given all that waits.
     is_ending: bool,
     sent: u64,
+    /// What the interface refused.
+    counts: Counts,
 }
 
 impl<P: Port> Transmitter<P> {
@@ -92,6 +94,7 @@ impl<P: Port> Transmitter<P> {
             look_due: None,
             is_ending: false,
             sent: 0,
+            counts: Counts::new(),
         }
     }
 
@@ -103,6 +106,11 @@ impl<P: Port> Transmitter<P> {
     /// How many frames were sent.
     pub fn sent(&self) -> u64 {
         self.sent
+    }
+
+    /// What the interface refused.
+    pub fn counts(&self) -> &Counts {
+        &self.counts
     }
 
     /// What the air was to each network.
@@ -140,8 +148,8 @@ impl<P: Port> Transmitter<P> {
     }
 
     /// Sends the beacons that wait.
-    pub fn flush_beacons(&mut self, counts: &mut Counts) {
-        self.sent += self.beacons.flush(counts);
+    pub fn flush_beacons(&mut self) {
+        self.sent += self.beacons.flush(&mut self.counts);
     }
 
     /// From now on the radio is given all that waits, however much it has.
