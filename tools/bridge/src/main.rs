@@ -5,19 +5,19 @@
 //! ```text
 //!      what comes                                                                        the program
 //!
-//!  mon0 ───▶ filter ───▶ recvmmsg ──▶ receiving ──▶ waiting: two lanes   ──▶ Feeder ═══▶ ┌────────────────┐
-//!            (kernel)    8 at most    judged, or    of each network, one     pipe of 32  │                │
-//!  wire1 ──────────────▶ a call       counted as    of the air for all,      events at   │   apctl live   │
-//!  wire2 ──────────────▶              left out      which take turns         most unread │   [--octets]   │
-//!                                                                              ▲         │                │
-//!  the clock, `tables` of tools/live ──────────────────────────────────────────┘         │                │
-//!                                                                                        │                │
-//!  wire1 ◀─┬─ sendmmsg ◀─────── sending: each wire in order;         ◀════════════════════ │                │
-//!  wire2 ◀─┘  8 at most a call                                                  Answers  │                │
-//!  mon0 ◀──── beacons, at once ◀─ transmitting                                           └────────────────┘
-//!  mon0 ◀──── as much as the  ◀── shares: whose turn it is, of the networks and of a network's receivers
-//!             radio sends in      stations: at which rate, and again where it is lost
-//!             8 milliseconds  ◀── flight: what the radio has at once
+//!  mon0 ───▶ filter ───▶ recvmmsg ──▶ judging  ──▶ queue: two of each     ──▶ feeder ═══▶ ┌────────────────┐
+//!            (kernel)    8 at most    goes on, or  network, one of the        pipe of 32  │                │
+//!  wire1 ──────────────▶ a call       is left out  air for all, which take    events at   │   apctl live   │
+//!  wire2 ──────────────▶              and counted  turns                      most unread │   --octets     │
+//!                                                                                 ▲       │                │
+//!  the clock, `tables` of tools/live ─────────────────────────────────────────────┘       │                │
+//!                                                                                         │                │
+//!  wire1 ◀─┬─ sendmmsg ◀─────── wire: each in order;                 ◀═══════════════════ │                │
+//!  wire2 ◀─┘  8 at most a call                                                   records  │                │
+//!  mon0 ◀──── beacons, at once ◀─ air                                                     └────────────────┘
+//!  mon0 ◀──── as much as the  ◀── scheduler: whose turn it is, of the networks and of a network's receivers
+//!             radio sends in      links: at which rate, and again where it is lost
+//!             8 milliseconds  ◀── in_flight: what the radio has at once
 //!  mon0 ───▶ what became of it ─▶ corrects the shares
 //!  people ◀──────────────────── lines of tables and faults
 //! ```
@@ -47,9 +47,9 @@
 //! has left in the files says who is associated, and by which request. The new program is told of these before anything
 //! else, and the record marks that by comments. What it answers to these events is swallowed: that alone of its answers
 //! isn't sent. Each second in which something changed, and at its end, the bridge leaves such a state itself
-//! (`handover::files`).
+//! (`handover::state_files`).
 //!
-//! By itself (`stations::operating`) it watches which stations there are, tells what happens to them, and asks those
+//! By itself (`stations`) it watches which stations there are, tells what happens to them, and asks those
 //! that have fallen silent whether they are there; for one that isn't, or that doesn't associate where a network is
 //! nearly full, it tells the program that the station left. It answers who connects to its socket (`control::clients`).
 #![deny(unsafe_code)]
@@ -72,9 +72,9 @@ use std::os::unix::io::{AsFd, RawFd};
 use std::process::ExitCode;
 
 use crate::apctl::program::Program;
-use crate::apctl::recording::Record;
+use crate::apctl::recording::Recording;
 use crate::handover::state::Setting;
-use control::arguments::Words;
+use control::arguments::Arguments;
 use control::clients::Clients;
 use control::faults::{self, Fault};
 use control::log;
@@ -82,13 +82,13 @@ use control::parent::{say, Handed, Notice, Requests};
 use os::clock::{Nanos, SECOND};
 use os::sandbox::{self, Bounds};
 use os::sockets::{inherited, inherited_listener, OfSocket, PacketSocket};
-use outbound::sender::Sender;
+use outbound::Outbound;
 use run::{Bridge, Manner};
 
 const WRONG_WORDS: u8 = 2;
 
 fn main() -> ExitCode {
-    match Words::read(std::env::args().skip(1)) {
+    match Arguments::read(std::env::args().skip(1)) {
         Err(fault) => {
             faults::tell(fault);
             ExitCode::from(WRONG_WORDS)
@@ -104,7 +104,7 @@ fn main() -> ExitCode {
 }
 
 /// Runs the bridge until it is ended, or until a fault. It serves once it has given up what it doesn't need then.
-fn run(words: &Words) -> Result<(), Fault> {
+fn run(words: &Arguments) -> Result<(), Fault> {
     log::begin(&words.name);
     sandbox::give_up_capabilities()?;
     let requests =
@@ -124,9 +124,9 @@ fn run(words: &Words) -> Result<(), Fault> {
 }
 
 /// The file of the record, which `tools/live` has made.
-fn record(descriptor: RawFd, name: &str) -> Result<Record, Fault> {
+fn record(descriptor: RawFd, name: &str) -> Result<Recording, Fault> {
     let file = inherited(descriptor).map_err(|fault| Fault::of(format!("--record {name}"), &fault))?;
-    Ok(Record::new(name, file.into()))
+    Ok(Recording::new(name, file.into()))
 }
 
 /// The socket by which whoever wants asks the bridge.
@@ -135,7 +135,7 @@ fn listen(descriptor: RawFd) -> Result<Clients, Fault> {
 }
 
 /// The sockets of the monitor interface and of each wire, as `tools/live` opened them.
-fn open(words: &Words, handed: Handed) -> Result<Sender<PacketSocket>, Fault> {
+fn open(words: &Arguments, handed: Handed) -> Result<Outbound<PacketSocket>, Fault> {
     let mut sockets = handed.sockets.into_iter();
     let mut next = |interface: &str| match sockets.next() {
         Some(socket) => Ok(PacketSocket::of(interface, socket)),
@@ -148,5 +148,5 @@ fn open(words: &Words, handed: Handed) -> Result<Sender<PacketSocket>, Fault> {
         let wire = wire.ok_or_else(|| Fault::new(format!("the network of the place {place} has no wire")))?;
         wires[place] = Some(next(wire)?);
     }
-    Ok(Sender::new(words.networks.clone(), monitor, beacons, wires).with_acknowledged(acknowledged))
+    Ok(Outbound::new(words.networks.clone(), monitor, beacons, wires).with_acknowledged(acknowledged))
 }

@@ -4,7 +4,7 @@ use std::io::{ErrorKind, Write};
 use std::os::unix::io::{AsRawFd, RawFd};
 use std::process::ChildStdin;
 
-use crate::apctl::recording::Record;
+use crate::apctl::recording::Recording;
 use crate::apctl::records::{push_record, Event};
 use crate::control::faults::Fault;
 use crate::os::sockets::octets_in_pipe;
@@ -17,7 +17,7 @@ const MOST_UNREAD: usize = 32;
 #[derive(Debug)]
 pub struct Feeder {
     input: Option<ChildStdin>,
-    record: Option<Record>,
+    record: Option<Recording>,
     pending: Vec<u8>,
     /// How many octets were said, and up to which of them each event goes that the program may not have read.
     said: u64,
@@ -26,7 +26,7 @@ pub struct Feeder {
 }
 
 impl Feeder {
-    pub fn new(input: ChildStdin, record: Option<Record>) -> Feeder {
+    pub fn new(input: ChildStdin, record: Option<Recording>) -> Feeder {
         let (pending, ends) = (Vec::new(), VecDeque::new());
         Feeder { input: Some(input), record, pending, said: 0, ends, tick_end: 0 }
     }
@@ -66,7 +66,7 @@ impl Feeder {
     }
 
     /// Says an event; it is written by the next `flush`.
-    pub fn say(&mut self, event: Event<'_>) {
+    pub fn feed(&mut self, event: Event<'_>) {
         if let Some(record) = &mut self.record {
             record.write(event);
         }
@@ -112,11 +112,11 @@ impl Feeder {
 
     /// Lets the file of the record have what was recorded.
     pub fn flush_record(&mut self) {
-        self.record.iter_mut().for_each(Record::flush);
+        self.record.iter_mut().for_each(Recording::flush);
     }
 
     /// The record, where there is one.
-    pub fn record(&self) -> Option<&Record> {
+    pub fn record(&self) -> Option<&Recording> {
         self.record.as_ref()
     }
 }

@@ -7,7 +7,7 @@ use std::thread::sleep;
 use std::time::Duration;
 
 use crate::apctl::feeder::Feeder;
-use crate::apctl::recording::Record;
+use crate::apctl::recording::Recording;
 use crate::apctl::records::{Answer, Answers};
 use crate::control::faults::{reason, Fault};
 use crate::os::clock::{now, Nanos};
@@ -49,7 +49,7 @@ impl Program {
         path: &str,
         config: &str,
         bounds: Option<Bounds>,
-        record: Option<Record>,
+        record: Option<Recording>,
     ) -> Result<(Program, Feeder), Fault> {
         let mut command = Command::new(path);
         command.args(["live", "--octets", config]).stdin(Stdio::piped()).stdout(Stdio::piped());

@@ -12,7 +12,7 @@ use crate::formats::digits;
 /// nothing more can be written, as on a full disk, the recording stops: it is told once, the file keeps whole lines
 /// alone, and all else goes on.
 #[derive(Debug)]
-pub struct Record {
+pub struct Recording {
     path: String,
     /// `None` once the recording has stopped.
     file: Option<File>,
@@ -22,10 +22,10 @@ pub struct Record {
     fault: Option<String>,
 }
 
-impl Record {
+impl Recording {
     /// Into a file that is open for writing and empty; its name is for people.
-    pub fn new(path: &str, file: File) -> Record {
-        Record { path: path.to_owned(), file: Some(file), pending: Vec::new(), written: 0, fault: None }
+    pub fn new(path: &str, file: File) -> Recording {
+        Recording { path: path.to_owned(), file: Some(file), pending: Vec::new(), written: 0, fault: None }
     }
 
     /// How many octets were written.
@@ -138,7 +138,7 @@ mod tests {
     #[test]
     fn events_are_recorded_as_lines() {
         let (path, file) = file_of("lines");
-        let mut record = Record::new("today", file);
+        let mut record = Recording::new("today", file);
         for event in [Event::Tick, Event::Tables, Event::Air(&[1, 2])] {
             record.write(event);
         }
@@ -152,7 +152,7 @@ mod tests {
 
     #[test]
     fn where_the_disk_is_full_the_recording_stops() {
-        let mut record = Record::new("today", OpenOptions::new().write(true).open("/dev/full").unwrap());
+        let mut record = Recording::new("today", OpenOptions::new().write(true).open("/dev/full").unwrap());
         record.write(Event::Tick);
         record.flush();
         assert_eq!((record.written(), record.fault()), (0, Some("No space left on device")));
@@ -166,7 +166,8 @@ mod tests {
     fn a_line_that_was_cut_is_taken_back() {
         let (path, mut file) = file_of("cut");
         file.write_all(b"T\nA 0102\nA 03").unwrap();
-        let mut record = Record { pending: b"A 0102\nA 0304\n".to_vec(), written: 2, ..Record::new("today", file) };
+        let mut record =
+            Recording { pending: b"A 0102\nA 0304\n".to_vec(), written: 2, ..Recording::new("today", file) };
         record.stop(11, &io::Error::from_raw_os_error(libc::ENOSPC));
         assert_eq!(std::fs::read_to_string(&path).unwrap(), "T\nA 0102\n");
         assert_eq!(record.written(), 9);
@@ -177,7 +178,7 @@ mod tests {
     fn what_takes_nothing_stops_the_recording() {
         let (near, far) = UnixStream::pair().unwrap();
         drop(far);
-        let mut record = Record::new("pipe", File::from(std::os::unix::io::OwnedFd::from(near)));
+        let mut record = Recording::new("pipe", File::from(std::os::unix::io::OwnedFd::from(near)));
         record.write(Event::Tick);
         record.flush();
         assert_eq!(record.fault(), Some("Broken pipe"));

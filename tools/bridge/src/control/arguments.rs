@@ -16,7 +16,7 @@ pub const USAGE: &str = "bridge [--name NAME] --phy NAME --channel NUMBER --moni
 
 /// What the words ask for.
 #[derive(Debug, Clone, PartialEq, Eq)]
-pub struct Words {
+pub struct Arguments {
     /// By which name `tools/live` was called, which each line that is told begins with.
     pub name: String,
     /// The radio.
@@ -47,9 +47,9 @@ pub struct Words {
 
 /// Why the words aren't such.
 #[derive(Debug, Clone, PartialEq, Eq)]
-pub struct NotWords(String);
+pub struct WrongArguments(String);
 
-impl fmt::Display for NotWords {
+impl fmt::Display for WrongArguments {
     fn fmt(&self, to: &mut fmt::Formatter<'_>) -> fmt::Result {
         write!(to, "{}; usage: {USAGE}", self.0)
     }
@@ -63,16 +63,16 @@ const FIRST_DESCRIPTOR: RawFd = 3;
 const LEAST_BOUNDS: u64 = 1 << 20;
 const WEIGHTS: RangeInclusive<u8> = 1..=MOST_WEIGHT;
 
-impl Words {
+impl Arguments {
     /// Reads them.
-    pub fn read(words: impl IntoIterator<Item = String>) -> Result<Words, NotWords> {
+    pub fn read(words: impl IntoIterator<Item = String>) -> Result<Arguments, WrongArguments> {
         let mut words = words.into_iter();
         let (mut monitor, mut interval, mut record) = (None, None, None);
         let (mut phy, mut channel, mut idle, mut socket, mut tells_alive) = (None, None, IDLE, None, false);
         let (mut name, mut bounds) = (log::UNNAMED.to_owned(), None);
         let (mut networks, mut rest) = (Vec::new(), Vec::new());
         while let Some(word) = words.next() {
-            let mut value = || words.next().ok_or_else(|| NotWords(format!("{word} lacks its value")));
+            let mut value = || words.next().ok_or_else(|| WrongArguments(format!("{word} lacks its value")));
             match word.as_str() {
                 "--name" => name = value()?,
                 "--phy" => phy = Some(value()?),
@@ -88,12 +88,12 @@ impl Words {
                 _ => rest.push(word),
             }
         }
-        let lacks = |what: &str| NotWords(format!("{what} is missing"));
+        let lacks = |what: &str| WrongArguments(format!("{what} is missing"));
         let [program, config]: [String; 2] = rest.try_into().map_err(|_| lacks("PROGRAM CONFIG"))?;
         if networks.is_empty() {
             return Err(lacks("--network"));
         }
-        Ok(Words {
+        Ok(Arguments {
             name,
             phy: phy.ok_or_else(|| lacks("--phy"))?,
             channel: channel.ok_or_else(|| lacks("--channel"))?,
@@ -112,16 +112,24 @@ impl Words {
 }
 
 /// A number within limits.
-fn read_number<N: FromStr + PartialOrd>(text: &str, what: &str, limits: RangeInclusive<N>) -> Result<N, NotWords> {
-    text.parse().ok().filter(|number| limits.contains(number)).ok_or_else(|| NotWords(format!("{text} is no {what}")))
+fn read_number<N: FromStr + PartialOrd>(
+    text: &str,
+    what: &str,
+    limits: RangeInclusive<N>,
+) -> Result<N, WrongArguments> {
+    text.parse()
+        .ok()
+        .filter(|number| limits.contains(number))
+        .ok_or_else(|| WrongArguments(format!("{text} is no {what}")))
 }
 
-fn read_record(text: &str) -> Result<(RawFd, String), NotWords> {
-    let (descriptor, name) = text.split_once(':').ok_or_else(|| NotWords(format!("{text} is no DESCRIPTOR:NAME")))?;
+fn read_record(text: &str) -> Result<(RawFd, String), WrongArguments> {
+    let (descriptor, name) =
+        text.split_once(':').ok_or_else(|| WrongArguments(format!("{text} is no DESCRIPTOR:NAME")))?;
     Ok((read_number(descriptor, "descriptor", FIRST_DESCRIPTOR..=RawFd::MAX)?, name.to_owned()))
 }
 
-fn read_network(text: &str) -> Result<Network, NotWords> {
+fn read_network(text: &str) -> Result<Network, WrongArguments> {
     let mut parts = text.split('/');
     let bssid: Option<Address> = parts.next().and_then(|part| part.parse().ok());
     let mut octets = || parts.next().and_then(|part| hex::decode(part).ok()).filter(|octets| !octets.is_empty());
@@ -136,7 +144,7 @@ fn read_network(text: &str) -> Result<Network, NotWords> {
         Some(((((bssid, ssid), rates), (max_stations, max_known)), weight)) => {
             Ok(Network { bssid, ssid, rates, max_stations, max_known, wire, weight })
         }
-        None => Err(NotWords(format!("{text} is no BSSID/SSID/RATES/STATIONS/KNOWN/SHARE[/WIRE]"))),
+        None => Err(WrongArguments(format!("{text} is no BSSID/SSID/RATES/STATIONS/KNOWN/SHARE[/WIRE]"))),
     }
 }
 
@@ -150,8 +158,8 @@ mod tests {
                         --alive --record 6:r:1 --bounds 2000000 --network 02:00:00:00:01:01/6c6162/8284/64/256/1/wire1 --network \
                         02:00:00:00:01:02/20/16/2007/10000/16 apctl config";
 
-    fn read(text: &str) -> Result<Words, NotWords> {
-        Words::read(text.split_whitespace().map(str::to_owned))
+    fn read(text: &str) -> Result<Arguments, WrongArguments> {
+        Arguments::read(text.split_whitespace().map(str::to_owned))
     }
 
     #[test]
@@ -173,7 +181,7 @@ mod tests {
                 ..network(OTHER)
             },
         ];
-        let wanted = Words {
+        let wanted = Arguments {
             name: "waltigon-live".into(),
             phy: "phy0".into(),
             channel: 6,
@@ -198,8 +206,6 @@ mod tests {
     #[test]
     fn others_are_told() {
         for (old, new) in [
-            ("octets", "words"),
-            ("--face octets", ""),
             ("--monitor mon0", ""),
             ("--phy phy0", ""),
             ("--channel 6", ""),

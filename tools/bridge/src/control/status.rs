@@ -2,13 +2,14 @@
 use std::collections::{BTreeMap, VecDeque};
 use std::fmt::{self, Display, Write};
 
-use crate::apctl::recording::Record;
+use crate::apctl::recording::Recording;
 use crate::apctl::tables::Tables;
 use crate::network::Network;
-use crate::os::clock::{Lateness, Nanos, MILLISECOND, SECOND};
+use crate::os::clock::{Nanos, MILLISECOND, SECOND};
 use crate::outbound::air::account::Account;
+use crate::run::intervals::BeaconDelays;
 use crate::stations::station::{State, Station};
-use crate::stations::table::Roster;
+use crate::stations::table::StationTable;
 
 /// Which version runs.
 pub const VERSION: &str = match option_env!("BRIDGE_VERSION") {
@@ -46,9 +47,9 @@ pub struct Status<'a> {
     /// The program's last faults.
     pub faults: &'a Faults,
     /// What is recorded, where something is.
-    pub record: Option<&'a Record>,
+    pub record: Option<&'a Recording>,
     /// The beacons so far.
-    pub beacons: &'a Lateness,
+    pub beacons: &'a BeaconDelays,
     /// What was dropped or lost.
     pub drops: Named,
     /// What was left out.
@@ -60,7 +61,7 @@ pub struct Status<'a> {
     /// What the air was to each.
     pub accounts: &'a [Account],
     /// Their stations.
-    pub roster: &'a Roster,
+    pub table: &'a StationTable,
     /// What the program said of them.
     pub tables: &'a Tables,
     /// The time.
@@ -84,7 +85,7 @@ impl Status<'_> {
             write!(to, "{{\"seconds\":{},\"text\":{}}}", Seconds(self.now.saturating_sub(*since)), Text(text))
         })?;
         write!(to, ",\"record\":{}", Maybe(self.record.map(Recorded)))?;
-        let Lateness { sent, .. } = *self.beacons;
+        let BeaconDelays { sent, .. } = *self.beacons;
         let (mean, worst, missed) = (self.beacons.mean(), self.beacons.worst, self.beacons.missed);
         write!(to, ",\"beacons\":{{\"sent\":{sent},\"late_ms_mean\":{},", Milliseconds(mean))?;
         write!(to, "\"late_ms_worst\":{},\"missed\":{missed}}},\"drops\":", Milliseconds(worst))?;
@@ -111,9 +112,9 @@ impl Status<'_> {
             None => to.push_str("null"),
         }
         to.push_str(",\"refusals\":");
-        let refusals = self.roster.refusals(place).iter();
+        let refusals = self.table.refusals(place).iter();
         named(to, &refusals.map(|(status, number)| (status.to_string(), *number)).collect())?;
-        let stations = self.roster.stations_of(place);
+        let stations = self.table.stations_of(place);
         write!(to, ",\"known\":{},\"stations\":", stations.len())?;
         list(to, stations.into_iter().take(MOST_STATIONS), |to, (address, station)| {
             write!(to, "{{\"address\":{},", Text(&address.to_string()))?;
@@ -214,7 +215,7 @@ impl<T: Display> Display for Maybe<T> {
 }
 
 /// How many octets were recorded, and why no more are.
-struct Recorded<'a>(&'a Record);
+struct Recorded<'a>(&'a Recording);
 
 impl Display for Recorded<'_> {
     fn fmt(&self, to: &mut fmt::Formatter<'_>) -> fmt::Result {
@@ -269,14 +270,15 @@ mod tests {
     #[test]
     fn all_stands_in_one_line() {
         let networks = [Network { wire: Some("wire1".into()), ..network(OURS) }, network(OTHER)];
-        let (mut roster, mut tables, mut faults) = (Roster::new(vec![OURS, OTHER]), Tables::new(2), Faults::default());
+        let (mut table, mut tables, mut faults) =
+            (StationTable::new(vec![OURS, OTHER]), Tables::new(2), Faults::default());
         let to = |control, body: &[u8]| {
             let head = [&[control, 0, 0, 0][..], STATION.octets(), OURS.octets(), OURS.octets(), &[0, 0]].concat();
             [&head[..], body].concat()
         };
-        roster.answered(0, &to(0xb0, &[0, 0, 2, 0, 0, 0]), SECOND);
-        roster.answered(0, &to(0x10, &[1, 0, 0, 0, 3, 0xc0]), SECOND);
-        roster.answered(1, &to(0xb0, &[0, 0, 2, 0, 1, 0]), SECOND);
+        table.answered(0, &to(0xb0, &[0, 0, 2, 0, 0, 0]), SECOND);
+        table.answered(0, &to(0x10, &[1, 0, 0, 0, 3, 0xc0]), SECOND);
+        table.answered(1, &to(0xb0, &[0, 0, 2, 0, 1, 0]), SECOND);
         tables.ask(Asker::Status, 0);
         for line in [
             "network 02:00:00:00:01:01 ssid 6c",
@@ -290,8 +292,8 @@ mod tests {
         }
         faults.push("fault L2 line 3", SECOND);
         faults.push("fault L1 line 4", 2 * SECOND);
-        let record = Record::new("today", std::fs::File::open("/dev/null").unwrap());
-        let mut beacons = Lateness::default();
+        let record = Recording::new("today", std::fs::File::open("/dev/null").unwrap());
+        let mut beacons = BeaconDelays::default();
         beacons.count(2 * MILLISECOND);
         beacons.count(4 * MILLISECOND);
         let mut accounts = vec![Account { used: 2500 * MILLISECOND, waiting: 7, ..Account::default() }; 2];
@@ -308,7 +310,7 @@ mod tests {
             networks: &networks,
             wires_down: vec![Some(SECOND / 2), None],
             accounts: &accounts,
-            roster: &roster,
+            table: &table,
             tables: &tables,
             now: 3 * SECOND,
         };

@@ -12,18 +12,18 @@ use crate::apctl::records::{Answer, Event};
 use crate::formats::frames::{Address, AddressMap, Frame};
 use crate::handover::state::{NotUsed, State};
 use crate::network::Network;
-use crate::stations::meaning::{answered, Answered};
+use crate::stations::meaning::{from_network, FromNetwork};
 use crate::stations::own_frames::{association_request, authentication, departure, mode_of_station};
-use crate::stations::station::{Kept, Member};
+use crate::stations::station::{KeptStation, Member};
 
 /// A row of a table: what a network has of a station that is associated, or `None` of one that is authenticated only.
 type Row = Option<(u16, u16, bool)>;
 
 /// A network whose stations are said to the program.
 #[derive(Debug)]
-struct Asked {
+struct NetworkReplay {
     bssid: Address,
-    wanted: Vec<Kept>,
+    wanted: Vec<KeptStation>,
     /// The identifiers that the program answered.
     answered: AddressMap<u16>,
     rows: AddressMap<Row>,
@@ -33,7 +33,7 @@ struct Asked {
 #[derive(Debug, Default, PartialEq, Eq)]
 pub struct Restored {
     /// The stations that stay.
-    pub stay: Vec<(Member, Kept)>,
+    pub stay: Vec<(Member, KeptStation)>,
     /// The stations that have to join again.
     pub again: Vec<Member>,
     /// Those of which the program has to be told that they have left.
@@ -44,10 +44,10 @@ pub struct Restored {
 
 /// What is said to a new program, and what it answers.
 #[derive(Debug)]
-pub struct Restoring {
+pub struct Replay {
     events: VecDeque<Vec<u8>>,
     has_asked: bool,
-    networks: Vec<Asked>,
+    networks: Vec<NetworkReplay>,
     /// The place of the network whose table is read.
     reads: Option<usize>,
     ended: usize,
@@ -56,10 +56,10 @@ pub struct Restoring {
     unfit: Vec<Member>,
 }
 
-impl Restoring {
+impl Replay {
     /// The stations of a state are to be said, as far as these networks are those that they joined.
-    pub fn of(state: &State, networks: &[Network]) -> Result<Restoring, NotUsed> {
-        let mut restoring = Restoring {
+    pub fn of(state: &State, networks: &[Network]) -> Result<Replay, NotUsed> {
+        let mut restoring = Replay {
             events: VecDeque::new(),
             has_asked: false,
             networks: Vec::new(),
@@ -72,10 +72,10 @@ impl Restoring {
         for (place, network) in networks.iter().enumerate() {
             let left = state.networks.iter().find(|left| left.is(network));
             is_any |= left.is_some();
-            let (fit, unfit): (Vec<Kept>, Vec<Kept>) = left
+            let (fit, unfit): (Vec<KeptStation>, Vec<KeptStation>) = left
                 .into_iter()
                 .flat_map(|left| left.stations.iter())
-                .map(|kept| Kept { dozes: kept.dozes || kept.has_dozed && !state.is_last, ..kept.clone() })
+                .map(|kept| KeptStation { dozes: kept.dozes || kept.has_dozed && !state.is_last, ..kept.clone() })
                 .partition(|kept| kept.aid <= network.max_stations);
             restoring.unfit.extend(unfit.into_iter().map(|kept| (place, kept.address)));
             restoring.say_network(network, fit);
@@ -84,7 +84,7 @@ impl Restoring {
     }
 
     /// The stations of a network, in the order of their identifiers, are to be said.
-    fn say_network(&mut self, network: &Network, stations: Vec<Kept>) {
+    fn say_network(&mut self, network: &Network, stations: Vec<KeptStation>) {
         let used: HashSet<Address> = stations.iter().map(|kept| kept.address).collect();
         let mut strangers = (0..).map(made_up).filter(|address| !used.contains(address) && *address != network.bssid);
         let mut left = Vec::new();
@@ -103,7 +103,7 @@ impl Restoring {
             }
         }
         self.events.extend(left);
-        self.networks.push(Asked {
+        self.networks.push(NetworkReplay {
             bssid: network.bssid,
             wanted: stations,
             answered: AddressMap::default(),
@@ -117,12 +117,12 @@ impl Restoring {
     }
 
     /// The next event for the program; the last one asks for the tables.
-    pub fn next(&mut self) -> Option<ToSay> {
+    pub fn next(&mut self) -> Option<ReplayEvent> {
         match self.events.pop_front() {
-            Some(octets) => Some(ToSay::Frame(octets)),
+            Some(octets) => Some(ReplayEvent::Frame(octets)),
             None if !self.has_asked => {
                 self.has_asked = true;
-                Some(ToSay::Tables)
+                Some(ReplayEvent::Tables)
             }
             None => None,
         }
@@ -135,8 +135,8 @@ impl Restoring {
                 self.swallowed += 1;
                 let network = self.networks.iter_mut().find(|network| network.bssid == *bssid);
                 let frame = Frame::of(octets);
-                let what = frame.and_then(|frame| Some((frame.receiver(), answered(frame)?)));
-                if let (Some(network), Some((station, Answered::Association { status: 0, aid }))) = (network, what) {
+                let what = frame.and_then(|frame| Some((frame.receiver(), from_network(frame)?)));
+                if let (Some(network), Some((station, FromNetwork::Association { status: 0, aid }))) = (network, what) {
                     network.answered.insert(station, aid);
                 }
             }
@@ -174,7 +174,7 @@ impl Restoring {
     pub fn restored(self) -> Restored {
         let mut found = Restored { again: self.unfit, swallowed: self.swallowed, ..Restored::default() };
         for (place, network) in self.networks.into_iter().enumerate() {
-            let Asked { wanted, answered, mut rows, .. } = network;
+            let NetworkReplay { wanted, answered, mut rows, .. } = network;
             for kept in wanted {
                 let is_answered = answered.get(&kept.address) == Some(&kept.aid);
                 let row = Some(Some((kept.aid, kept.listen, kept.dozes)));
@@ -195,19 +195,19 @@ impl Restoring {
 
 /// What is said to the program.
 #[derive(Debug, Clone, PartialEq, Eq)]
-pub enum ToSay {
+pub enum ReplayEvent {
     /// A frame, as one that was heard.
     Frame(Vec<u8>),
     /// The tables are asked for.
     Tables,
 }
 
-impl ToSay {
+impl ReplayEvent {
     /// The event.
     pub fn event(&self) -> Event<'_> {
         match self {
-            ToSay::Frame(octets) => Event::Air(octets),
-            ToSay::Tables => Event::Tables,
+            ReplayEvent::Frame(octets) => Event::Air(octets),
+            ReplayEvent::Tables => Event::Tables,
         }
     }
 }
@@ -229,5 +229,5 @@ fn row_of(words: &[&str]) -> Row {
 }
 
 #[cfg(test)]
-#[path = "restoring_test.rs"]
+#[path = "replay_test.rs"]
 mod tests;

@@ -5,7 +5,7 @@ use std::fmt;
 use crate::formats::frames::Address;
 use crate::network::Network;
 use crate::os::clock::{Nanos, SECOND};
-use crate::stations::station::Kept;
+use crate::stations::station::KeptStation;
 
 /// A state that is older isn't used: its stations have noticed that nobody answered.
 const MOST_AGE: Nanos = 60 * SECOND;
@@ -23,7 +23,7 @@ pub struct Setting {
 
 /// What a bridge leaves of a network.
 #[derive(Debug, Clone, PartialEq, Eq)]
-pub struct OfNetwork {
+pub struct NetworkState {
     /// Its address.
     pub bssid: Address,
     /// Its SSID.
@@ -35,7 +35,7 @@ pub struct OfNetwork {
     /// For how many stations it kept units when its last beacon was sent.
     pub waiting: usize,
     /// The stations that are associated with it, in the order of their identifiers.
-    pub stations: Vec<Kept>,
+    pub stations: Vec<KeptStation>,
 }
 
 /// What a bridge leaves for the next one.
@@ -48,7 +48,7 @@ pub struct State {
     /// Whether the bridge wrote it at its end: then all in it is as it was then.
     pub is_last: bool,
     /// The networks.
-    pub networks: Vec<OfNetwork>,
+    pub networks: Vec<NetworkState>,
 }
 
 /// Why a state isn't used.
@@ -75,7 +75,7 @@ impl fmt::Display for NotUsed {
     }
 }
 
-impl OfNetwork {
+impl NetworkState {
     /// Whether no two stations have one address or one identifier, and these ascend.
     pub fn is_possible(&self) -> bool {
         let addresses: HashSet<Address> = self.stations.iter().map(|kept| kept.address).collect();
@@ -85,7 +85,7 @@ impl OfNetwork {
 
     /// What is told of units that the network kept: they are lost with the program that kept them.
     pub fn lost_units(&self) -> Option<String> {
-        let OfNetwork { bssid, units, waiting, .. } = self;
+        let NetworkState { bssid, units, waiting, .. } = self;
         match units {
             Some(0) => None,
             Some(units) => Some(format!("{units} units that {bssid} kept for stations are lost")),

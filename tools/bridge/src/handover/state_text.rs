@@ -4,9 +4,9 @@ use std::fmt::Write;
 
 use crate::formats::digits;
 use crate::formats::frames::{Address, Frame};
-use crate::handover::state::{OfNetwork, Setting, State};
-use crate::stations::meaning::{said, Said};
-use crate::stations::station::Kept;
+use crate::handover::state::{NetworkState, Setting, State};
+use crate::stations::meaning::{from_station, FromStation};
+use crate::stations::station::KeptStation;
 
 /// The greatest identifier (9.4.1.8).
 pub const MOST_AID: u16 = 2007;
@@ -25,11 +25,11 @@ impl State {
         let mut text =
             format!("{FIRST_WORDS} written {written} last {is_last} channel {channel} interval {interval} phy {phy}\n");
         for network in &self.networks {
-            let OfNetwork { bssid, ssid, rates, units, waiting, stations } = network;
+            let NetworkState { bssid, ssid, rates, units, waiting, stations } = network;
             let units = units.map_or_else(|| "-".to_owned(), |units| units.to_string());
             let (ssid, rates) = (digits_of(ssid), digits_of(rates));
             let _ = writeln!(text, "network {bssid} {ssid} {rates} {units} {waiting}");
-            for Kept { address, aid, listen, dozes, has_dozed, request } in stations {
+            for KeptStation { address, aid, listen, dozes, has_dozed, request } in stations {
                 let (dozes, has_dozed, request) = (u8::from(*dozes), u8::from(*has_dozed), digits_of(request));
                 let _ = writeln!(text, "station {address} {aid} {listen} {dozes} {has_dozed} {request}");
             }
@@ -60,7 +60,7 @@ impl State {
                 _ => return None,
             }
         }
-        state.networks.iter().all(OfNetwork::is_possible).then_some(state)
+        state.networks.iter().all(NetworkState::is_possible).then_some(state)
     }
 }
 
@@ -96,9 +96,9 @@ fn read_first(line: &str) -> Option<State> {
     }
 }
 
-fn read_network(words: &[&str]) -> Option<OfNetwork> {
+fn read_network(words: &[&str]) -> Option<NetworkState> {
     match words {
-        [_, bssid, ssid, rates, units, waiting] => Some(OfNetwork {
+        [_, bssid, ssid, rates, units, waiting] => Some(NetworkState {
             bssid: bssid.parse().ok()?,
             ssid: digits::read(ssid.as_bytes())?,
             rates: digits::read(rates.as_bytes())?,
@@ -111,10 +111,10 @@ fn read_network(words: &[&str]) -> Option<OfNetwork> {
 }
 
 /// A station of the network of this address, whose association request is one of its own with its listen interval.
-fn read_station(words: &[&str], bssid: Address) -> Option<Kept> {
+fn read_station(words: &[&str], bssid: Address) -> Option<KeptStation> {
     match words {
         [_, address, aid, listen, dozes, has_dozed, request] => {
-            let kept = Kept {
+            let kept = KeptStation {
                 address: address.parse().ok()?,
                 aid: aid.parse().ok().filter(|aid| (1..=MOST_AID).contains(aid))?,
                 listen: listen.parse().ok()?,
@@ -124,8 +124,8 @@ fn read_station(words: &[&str], bssid: Address) -> Option<Kept> {
             };
             let asks = Frame::of(&kept.request)
                 .filter(|frame| frame.receiver() == bssid && frame.transmitter() == Some(kept.address))
-                .and_then(|frame| said(frame, bssid));
-            (asks == Some(Said::Association { listen: kept.listen })).then_some(kept)
+                .and_then(|frame| from_station(frame, bssid));
+            (asks == Some(FromStation::Association { listen: kept.listen })).then_some(kept)
         }
         _ => None,
     }

@@ -10,14 +10,14 @@ const MANY: usize = 16;
 
 /// How many frames came of late.
 #[derive(Debug, Default)]
-pub struct Gathering {
+pub struct Batching {
     /// Since when they are counted, and how many came since.
     since: Nanos,
     frames: usize,
     are_many: bool,
 }
 
-impl Gathering {
+impl Batching {
     /// Whether many come.
     pub fn are_many(&self) -> bool {
         self.are_many
@@ -46,7 +46,7 @@ mod tests {
 
     /// Whether frames gather while one comes each so many nanoseconds, asked at each of them.
     fn gathers(every: Nanos) -> bool {
-        let mut gathering = Gathering::default();
+        let mut gathering = Batching::default();
         let mut found = false;
         for number in 1..100 {
             gathering.count(1);
@@ -64,7 +64,7 @@ mod tests {
 
     #[test]
     fn they_gather_no_more_once_few_come() {
-        let mut gathering = Gathering::default();
+        let mut gathering = Batching::default();
         gathering.count(100);
         assert_eq!(gathering.until(COUNTED), Some(COUNTED + LONGEST));
         assert_eq!(gathering.until(2 * COUNTED - 1), Some(2 * COUNTED - 1 + LONGEST));
@@ -74,7 +74,7 @@ mod tests {
 
     #[test]
     fn a_burst_after_a_long_time_is_not_many() {
-        let mut gathering = Gathering::default();
+        let mut gathering = Batching::default();
         gathering.count(100);
         assert_eq!(gathering.until(100 * COUNTED), None);
     }

@@ -192,7 +192,7 @@ fn returned(length: u32) -> sock_filter {
 #[cfg(test)]
 mod tests {
     use super::*;
-    use crate::inbound::judging::{Air, Judged, LeftOut};
+    use crate::inbound::judging::{Judge, Judged, LeftOut};
     use crate::testing::samples::{data, radiotap, Seeded, Unit, OTHER, OURS, STRANGER};
 
     /// What the kernel does with a filter: how many octets of the packet go on.
@@ -318,7 +318,7 @@ mod tests {
             let unit = Unit { control, receiver, ..Unit::default() }.octets();
             let unit = &unit[..seeded.below(unit.len() + 1)];
             let packet = if seeded.below(8) == 0 { shown(unit) } else { heard(unit) };
-            let wanted = match Air::new([OURS, OTHER]).judge(&packet, false, false) {
+            let wanted = match Judge::new([OURS, OTHER]).judge(&packet, false, false) {
                 Judged::LeftOut(LeftOut::Controls | LeftOut::Others) => NONE,
                 Judged::Sent(frame, _) if frame.len() < LEAST as usize => ALL,
                 Judged::Sent(frame, _) if frame[0] == BEACON => NONE,

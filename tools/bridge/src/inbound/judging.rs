@@ -64,19 +64,19 @@ pub enum Judged<'a> {
 /// What was heard: the frames that go on, and of each sender to a network the last sequence control, by which repeated
 /// ones are known (IEEE Std 802.11-2016, 10.3.2.11). Each network has a table of its own, which others don't fill.
 #[derive(Debug)]
-pub struct Air {
+pub struct Judge {
     /// The places of the networks.
     places: AddressMap<usize>,
     /// Of each network.
     last: Vec<LastHeard>,
 }
 
-impl Air {
+impl Judge {
     /// Nothing was heard yet for these networks.
-    pub fn new(bssids: impl IntoIterator<Item = Address>) -> Air {
+    pub fn new(bssids: impl IntoIterator<Item = Address>) -> Judge {
         let places = bssids.into_iter().enumerate().map(|(place, bssid)| (bssid, place));
         let (places, last) = places.map(|found| (found, LastHeard::default())).unzip();
-        Air { places, last }
+        Judge { places, last }
     }
 
     /// The place of the network with this address, in the order in which they were given.

@@ -1,12 +1,12 @@
 use super::*;
 use crate::testing::samples::{data, radiotap, Unit, OTHER, OURS, STATION, STRANGER};
 
-fn air() -> Air {
-    Air::new([OURS, OTHER])
+fn air() -> Judge {
+    Judge::new([OURS, OTHER])
 }
 
 /// What is done with a frame that was heard with a plain header.
-fn judge(air: &mut Air, frame: &[u8]) -> Result<Vec<u8>, LeftOut> {
+fn judge(air: &mut Judge, frame: &[u8]) -> Result<Vec<u8>, LeftOut> {
     match air.judge(&radiotap(frame, 1 << 1, &[0]), false, false) {
         Judged::GoesOn(found) => Ok(found.octets().to_vec()),
         Judged::LeftOut(reason) => Err(reason),
@@ -55,7 +55,7 @@ fn what_this_radio_sent_is_told_as_such() {
     assert_eq!(air().judge(&shown, false, false), Judged::Sent(&data(), outcome));
 }
 
-fn goes_on(air: &mut Air, unit: Unit) -> bool {
+fn goes_on(air: &mut Judge, unit: Unit) -> bool {
     judge(air, &unit.octets()).is_ok()
 }
 

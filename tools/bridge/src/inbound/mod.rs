@@ -2,8 +2,8 @@
 //! program, and batching where many frames come.
 pub mod batching;
 pub mod filter;
-mod flows;
+mod flow_queue;
+pub mod frame;
 pub mod judging;
-pub mod lane;
 pub mod queue;
-pub mod waiter;
+pub mod source_queue;

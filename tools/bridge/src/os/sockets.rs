@@ -397,7 +397,7 @@ impl Batch {
     fn packet(&self, place: usize) -> Packet<'_> {
         let length = self.headers[place].msg_len as usize;
         let begin = place * PACKET_LEN;
-        let (status, arrived) = self.told(place);
+        let (status, arrived) = self.auxiliary(place);
         Packet {
             octets: &self.octets[begin..begin + length.min(PACKET_LEN)],
             is_cut: length > PACKET_LEN,
@@ -409,7 +409,7 @@ impl Batch {
     }
 
     /// What the kernel says beside a packet: its status, and when it came.
-    fn told(&self, place: usize) -> (u32, Option<Nanos>) {
+    fn auxiliary(&self, place: usize) -> (u32, Option<Nanos>) {
         let header = &self.headers[place].msg_hdr;
         let (mut status, mut arrived) = (0, None);
         debug_assert!(header.msg_controllen as usize <= size_of_val(&self.controls[place]));

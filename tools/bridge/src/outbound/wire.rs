@@ -1,7 +1,7 @@
 //! A network's wire: frames go by it in order, many a call, and no longer than is worth it.
 use std::collections::VecDeque;
 
-use crate::inbound::waiter::LONGEST;
+use crate::inbound::frame::LONGEST;
 use crate::os::clock::{self, Nanos};
 use crate::os::sockets::{Port, AT_A_TIME};
 use crate::outbound::counts::{count, count_refused, Counts};
@@ -18,7 +18,7 @@ pub struct Leaving {
 
 /// A wire, with what waits to be sent by it.
 #[derive(Debug)]
-pub struct Exit<P> {
+pub struct Wire<P> {
     /// The interface.
     pub gate: Gate<P>,
     leaving: VecDeque<Leaving>,
@@ -26,10 +26,10 @@ pub struct Exit<P> {
     pub sent: u64,
 }
 
-impl<P: Port> Exit<P> {
+impl<P: Port> Wire<P> {
     /// Nothing waits.
-    pub fn new(port: P) -> Exit<P> {
-        Exit { gate: Gate::new(port), leaving: VecDeque::new(), octets: 0, sent: 0 }
+    pub fn new(port: P) -> Wire<P> {
+        Wire { gate: Gate::new(port), leaving: VecDeque::new(), octets: 0, sent: 0 }
     }
 
     /// Whether nothing waits, for room or to be sent.

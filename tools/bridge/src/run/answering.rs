@@ -1,5 +1,6 @@
 //! What the program answers is sent, and who asks the bridge is answered.
-use super::{Bridge, Phase, Running, ALIVE_EVERY, IN_A_ROW};
+use super::running::Running;
+use super::{Bridge, Phase, ALIVE_EVERY, IN_A_ROW};
 use crate::apctl::records::{Answer, Event};
 use crate::apctl::tables::Asker;
 use crate::control::clients::Line;
@@ -25,7 +26,7 @@ impl<P: OfSocket> Bridge<P> {
         }
         match (self.program.has_ended(), self.phase) {
             (true, Phase::Opening(_)) => Err(self.ended_early()),
-            (true, Phase::SettingUp | Phase::Restoring(_) | Phase::Running) => {
+            (true, Phase::SettingUp | Phase::Replay(_) | Phase::Running) => {
                 Err(Fault::new("the program ended by itself"))
             }
             _ => Ok(()),
@@ -40,10 +41,10 @@ impl<P: OfSocket> Bridge<P> {
     }
 
     fn take_answer(&mut self, answer: Answer, time: Nanos) -> Result<(), Fault> {
-        if let Some((restoring, _)) = &mut self.restoring {
+        if let Some((replay, _)) = &mut self.replay {
             match &answer {
                 Answer::Told(line) if line.starts_with("fault ") => self.take_told(line, time),
-                _ => restoring.take(&answer),
+                _ => replay.take(&answer),
             }
             return Ok(());
         }
@@ -92,7 +93,7 @@ impl<P: OfSocket> Bridge<P> {
 
     /// Tells `tools/live` that all stations were told to join again, once the last network's beacon came.
     fn tell_of_dismissal(&mut self) {
-        let dismisses = self.running.as_ref().map_or(false, |running| running.operating.dismisses());
+        let dismisses = self.running.as_ref().map_or(false, |running| running.stations.dismisses());
         if self.dismissing && !dismisses {
             self.dismissing = false;
             say(&Notice::Dismissed);
@@ -126,7 +127,7 @@ impl<P: OfSocket> Bridge<P> {
         }
         let waiting = clients.waiting();
         if !waiting.is_empty() && running.tables.are_wanted(time) {
-            self.feeder.say(Event::Tables);
+            self.feeder.feed(Event::Tables);
             running.tables.ask(Asker::Status, time);
             running.given.tables += 1;
         }
@@ -147,20 +148,20 @@ impl<P: Port> Running<P> {
         if octets.first() == Some(&BEACON) {
             self.beacons.count(time.saturating_sub(self.ticks.last_due()));
         }
-        let errands = self.operating.answered(bssid, &octets, time);
-        self.sender.send_on_air(bssid, octets, time)?;
+        let errands = self.stations.answered(bssid, &octets, time);
+        self.outbound.send_on_air(bssid, octets, time)?;
         self.run(errands, time);
         Ok(())
     }
 
     /// A network sends a frame on its wire. Where that has ended the frame is lost, and counted.
     fn send_on_wire(&mut self, bssid: Address, octets: Vec<u8>, time: Nanos) -> Result<(), Fault> {
-        match self.air.place_of(&bssid).and_then(|place| self.ended.get_mut(&place)) {
+        match self.judge.place_of(&bssid).and_then(|place| self.ended.get_mut(&place)) {
             Some(ended) if ended.since.is_some() => {
                 ended.lost += 1;
                 Ok(())
             }
-            _ => self.sender.send_on_wire(bssid, octets, time),
+            _ => self.outbound.send_on_wire(bssid, octets, time),
         }
     }
 }

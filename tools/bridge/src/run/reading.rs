@@ -1,13 +1,14 @@
 //! What comes by the interfaces: it is read, judged, and waits for the program or is left out; and wires that come and
 //! go.
-use super::{Ended, Running, Way, IN_A_ROW};
+use super::running::{Ended, Running, Way};
+use super::IN_A_ROW;
 use crate::control::faults::{reason, Fault};
 use crate::control::log::{self, Level};
 use crate::formats::frames::Address;
 use crate::formats::radiotap::reception;
 use crate::inbound::filter::nothing_filter;
+use crate::inbound::frame::{InboundFrame, Source};
 use crate::inbound::judging::{judge_wired, Judged, LeftOut};
-use crate::inbound::waiter::{Source, Waiter};
 use crate::os::clock::{wall_now, Nanos, SECOND};
 use crate::os::poller::{Poller, Token};
 use crate::os::sockets::{Batch, Packet, Port, AT_A_TIME};
@@ -16,7 +17,7 @@ impl<P: Port> Running<P> {
     /// The wire of the network of this place is there, or there again.
     pub(super) fn take_wire(&mut self, place: usize, port: P, poller: &Poller) -> Result<(), Fault> {
         let is_down = self.is_down(place);
-        if let Some(wire) = self.sender.wire(place).filter(|_| !is_down) {
+        if let Some(wire) = self.outbound.wire(place).filter(|_| !is_down) {
             poller.remove(wire.port.descriptor())?;
             wire.port.close();
         }
@@ -26,7 +27,7 @@ impl<P: Port> Running<P> {
             Level::Notice,
             format_args!("{}: there, the wire of {} from now on", port.interface(), self.networks[place].bssid),
         );
-        self.sender.set_wire(place, port);
+        self.outbound.set_wire(place, port);
         Ok(())
     }
 
@@ -54,14 +55,14 @@ impl<P: Port> Running<P> {
                  else goes on"
             ),
         );
-        let hears_no_more = match self.sender.wire(place) {
+        let hears_no_more = match self.outbound.wire(place) {
             Some(wire) => wire.port.set_filter(&nothing_filter()).is_ok(),
             None => false,
         };
         if hears_no_more {
             while self.receive(Token::Wire(place), batch, time).is_ok() && batch.packets().next().is_some() {}
         }
-        if let Some(wire) = self.sender.wire(place) {
+        if let Some(wire) = self.outbound.wire(place) {
             poller.remove(wire.port.descriptor())?;
             wire.port.close();
             wire.unblock();
@@ -76,21 +77,21 @@ impl<P: Port> Running<P> {
         batch.ask_for(self.most_to_ask_for(token));
         for _ in 0..IN_A_ROW {
             let port = match token {
-                Token::Wire(place) => match self.sender.wire(place) {
+                Token::Wire(place) => match self.outbound.wire(place) {
                     Some(wire) => &mut wire.port,
                     None => return Ok(()),
                 },
-                Token::Acknowledged => match self.sender.acknowledged() {
+                Token::Acknowledged => match self.outbound.acknowledged() {
                     Some(port) => port,
                     None => return Ok(()),
                 },
-                _ => &mut self.sender.air.gate().port,
+                _ => &mut self.outbound.air.gate().port,
             };
             let number = port
                 .receive(batch)
                 .map_err(|fault| Fault::new(format!("{}: {}: was it taken down?", port.interface(), reason(&fault))))?;
             if token != Token::Acknowledged {
-                self.gathering.count(number);
+                self.batching.count(number);
             }
             let wall = wall_now();
             for packet in batch.packets() {
@@ -116,12 +117,12 @@ impl<P: Port> Running<P> {
             Token::Monitor => 0,
             Token::Wire(place) => 1 + place,
             _ => {
-                self.sent_before = self.sender.air.sent();
+                self.sent_before = self.outbound.air.sent();
                 return AT_A_TIME;
             }
         };
         let before = std::mem::replace(&mut self.read_in[way], self.wakings);
-        if before + 1 == self.wakings || self.gathering.are_many() {
+        if before + 1 == self.wakings || self.batching.are_many() {
             AT_A_TIME
         } else {
             1
@@ -129,17 +130,17 @@ impl<P: Port> Running<P> {
     }
 
     fn take_air(&mut self, packet: &Packet<'_>, arrived: Nanos) {
-        match self.air.judge(packet.octets, packet.is_outgoing, packet.is_cut) {
+        match self.judge.judge(packet.octets, packet.is_outgoing, packet.is_cut) {
             Judged::LeftOut(reason) => self.leave_out(Way::Air, reason),
             Judged::Sent(frame, outcome) => {
                 self.leave_out(Way::Air, LeftOut::Sent);
                 self.see_sent(frame);
-                self.operating.shown(frame, outcome, arrived);
-                self.sender.shown(frame, outcome, arrived);
+                self.stations.reported(frame, outcome, arrived);
+                self.outbound.reported(frame, outcome, arrived);
             }
             Judged::GoesOn(frame) => {
-                self.sender.heard(frame);
-                self.operating.heard(frame, reception(packet.octets), arrived);
+                self.outbound.heard(frame);
+                self.stations.heard(frame, reception(packet.octets), arrived);
                 self.wait_of_air(frame.octets(), arrived);
             }
         }
@@ -147,7 +148,7 @@ impl<P: Port> Running<P> {
 
     /// The first frame of ours that the radio shows as sent shows that it sends what it is given.
     fn see_sent(&mut self, frame: &[u8]) {
-        let is_ours = Address::at(frame, 10).map_or(false, |found| self.sender.place_of(&found).is_some());
+        let is_ours = Address::at(frame, 10).map_or(false, |found| self.outbound.place_of(&found).is_some());
         if is_ours {
             self.beacon_due = None;
         }
@@ -156,7 +157,7 @@ impl<P: Port> Running<P> {
     fn take_wired(&mut self, place: usize, packet: &Packet<'_>, arrived: Nanos) {
         match judge_wired(packet.octets, packet.is_outgoing, packet.had_tag, packet.is_cut) {
             Err(reason) => self.leave_out(Way::Wire(place), reason),
-            Ok(octets) => self.waiting.push(Source::Wire(place), Waiter::of_wire(octets, arrived)),
+            Ok(octets) => self.waiting.push(Source::Wire(place), InboundFrame::of_wire(octets, arrived)),
         }
         if packet.has_no_checksum {
             self.tell_of_checksums(place);
@@ -169,16 +170,16 @@ impl<P: Port> Running<P> {
 
     /// Reads the interfaces no more.
     pub(super) fn stop_reading(&mut self, poller: &Poller) -> Result<(), Fault> {
-        poller.change(self.sender.air.gate().port.descriptor(), Token::Monitor, false, false)?;
-        if let Some(port) = self.sender.acknowledged() {
+        poller.change(self.outbound.air.gate().port.descriptor(), Token::Monitor, false, false)?;
+        if let Some(port) = self.outbound.acknowledged() {
             poller.change(port.descriptor(), Token::Acknowledged, false, false)?;
         }
         for place in (0..self.networks.len()).filter(|place| !self.is_down(*place)).collect::<Vec<_>>() {
-            if let Some(wire) = self.sender.wire(place) {
+            if let Some(wire) = self.outbound.wire(place) {
                 poller.change(wire.port.descriptor(), Token::Wire(place), false, false)?;
             }
         }
-        self.sender.gates().for_each(|gate| {
+        self.outbound.gates().for_each(|gate| {
             gate.unblock();
             gate.set_waited_for(false);
         });

@@ -1,16 +1,17 @@
 //! Stations that an earlier bridge served stay: the program is told of them before frames go, and what the next bridge
 //! has to know of them is left for it (`handover`).
-use super::{Bridge, Phase, Running, TO_READY};
+use super::running::Running;
+use super::{Bridge, Phase, TO_READY};
 use crate::control::faults::Fault;
 use crate::control::log::{self, Level};
 use crate::formats::frames::Frame;
-use crate::handover::files::Keeping;
-use crate::handover::replay::{Restored, Restoring};
-use crate::handover::state::{self, NotUsed, OfNetwork, Setting, State};
+use crate::handover::replay::{Replay, Restored};
+use crate::handover::state::{self, NetworkState, NotUsed, Setting, State};
+use crate::handover::state_files::StateFiles;
 use crate::network::Network;
 use crate::os::clock::{now, Nanos};
 use crate::os::sockets::{OfSocket, Port};
-use crate::outbound::sender::Sender;
+use crate::outbound::Outbound;
 
 /// Marks in the record around the events by which a new program comes to know stations: what it answers to these was
 /// swallowed.
@@ -19,32 +20,32 @@ pub(super) const RESTORED_TO: &str = "restored: up to here";
 
 impl<P: OfSocket> Bridge<P> {
     /// The interfaces are there. Where an earlier bridge has left stations, the program is told of these first.
-    pub(super) fn restore(&mut self, sender: Sender<P>) -> Result<(), Fault> {
-        let state = match &mut self.keeping {
-            Some(keeping) => left_state(keeping, &self.manner.setting, self.time),
+    pub(super) fn restore(&mut self, outbound: Outbound<P>) -> Result<(), Fault> {
+        let state = match &mut self.state_files {
+            Some(state_files) => left_state(state_files, &self.manner.setting, self.time),
             None => None,
         };
-        let restoring = state.and_then(|state| restoring_of(&state, sender.networks()));
-        match restoring {
-            Some(restoring) => {
+        let replay = state.and_then(|state| restoring_of(&state, outbound.networks()));
+        match replay {
+            Some(replay) => {
                 self.feeder.remark(RESTORED_FROM);
-                self.restoring = Some((restoring, sender));
-                self.phase = Phase::Restoring(self.time + TO_READY);
+                self.replay = Some((replay, outbound));
+                self.phase = Phase::Replay(self.time + TO_READY);
                 Ok(())
             }
-            None => self.begin(sender),
+            None => self.begin(outbound),
         }
     }
 
     /// Says to the program what is to be restored, as far as it has read what was said before; answers how much was
     /// said.
-    pub(super) fn say_restored(&mut self) -> usize {
+    pub(super) fn feed_replay(&mut self) -> usize {
         let mut said = 0;
-        if let Some((restoring, _)) = &mut self.restoring {
+        if let Some((replay, _)) = &mut self.replay {
             let room = self.feeder.room();
             while said < room {
-                match restoring.next() {
-                    Some(event) => self.feeder.say(event.event()),
+                match replay.next() {
+                    Some(event) => self.feeder.feed(event.event()),
                     None => break,
                 }
                 said += 1;
@@ -55,17 +56,17 @@ impl<P: OfSocket> Bridge<P> {
 
     /// Frames go once the program has answered all that was restored.
     pub(super) fn end_restoring(&mut self) -> Result<(), Fault> {
-        let (restoring, sender) = match self.restoring.take() {
+        let (replay, outbound) = match self.replay.take() {
             Some(found) if found.0.is_done() => found,
             unfinished => {
-                self.restoring = unfinished;
+                self.replay = unfinished;
                 return Ok(());
             }
         };
         self.feeder.remark(RESTORED_TO);
-        let restored = restoring.restored();
+        let restored = replay.restored();
         self.time = now();
-        self.begin(sender)?;
+        self.begin(outbound)?;
         if let Some(running) = &mut self.running {
             running.restore(&restored, self.time);
         }
@@ -75,14 +76,14 @@ impl<P: OfSocket> Bridge<P> {
 
     /// Leaves for the next bridge what it has to know of stations, where it is time, or at the end.
     pub(super) fn keep(&mut self, is_last: bool) {
-        let (keeping, running) = match (&mut self.keeping, &mut self.running) {
-            (Some(keeping), Some(running)) => (keeping, running),
+        let (state_files, running) = match (&mut self.state_files, &mut self.running) {
+            (Some(state_files), Some(running)) => (state_files, running),
             _ => return,
         };
-        let changes = running.operating.changes();
-        if is_last || keeping.is_due(changes, self.time) {
+        let changes = running.stations.changes();
+        if is_last || state_files.is_due(changes, self.time) {
             let written = now();
-            keeping.write(&running.state(&self.manner.setting, written, is_last).text(), changes, written);
+            state_files.write(&running.state(&self.manner.setting, written, is_last).text(), changes, written);
         }
     }
 }
@@ -92,7 +93,7 @@ impl<P: Port> Running<P> {
     pub(super) fn restore(&mut self, restored: &Restored, time: Nanos) {
         for ((place, _), kept) in &restored.stay {
             if let Some(request) = Frame::of(&kept.request) {
-                self.sender.air.restore(*place, request);
+                self.outbound.air.restore(*place, request);
             }
         }
         for (place, network) in self.networks.iter().enumerate() {
@@ -106,20 +107,20 @@ impl<P: Port> Running<P> {
                 );
             }
         }
-        let errands = self.operating.restore(restored, time);
+        let errands = self.stations.restore(restored, time);
         self.run(errands, time);
     }
 
     /// What a new program has to know of stations.
     fn state(&mut self, setting: &Setting, written: Nanos, is_last: bool) -> State {
         let tables = self.tables.last().filter(|_| is_last && self.tables.are_new(written));
-        let of_network = |(place, network): (usize, &Network)| OfNetwork {
+        let of_network = |(place, network): (usize, &Network)| NetworkState {
             bssid: network.bssid,
             ssid: network.ssid.clone(),
             rates: network.rates.clone(),
             units: tables.and_then(|tables| tables.get(place)).and_then(|table| table.count("kept")),
-            waiting: self.operating.told_of(place),
-            stations: self.operating.kept(place),
+            waiting: self.stations.told_of(place),
+            stations: self.stations.kept(place),
         };
         let networks = self.networks.iter().enumerate().map(of_network).collect();
         State { setting: setting.clone(), written, is_last, networks }
@@ -127,14 +128,14 @@ impl<P: Port> Running<P> {
 }
 
 /// What an earlier bridge has left; where it isn't used, that is told.
-pub(super) fn left_state(keeping: &mut Keeping, setting: &Setting, now: Nanos) -> Option<State> {
-    let chosen = match keeping.left() {
+pub(super) fn left_state(state_files: &mut StateFiles, setting: &Setting, now: Nanos) -> Option<State> {
+    let chosen = match state_files.left() {
         Ok(texts) => state::choose(&texts, setting, now),
         Err(_) => Err(NotUsed::Damaged),
     };
     match chosen {
         Ok(Some((place, state))) => {
-            keeping.begin_with(1 - place);
+            state_files.begin_with(1 - place);
             tell_of_units(&state);
             Some(state)
         }
@@ -147,9 +148,9 @@ pub(super) fn left_state(keeping: &mut Keeping, setting: &Setting, now: Nanos) -
 }
 
 /// What is to be said to the program, where it is something.
-fn restoring_of(state: &State, networks: &[Network]) -> Option<Restoring> {
-    match Restoring::of(state, networks) {
-        Ok(restoring) => Some(restoring).filter(|restoring| !restoring.is_empty()),
+fn restoring_of(state: &State, networks: &[Network]) -> Option<Replay> {
+    match Replay::of(state, networks) {
+        Ok(replay) => Some(replay).filter(|replay| !replay.is_empty()),
         Err(reason) => {
             tell_not_used(reason);
             None
@@ -165,5 +166,5 @@ fn tell_not_used(reason: NotUsed) {
 }
 
 fn tell_of_units(state: &State) {
-    state.networks.iter().filter_map(OfNetwork::lost_units).for_each(|text| log::write_event(Level::Notice, text));
+    state.networks.iter().filter_map(NetworkState::lost_units).for_each(|text| log::write_event(Level::Notice, text));
 }

@@ -1,11 +1,12 @@
 //! What people are told of the interfaces and of what waits between them and the program: answers to questions, what is
 //! said once, and the counts at the end.
-use super::{Given, Manner, Running, Way};
+use super::running::{Given, Running, Way};
+use super::Manner;
 use crate::apctl::feeder::Feeder;
 use crate::control::clients::Question;
 use crate::control::faults::tell;
 use crate::control::status::{error, Faults, Named, Status};
-use crate::inbound::waiter::Source;
+use crate::inbound::frame::Source;
 use crate::os::clock::Nanos;
 use crate::os::sockets::Port;
 
@@ -16,7 +17,7 @@ impl<P: Port> Running<P> {
             Question::Status => None,
             Question::Unknown => Some(error("no such question: there are `status` and `kick BSSID ADDRESS`")),
             Question::Kick { .. } if !is_root => Some(error("only root may kick a station")),
-            Question::Kick { bssid, station } => match self.operating.kick(bssid, station, time) {
+            Question::Kick { bssid, station } => match self.stations.kick(bssid, station, time) {
                 Err(fault) => Some(error(&fault)),
                 Ok(errands) => {
                     self.run(errands, time);
@@ -33,7 +34,7 @@ impl<P: Port> Running<P> {
         if self.tables.came() != before {
             for (place, table) in self.tables.last().unwrap_or_default().iter().enumerate() {
                 let known = table.stations.iter().map(|(address, (state, _))| (*address, *state)).collect();
-                self.operating.roster().agree(place, &known, time);
+                self.stations.table().agree(place, &known, time);
             }
         }
         is_shown
@@ -61,8 +62,8 @@ impl<P: Port> Running<P> {
             left_out,
             networks: &self.networks,
             wires_down: (0..self.networks.len()).map(|place| self.ended.get(&place)?.since).collect(),
-            accounts: self.sender.air.accounts(),
-            roster: self.operating.roster(),
+            accounts: self.outbound.air.accounts(),
+            table: self.stations.table(),
             tables: &self.tables,
             now,
         }
@@ -72,10 +73,10 @@ impl<P: Port> Running<P> {
     fn drops(&mut self) -> Named {
         let waiting = self.waiting.dropped();
         let mut found: Named =
-            waiting.map(|(source, reason, number)| (format!("{}: {reason}", self.lane(source)), number)).collect();
-        found.extend(self.sender.counts().into_iter().filter(|(what, _)| !what.starts_with("sent ")));
+            waiting.map(|(source, reason, number)| (format!("{}: {reason}", self.name_of(source)), number)).collect();
+        found.extend(self.outbound.counts().into_iter().filter(|(what, _)| !what.starts_with("sent ")));
         found.extend(self.lost_on_wires());
-        for gate in self.sender.gates() {
+        for gate in self.outbound.gates() {
             let number = gate.port.count_dropped();
             if number > 0 {
                 found.insert(format!("{}: dropped by the kernel", gate.port.interface()), number);
@@ -104,8 +105,8 @@ impl<P: Port> Running<P> {
         }
     }
 
-    /// What people call a lane.
-    fn lane(&self, source: Source) -> String {
+    /// What people call the queue of a source.
+    fn name_of(&self, source: Source) -> String {
         match source {
             Source::AirForAll => "the air for all".to_owned(),
             Source::Air(place) => format!("the air for {}", self.networks[place].bssid),
@@ -146,15 +147,15 @@ impl<P: Port> Running<P> {
         let mut dropped: Vec<_> = self.waiting.dropped().collect();
         dropped.sort();
         for (source, reason, number) in dropped {
-            tell(format!("{number} dropped of {}: {reason}", self.lane(source)));
+            tell(format!("{number} dropped of {}: {reason}", self.name_of(source)));
         }
         if !self.waiting.is_empty() {
             tell(format!("{} frames still waited for the program", self.waiting.len()));
         }
-        for (what, number) in self.sender.counts().into_iter().chain(self.lost_on_wires()) {
+        for (what, number) in self.outbound.counts().into_iter().chain(self.lost_on_wires()) {
             tell(format!("{number} frames {what}"));
         }
-        for gate in self.sender.gates() {
+        for gate in self.outbound.gates() {
             let (number, interface) = (gate.port.count_dropped(), gate.port.interface());
             if number > 0 {
                 tell(format!(

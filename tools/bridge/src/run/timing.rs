@@ -1,7 +1,7 @@
 //! When what waits is sent and when silent stations are looked at: beacons go before both.
 use std::ops::Range;
 
-use super::Running;
+use super::running::Running;
 use crate::os::clock::{Nanos, MILLISECOND};
 use crate::os::poller::Token;
 use crate::os::sockets::Port;
@@ -42,7 +42,7 @@ impl<P: Port> Running<P> {
     pub(super) fn look(&mut self, time: Nanos) {
         if time >= self.next_look() && self.is_before_beacon(time) {
             self.look_due = time + keep_alive::EVERY;
-            let errands = self.operating.look(time);
+            let errands = self.stations.look(time);
             self.run(errands, time);
         }
     }
@@ -66,7 +66,7 @@ impl<P: Port> Running<P> {
 
     /// When what waits is sent next, where something has room.
     pub(super) fn sends_next(&self, time: Nanos) -> Option<Nanos> {
-        self.sender.has_room().then(|| self.sends_while(time).start.max(time))
+        self.outbound.has_room().then(|| self.sends_while(time).start.max(time))
     }
 
     /// Sends what waits in this time, and answers which interfaces got or lost their room by it.
@@ -76,13 +76,13 @@ impl<P: Port> Running<P> {
         while_it_is: Range<Nanos>,
     ) -> Vec<(Token, std::os::unix::io::RawFd, bool)> {
         if while_it_is.contains(&time) {
-            self.sender.flush(time, while_it_is.end);
+            self.outbound.flush(time, while_it_is.end);
         }
         let mut changed = Vec::new();
         for token in std::iter::once(Token::Monitor).chain((0..self.networks.len()).map(Token::Wire)) {
             let gate = match token {
-                Token::Wire(place) => self.sender.wire(place),
-                _ => Some(self.sender.air.gate()),
+                Token::Wire(place) => self.outbound.wire(place),
+                _ => Some(self.outbound.air.gate()),
             };
             if let Some(gate) = gate.filter(|gate| !gate.is_settled()) {
                 gate.set_waited_for(gate.is_blocked());

@@ -15,7 +15,7 @@ use crate::formats::frames::Address;
 use crate::os::clock::{Nanos, MILLISECOND, SECOND};
 use crate::stations::news::Forgotten;
 use crate::stations::station::{Asked, Member, State, Station};
-use crate::stations::table::Roster;
+use crate::stations::table::StationTable;
 
 /// After how long those are asked that are authenticated only, if not sooner.
 pub const AUTHENTICATED: Nanos = 60 * SECOND;
@@ -112,37 +112,37 @@ impl Pace {
 
 /// The stations of all networks.
 #[derive(Debug)]
-pub struct Silence {
+pub struct KeepAlive {
     /// After how long those are asked that are associated; `None` where nobody is asked.
     most: Option<Nanos>,
     networks: Vec<Watched>,
     pace: Pace,
 }
 
-impl Silence {
+impl KeepAlive {
     /// For networks that know so many stations at most; `None` asks nobody.
-    pub fn new(most: Option<Nanos>, max_known: impl IntoIterator<Item = usize>) -> Silence {
+    pub fn new(most: Option<Nanos>, max_known: impl IntoIterator<Item = usize>) -> KeepAlive {
         let watched = |max_known| Watched { last_taken: 0, max_known, nearly_full: None, queues: Default::default() };
         let networks = max_known.into_iter().map(watched).collect();
-        Silence { most, networks, pace: Pace::default() }
+        KeepAlive { most, networks, pace: Pace::default() }
     }
 
     /// What is to be done at a time at which no beacon is due, of stations of the networks of these places, of each of
     /// which it is known whether stations that doze listen now.
-    pub fn look(&mut self, roster: &mut Roster, listen: &[bool], now: Nanos) -> Vec<(usize, Step)> {
+    pub fn look(&mut self, table: &mut StationTable, listen: &[bool], now: Nanos) -> Vec<(usize, Step)> {
         let mut steps = Vec::new();
-        for member in roster.take_entered() {
+        for member in table.take_entered() {
             if let Some(most) = self.most {
-                let heard = roster.station(&member).map_or(now, |station| station.heard);
-                self.put(roster, member, heard + AUTHENTICATED.min(most), Queue::Authenticated);
+                let heard = table.station(&member).map_or(now, |station| station.heard);
+                self.put(table, member, heard + AUTHENTICATED.min(most), Queue::Authenticated);
             }
         }
         for place in self.in_turn() {
-            self.give_up(roster, place, now, &mut steps);
+            self.give_up(table, place, now, &mut steps);
             for queue in [Queue::Authenticated, Queue::Associated, Queue::Dozing] {
                 match self.most {
                     Some(most) if queue != Queue::Dozing || listen.get(place) == Some(&true) => {
-                        self.look_at(roster, (place, queue), most, now, &mut steps);
+                        self.look_at(table, (place, queue), most, now, &mut steps);
                     }
                     _ => {}
                 }
@@ -167,16 +167,16 @@ impl Silence {
 
     /// Gives up who has been authenticated only for too long and was so while its network was nearly full, some at a
     /// time. Who is given up is told so as long as that are few.
-    fn give_up(&mut self, roster: &Roster, place: usize, now: Nanos, steps: &mut Vec<(usize, Step)>) {
+    fn give_up(&mut self, table: &StationTable, place: usize, now: Nanos, steps: &mut Vec<(usize, Step)>) {
         let network = &mut self.networks[place];
-        if roster.known(place) * 10 >= network.max_known * NEARLY_FULL {
+        if table.known(place) * 10 >= network.max_known * NEARLY_FULL {
             network.nearly_full = Some(now);
         }
         let nearly_full = match network.nearly_full {
             Some(time) => time,
             None => return,
         };
-        let found = roster.unassociated(place);
+        let found = table.unassociated(place);
         let found = found.take_while(|(since, _)| *since <= nearly_full && since + TO_ASSOCIATE <= now);
         for (since, station) in found.take(network.max_known / PARTS + 1) {
             let why = Forgotten::Unassociated(now - since);
@@ -187,7 +187,7 @@ impl Silence {
     /// Looks at the stations of a queue that are due.
     fn look_at(
         &mut self,
-        roster: &mut Roster,
+        table: &mut StationTable,
         (place, queue): (usize, Queue),
         most: Nanos,
         now: Nanos,
@@ -200,7 +200,7 @@ impl Silence {
                 None => return,
             };
             let member = (place, address);
-            let station = roster.station(&member).filter(|station| station.asked.due == due);
+            let station = table.station(&member).filter(|station| station.asked.due == due);
             let found = station.map(|station| self.judge(station, (place, address), queue, most, now));
             if matches!(found, Some(Found::Enough)) {
                 return;
@@ -209,13 +209,13 @@ impl Silence {
             match found {
                 Some(Found::Again { due, times, step }) => {
                     steps.extend(step.map(|step| (place, step)));
-                    if let Some(asked) = roster.asked(&member) {
+                    if let Some(asked) = table.asked(&member) {
                         asked.times = times;
                     }
-                    let queue = roster.station(&member).map_or(queue, Queue::of);
-                    self.put(roster, member, due, queue);
+                    let queue = table.station(&member).map_or(queue, Queue::of);
+                    self.put(table, member, due, queue);
                 }
-                Some(Found::Later(queue)) => self.put(roster, member, due, queue),
+                Some(Found::Later(queue)) => self.put(table, member, due, queue),
                 Some(Found::Enough) | None => {}
             }
         }
@@ -243,8 +243,8 @@ impl Silence {
         }
     }
 
-    fn put(&mut self, roster: &mut Roster, member: Member, due: Nanos, queue: Queue) {
-        if let Some(asked) = roster.asked(&member) {
+    fn put(&mut self, table: &mut StationTable, member: Member, due: Nanos, queue: Queue) {
+        if let Some(asked) = table.asked(&member) {
             asked.due = due;
             self.networks[member.0].queues[queue as usize].insert((due, member.1));
         }

@@ -19,7 +19,7 @@ const AID_BITS: u16 = 0x3fff;
 
 /// What a station says to a network by a frame that the network reads.
 #[derive(Debug, Clone, Copy, PartialEq, Eq)]
-pub enum Said {
+pub enum FromStation {
     /// It asks to be associated, with this listen interval in beacon intervals.
     Association { listen: u16 },
     /// It is associated no more, for this reason.
@@ -33,11 +33,11 @@ pub enum Said {
 }
 
 /// What a frame of a station to the network of this address says, or `None` where it changes nothing of a station.
-pub fn said(frame: Frame<'_>, bssid: Address) -> Option<Said> {
+pub fn from_station(frame: Frame<'_>, bssid: Address) -> Option<FromStation> {
     let octets = frame.octets();
     if frame.is_ps_poll() {
         let is_read = octets.len() >= POLL_LEN && octets[0] & VERSION == 0 && octets[1] & UNREAD_FLAGS == 0;
-        return is_read.then_some(Said::Poll);
+        return is_read.then_some(FromStation::Poll);
     }
     let body = octets.get(HEADER_LEN..).filter(|body| body.len() <= MOST_BODY && is_read(octets))?;
     let ways = octets[1] & BOTH_WAYS;
@@ -45,14 +45,14 @@ pub fn said(frame: Frame<'_>, bssid: Address) -> Option<Said> {
         FrameType::Management if ways == 0 && Address::at(octets, THIRD_ADDRESS_AT) == Some(bssid) => {
             let number = |place: usize| Some(u16::from_le_bytes([*body.get(place)?, *body.get(place + 1)?]));
             match octets[0] >> 4 {
-                0 | 2 => number(2).map(|listen| Said::Association { listen }),
-                10 => number(0).map(|reason| Said::Disassociation { reason }),
-                12 => number(0).map(|reason| Said::Deauthentication { reason }),
+                0 | 2 => number(2).map(|listen| FromStation::Association { listen }),
+                10 => number(0).map(|reason| FromStation::Disassociation { reason }),
+                12 => number(0).map(|reason| FromStation::Deauthentication { reason }),
                 _ => None,
             }
         }
         FrameType::Data if ways == TO_NETWORK && matches!(octets[0] >> 4, 0 | 4) => {
-            Some(Said::Data { dozes: octets[1] & POWER_MANAGEMENT != 0, is_unit: !frame.is_null() })
+            Some(FromStation::Data { dozes: octets[1] & POWER_MANAGEMENT != 0, is_unit: !frame.is_null() })
         }
         _ => None,
     }
@@ -66,7 +66,7 @@ fn is_read(octets: &[u8]) -> bool {
 
 /// What a network says by a frame that the program has it send.
 #[derive(Debug, Clone, PartialEq, Eq)]
-pub enum Answered {
+pub enum FromNetwork {
     /// It answers an authentication with this status.
     Authentication { status: u16 },
     /// It answers an association with this status and identifier.
@@ -89,18 +89,18 @@ pub struct Tim {
 }
 
 /// What a frame of a network says, or `None` where it says nothing of a station.
-pub fn answered(frame: Frame<'_>) -> Option<Answered> {
+pub fn from_network(frame: Frame<'_>) -> Option<FromNetwork> {
     let octets = frame.octets();
     let body = octets.get(HEADER_LEN..)?;
     let number = |place: usize| Some(u16::from_le_bytes([*body.get(place)?, *body.get(place + 1)?]));
     match (frame.frame_type(), octets[0] >> 4) {
-        (FrameType::Management, 11) => number(4).map(|status| Answered::Authentication { status }),
+        (FrameType::Management, 11) => number(4).map(|status| FromNetwork::Authentication { status }),
         (FrameType::Management, 1 | 3) => {
-            number(2).zip(number(4)).map(|(status, aid)| Answered::Association { status, aid: aid & AID_BITS })
+            number(2).zip(number(4)).map(|(status, aid)| FromNetwork::Association { status, aid: aid & AID_BITS })
         }
-        (FrameType::Management, 10 | 12) => number(0).map(|reason| Answered::SentAway { reason }),
-        (FrameType::Management, 8) => Some(Answered::Beacon(tim_of(body.get(BEACON_FIXED_LEN..)?))),
-        (FrameType::Data, 0) => Some(Answered::Unit),
+        (FrameType::Management, 10 | 12) => number(0).map(|reason| FromNetwork::SentAway { reason }),
+        (FrameType::Management, 8) => Some(FromNetwork::Beacon(tim_of(body.get(BEACON_FIXED_LEN..)?))),
+        (FrameType::Data, 0) => Some(FromNetwork::Unit),
         _ => None,
     }
 }
@@ -142,8 +142,8 @@ mod tests {
         octets
     }
 
-    fn said_by(octets: &[u8]) -> Option<Said> {
-        said(Frame::of(octets).unwrap(), OURS)
+    fn said_by(octets: &[u8]) -> Option<FromStation> {
+        from_station(Frame::of(octets).unwrap(), OURS)
     }
 
     #[test]
@@ -153,14 +153,14 @@ mod tests {
             octets[22] = 0x10;
             said_by(&octets)
         };
-        assert_eq!(numbered(0x00, 0, &[1, 0, 5, 0]), Some(Said::Association { listen: 5 }));
-        assert_eq!(numbered(0x20, 8, &[1, 0, 0, 1, 0, 0]), Some(Said::Association { listen: 256 }));
-        assert_eq!(numbered(0xa0, 0, &[8, 0]), Some(Said::Disassociation { reason: 8 }));
-        assert_eq!(numbered(0xc0, 0, &[3, 0, 7]), Some(Said::Deauthentication { reason: 3 }));
-        assert_eq!(numbered(0x08, 0x01, &[1]), Some(Said::Data { dozes: false, is_unit: true }));
-        assert_eq!(numbered(0x48, 0x11, &[]), Some(Said::Data { dozes: true, is_unit: false }));
+        assert_eq!(numbered(0x00, 0, &[1, 0, 5, 0]), Some(FromStation::Association { listen: 5 }));
+        assert_eq!(numbered(0x20, 8, &[1, 0, 0, 1, 0, 0]), Some(FromStation::Association { listen: 256 }));
+        assert_eq!(numbered(0xa0, 0, &[8, 0]), Some(FromStation::Disassociation { reason: 8 }));
+        assert_eq!(numbered(0xc0, 0, &[3, 0, 7]), Some(FromStation::Deauthentication { reason: 3 }));
+        assert_eq!(numbered(0x08, 0x01, &[1]), Some(FromStation::Data { dozes: false, is_unit: true }));
+        assert_eq!(numbered(0x48, 0x11, &[]), Some(FromStation::Data { dozes: true, is_unit: false }));
         let poll = [&[0xa4, 0x10, 1, 0xc0][..], OURS.octets(), STATION.octets()].concat();
-        assert_eq!(said_by(&poll), Some(Said::Poll));
+        assert_eq!(said_by(&poll), Some(FromStation::Poll));
     }
 
     #[test]
@@ -191,18 +191,18 @@ mod tests {
         assert_eq!(said_by(&[0xa4, 0, 1, 0xc0, 2, 0, 0, 0, 1, 1]), None);
     }
 
-    fn answered_by(control: u8, body: &[u8]) -> Option<Answered> {
-        answered(Frame::of(&frame(control, 0, body)).unwrap())
+    fn answered_by(control: u8, body: &[u8]) -> Option<FromNetwork> {
+        from_network(Frame::of(&frame(control, 0, body)).unwrap())
     }
 
     #[test]
     fn frames_of_a_network_are_read() {
-        assert_eq!(answered_by(0xb0, &[0, 0, 2, 0, 1, 0]), Some(Answered::Authentication { status: 1 }));
-        assert_eq!(answered_by(0x10, &[1, 0, 0, 0, 7, 0xc0]), Some(Answered::Association { status: 0, aid: 7 }));
-        assert_eq!(answered_by(0x30, &[1, 0, 17, 0, 0, 0]), Some(Answered::Association { status: 17, aid: 0 }));
-        assert_eq!(answered_by(0xc0, &[6, 0]), Some(Answered::SentAway { reason: 6 }));
-        assert_eq!(answered_by(0xa0, &[7, 0]), Some(Answered::SentAway { reason: 7 }));
-        assert_eq!(answered_by(0x08, &[1]), Some(Answered::Unit));
+        assert_eq!(answered_by(0xb0, &[0, 0, 2, 0, 1, 0]), Some(FromNetwork::Authentication { status: 1 }));
+        assert_eq!(answered_by(0x10, &[1, 0, 0, 0, 7, 0xc0]), Some(FromNetwork::Association { status: 0, aid: 7 }));
+        assert_eq!(answered_by(0x30, &[1, 0, 17, 0, 0, 0]), Some(FromNetwork::Association { status: 17, aid: 0 }));
+        assert_eq!(answered_by(0xc0, &[6, 0]), Some(FromNetwork::SentAway { reason: 6 }));
+        assert_eq!(answered_by(0xa0, &[7, 0]), Some(FromNetwork::SentAway { reason: 7 }));
+        assert_eq!(answered_by(0x08, &[1]), Some(FromNetwork::Unit));
         assert_eq!(answered_by(0x50, &[0; 40]), None);
         assert_eq!(answered_by(0xb0, &[0, 0, 2, 0, 1]), None);
     }
@@ -211,7 +211,7 @@ mod tests {
     fn the_tim_of_a_beacon_is_read() {
         let fixed = [0; 12];
         let tim = |rest: &[u8]| match answered_by(0x80, &[&fixed, &[0, 1, b'a'][..], rest].concat()) {
-            Some(Answered::Beacon(tim)) => tim,
+            Some(FromNetwork::Beacon(tim)) => tim,
             other => panic!("{other:?}"),
         };
         assert_eq!(tim(&[5, 4, 1, 3, 0, 0x06]), Tim { dtim_count: 1, aids: vec![1, 2] });

@@ -1,5 +1,7 @@
 //! What happens to stations, and how people are told of it.
-use crate::os::clock::Nanos;
+use crate::control::log::Level;
+use crate::formats::frames::Address;
+use crate::os::clock::{Nanos, SECOND};
 
 /// Why a station is forgotten.
 #[derive(Debug, Clone, Copy, PartialEq, Eq)]
@@ -27,4 +29,39 @@ pub enum News {
     SentAway { reason: u16 },
     /// It is forgotten.
     Forgotten(Forgotten),
+}
+
+/// What happened to a station of a network, for people.
+pub fn sentence(station: Address, bssid: Address, news: News) -> (Level, String) {
+    match news {
+        News::Joins { aid, listen } => {
+            (Level::Info, format!("{station} joins {bssid}: association identifier {aid}, listen interval {listen}"))
+        }
+        News::Leaves { reason } => (Level::Info, format!("{station} leaves {bssid}: reason {reason}")),
+        News::DozesTooLong { beacons, listen } => (
+            Level::Notice,
+            format!(
+                "{station} of {bssid} dozes too long: units have waited for {beacons} beacons, and its listen interval \
+                 is {listen}"
+            ),
+        ),
+        News::Refused { status, is_association } => {
+            let what = if is_association { "association" } else { "authentication" };
+            (Level::Notice, format!("{station} was refused by {bssid}: {what}, status {status}"))
+        }
+        News::SentAway { reason } => (Level::Info, format!("{station} was sent away by {bssid}: reason {reason}")),
+        News::Forgotten(Forgotten::Silent(keep_alive)) => {
+            let seconds = keep_alive / SECOND;
+            (Level::Info, format!("{station} was forgotten by {bssid}: silent for {seconds} seconds"))
+        }
+        News::Forgotten(Forgotten::Unassociated(time)) => {
+            let seconds = time / SECOND;
+            let text = format!(
+                "{station} was forgotten by {bssid}, which is nearly full: authenticated for {seconds} seconds and not \
+                 associated"
+            );
+            (Level::Info, text)
+        }
+        News::Forgotten(Forgotten::Kicked) => (Level::Info, format!("{station} was forgotten by {bssid}: kicked")),
+    }
 }

@@ -77,7 +77,7 @@ pub struct Station {
 
 /// What a new program has to know of a station that is associated.
 #[derive(Debug, Clone, PartialEq, Eq)]
-pub struct Kept {
+pub struct KeptStation {
     /// Its address.
     pub address: Address,
     /// Its identifier.

@@ -1,20 +1,20 @@
 //! The stations that the networks know, as the frames that pass show them; the program isn't asked.
 //!
 //! A station is entered where the program answers its authentication with status 0, and taken out where its
-//! deauthentication is said to the program. So the roster holds every station that the program knows, and for a moment
+//! deauthentication is said to the program. So the table holds every station that the program knows, and for a moment
 //! may hold one more: where an answer was on its way while the station left.
 use std::collections::{BTreeMap, BTreeSet, HashMap};
 
 use crate::formats::frames::{Address, AddressMap, Frame};
 use crate::formats::radiotap::{Outcome, Reception};
 use crate::os::clock::Nanos;
-use crate::stations::meaning::{answered, said, Answered, Said, Tim};
+use crate::stations::meaning::{from_network, from_station, FromNetwork, FromStation, Tim};
 use crate::stations::news::{Forgotten, News};
-use crate::stations::station::{Asked, Kept, Member, State, Station, Traffic};
+use crate::stations::station::{Asked, KeptStation, Member, State, Station, Traffic};
 
 /// The stations of all networks.
 #[derive(Debug)]
-pub struct Roster {
+pub struct StationTable {
     bssids: Vec<Address>,
     places: AddressMap<usize>,
     /// Of each network.
@@ -32,11 +32,11 @@ pub struct Roster {
     changes: u64,
 }
 
-impl Roster {
+impl StationTable {
     /// No stations of these networks.
-    pub fn new(bssids: Vec<Address>) -> Roster {
+    pub fn new(bssids: Vec<Address>) -> StationTable {
         let places = bssids.iter().enumerate().map(|(place, bssid)| (*bssid, place)).collect();
-        Roster {
+        StationTable {
             places,
             stations: bssids.iter().map(|_| AddressMap::default()).collect(),
             associated: HashMap::new(),
@@ -53,7 +53,7 @@ impl Roster {
 
     /// A station that joined before the program began anew: it is associated, by this request, and nothing is told of
     /// it.
-    pub fn restore(&mut self, member: Member, kept: &Kept, now: Nanos) {
+    pub fn restore(&mut self, member: Member, kept: &KeptStation, now: Nanos) {
         self.authenticate(member, now);
         self.set_state(member, State::Associated(kept.aid), now);
         if let Some(station) = self.stations[member.0].get_mut(&member.1) {
@@ -65,16 +65,16 @@ impl Roster {
 
     /// What a new program has to know of the stations that are associated with a network, in the order of their
     /// identifiers.
-    pub fn kept(&self, place: usize) -> Vec<Kept> {
+    pub fn kept(&self, place: usize) -> Vec<KeptStation> {
         let stations = self.stations[place].iter().filter(|(_, station)| !station.is_leaving);
-        let mut found: Vec<Kept> = stations
+        let mut found: Vec<KeptStation> = stations
             .filter_map(|(address, station)| {
                 let (aid, request) = match (station.state, &station.joined_by) {
                     (State::Associated(aid), Some(request)) => (aid, request.clone()),
                     _ => return None,
                 };
                 let Station { listen, dozes, has_dozed, .. } = *station;
-                Some(Kept { address: *address, aid, listen, dozes, has_dozed, request })
+                Some(KeptStation { address: *address, aid, listen, dozes, has_dozed, request })
             })
             .collect();
         found.sort_by_key(|kept| kept.aid);
@@ -101,7 +101,7 @@ impl Roster {
     }
 
     /// The radio tells what became of a frame that it was given.
-    pub fn shown(&mut self, frame: &[u8], outcome: Outcome, is_unit: bool, now: Nanos) {
+    pub fn reported(&mut self, frame: &[u8], outcome: Outcome, is_unit: bool, now: Nanos) {
         let member = Frame::of(frame).and_then(|frame| self.receiver(frame));
         if let Some(station) = member.and_then(|member| self.station_mut(&member)) {
             if outcome.is_acknowledged {
@@ -114,38 +114,38 @@ impl Roster {
     }
 
     /// A frame of the air is said to the program.
-    pub fn said(&mut self, octets: &[u8], now: Nanos) {
+    pub fn fed(&mut self, octets: &[u8], now: Nanos) {
         let found = Frame::of(octets).and_then(|frame| {
             let member = self.sender(frame)?;
-            Some((member, said(frame, self.bssids[member.0])?))
+            Some((member, from_station(frame, self.bssids[member.0])?))
         });
         if let Some((member, what)) = found {
-            self.take_said(member, what, octets, now);
+            self.take_fed(member, what, octets, now);
         }
     }
 
-    fn take_said(&mut self, member: Member, what: Said, octets: &[u8], now: Nanos) {
+    fn take_fed(&mut self, member: Member, what: FromStation, octets: &[u8], now: Nanos) {
         let station = match self.stations[member.0].get_mut(&member.1) {
             Some(station) => station,
             None => return,
         };
         match (what, station.state) {
-            (Said::Association { listen }, _) => {
+            (FromStation::Association { listen }, _) => {
                 station.wanted_listen = listen;
                 station.asks_by = Some(octets.to_vec());
             }
-            (Said::Disassociation { reason }, State::Associated(_)) => {
+            (FromStation::Disassociation { reason }, State::Associated(_)) => {
                 self.set_state(member, State::Authenticated, now);
                 self.news.push((member, News::Leaves { reason }));
             }
-            (Said::Deauthentication { reason }, _) => {
+            (FromStation::Deauthentication { reason }, _) => {
                 let was_leaving = station.is_leaving;
                 self.take_out(member);
                 if !was_leaving {
                     self.news.push((member, News::Leaves { reason }));
                 }
             }
-            (Said::Data { dozes, is_unit }, State::Associated(aid)) => {
+            (FromStation::Data { dozes, is_unit }, State::Associated(aid)) => {
                 station.dozes = dozes;
                 if dozes && !station.has_dozed {
                     station.has_dozed = true;
@@ -156,7 +156,7 @@ impl Roster {
                 }
                 self.told_of[member.0].remove(&aid);
             }
-            (Said::Poll, State::Associated(aid)) => {
+            (FromStation::Poll, State::Associated(aid)) => {
                 self.told_of[member.0].remove(&aid);
             }
             _ => {}
@@ -167,21 +167,21 @@ impl Roster {
     pub fn answered(&mut self, place: usize, octets: &[u8], now: Nanos) -> Option<Tim> {
         let frame = Frame::of(octets)?;
         let member = (place, frame.receiver());
-        match answered(frame)? {
-            Answered::Authentication { status: 0 } => self.authenticate(member, now),
-            Answered::Authentication { status } => self.refuse(member, status, false),
-            Answered::Association { status: 0, aid } => self.associate(member, aid, now),
-            Answered::Association { status, .. } => {
+        match from_network(frame)? {
+            FromNetwork::Authentication { status: 0 } => self.authenticate(member, now),
+            FromNetwork::Authentication { status } => self.refuse(member, status, false),
+            FromNetwork::Association { status: 0, aid } => self.associate(member, aid, now),
+            FromNetwork::Association { status, .. } => {
                 self.station_mut(&member).and_then(|station| station.asks_by.take());
                 self.refuse(member, status, true);
             }
-            Answered::SentAway { reason } => self.news.push((member, News::SentAway { reason })),
-            Answered::Unit => {
+            FromNetwork::SentAway { reason } => self.news.push((member, News::SentAway { reason })),
+            FromNetwork::Unit => {
                 if let Some(station) = self.stations[member.0].get_mut(&member.1) {
                     station.to.count(octets.len());
                 }
             }
-            Answered::Beacon(tim) => {
+            FromNetwork::Beacon(tim) => {
                 self.count_beacon(place, &tim);
                 return Some(tim);
             }

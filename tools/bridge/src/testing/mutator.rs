@@ -4,10 +4,10 @@ use crate::apctl::records::{Answer, Answers};
 use crate::formats::frames::{is_tagged, Address, Frame, BEACON, MOST};
 use crate::formats::radiotap::{captured, reception, Outcome, SENDING_LEN};
 use crate::inbound::filter::{monitor_filter, Shown};
-use crate::inbound::judging::{judge_wired, Air, Judged};
+use crate::inbound::judging::{judge_wired, Judge, Judged};
 use crate::network::Network;
 use crate::outbound::air::Transmitter;
-use crate::stations::operating::{Errand, Operating};
+use crate::stations::{Errand, Stations};
 use crate::testing::samples::{data, network, radiotap, Recorder, Seeded, Unit, OTHER, OURS, STATION};
 
 const INPUTS: usize = 1_000_000;
@@ -64,7 +64,7 @@ fn mutated(seeded: &mut Seeded, good: &[Vec<u8>]) -> Vec<u8> {
 #[test]
 fn packets_of_a_monitor_interface() {
     let (mut seeded, good) = (Seeded(1), packets());
-    let mut air = Air::new([OURS, OTHER]);
+    let mut air = Judge::new([OURS, OTHER]);
     let mut kinds = [0u32; 3];
     for _ in 0..INPUTS {
         let packet = mutated(&mut seeded, &good);
@@ -176,14 +176,14 @@ fn the_way_to_the_air() {
             _ => {
                 let rate = [None, Some(2), Some(12), Some(108)][seeded.below(4)];
                 let (is_acknowledged, retries) = (seeded.below(2) == 0, seeded.number() as u8);
-                air.told(place, &octets, Outcome { is_acknowledged, retries, rate }, time);
+                air.reported(place, &octets, Outcome { is_acknowledged, retries, rate }, time);
             }
         }
         if seeded.below(50) == 0 {
             air.expire(time);
         }
         if seeded.below(10) == 0 {
-            air.looked();
+            air.reports_read();
         }
         air.gate().port.unsent = [0, 100][seeded.below(2)];
         air.flush_beacons();
@@ -223,17 +223,17 @@ fn what_the_bridge_does_by_itself() {
     ];
     let (mut seeded, mut time) = (Seeded(6), 0);
     let networks = [network(OTHER), Network { max_known: 2, ..network(OURS) }];
-    let mut operating = Operating::quiet(&networks, Some(1 << 30));
+    let mut operating = Stations::quiet(&networks, Some(1 << 30));
     let (mut sent, mut said) = (0u32, 0u32);
     for _ in 0..INPUTS / 2 {
         let octets = mutated(&mut seeded, &good);
         time += seeded.below(1 << 27) as u64;
         match (seeded.below(4), Frame::of(&octets)) {
             (0, Some(frame)) => operating.heard(frame, reception(&octets), time),
-            (1, _) => operating.said(&octets, time),
+            (1, _) => operating.fed(&octets, time),
             (2, _) => {
                 let is_acknowledged = seeded.below(2) == 0;
-                operating.shown(&octets, Outcome { is_acknowledged, retries: 0, rate: None }, time);
+                operating.reported(&octets, Outcome { is_acknowledged, retries: 0, rate: None }, time);
             }
             _ => {
                 let answered = operating.answered(OURS, &octets, time);
@@ -246,7 +246,7 @@ fn what_the_bridge_does_by_itself() {
                         Errand::Say(frame) => {
                             said += 1;
                             assert_eq!((frame[0], frame.len(), Address::at(&frame, 4)), (0xc0, 26, Some(OURS)));
-                            operating.said(&frame, time);
+                            operating.fed(&frame, time);
                         }
                     }
                 }

@@ -75,9 +75,9 @@ impl Driver {
     }
 
     /// The radio tells of a frame, at once.
-    fn told(&mut self, place: Place, seen: &Seen, retries: u8, is_acknowledged: bool) {
+    fn reported(&mut self, place: Place, seen: &Seen, retries: u8, is_acknowledged: bool) {
         let outcome = Outcome { is_acknowledged, retries, rate: Some(seen.rate) };
-        self.air.told(place, &seen.frame, outcome, self.now);
+        self.air.reported(place, &seen.frame, outcome, self.now);
     }
 
     /// What goes on the air now and then, where each frame takes its time and is acknowledged.
@@ -90,7 +90,7 @@ impl Driver {
             let size = Size { octets: next.frame.len(), rate: next.rate, is_acknowledged: !is_group };
             self.now += size.cost().tries(1);
             let place = usize::from(next.frame[15] == OTHER.octets()[5]);
-            self.told(place, &next, 0, true);
+            self.reported(place, &next, 0, true);
             all.push(next);
             if all.len() == frames {
                 break;
@@ -115,7 +115,7 @@ impl Driver {
     /// And acknowledges that.
     fn join(&mut self, place: Place, station: Address) {
         let sent = self.ask(place, station);
-        self.told(place, &sent[0], 0, true);
+        self.reported(place, &sent[0], 0, true);
     }
 
     /// A station of the first network, which is sent to at 54 Mb/s.
@@ -124,7 +124,7 @@ impl Driver {
         for number in 0..8 {
             self.send(0, unit(OURS, STATION, number));
             let sent = self.flush();
-            self.told(0, &sent[0], 0, true);
+            self.reported(0, &sent[0], 0, true);
         }
     }
 
@@ -176,7 +176,7 @@ fn a_station_that_is_restored_is_sent_to_at_its_fastest_rate_soon() {
     for number in 0..8 {
         driver.send(0, unit(OURS, STATION, number));
         let sent = driver.flush();
-        driver.told(0, &sent[0], 0, true);
+        driver.reported(0, &sent[0], 0, true);
     }
     driver.send(0, unit(OURS, STATION, 9));
     assert_eq!(driver.flush()[0].rate, 108);
@@ -213,11 +213,11 @@ fn a_lost_unit_is_sent_once_more_with_retry_and_later_ones_wait() {
     driver.at_54();
     driver.send(0, unit(OURS, STATION, 9));
     let first = driver.flush();
-    driver.told(0, &first[0], 6, false);
+    driver.reported(0, &first[0], 6, false);
     driver.send(0, unit(OURS, STATION, 10));
     let second = driver.flush();
     assert_eq!((second.len(), second[0].rate, second[0].is_again(), second[0].number()), (1, 12, true, 9));
-    driver.told(0, &second[0], 0, true);
+    driver.reported(0, &second[0], 0, true);
     let third = driver.flush();
     assert_eq!((third.len(), third[0].is_again(), third[0].number()), (1, false, 10));
     assert_eq!(driver.air.unacknowledged(), Unacknowledged { again: 1, lost: 0 });
@@ -231,11 +231,11 @@ fn a_station_that_loses_some_is_given_one_frame_at_a_time_while_few_wait() {
         driver.at_54();
         driver.send(0, unit(OURS, STATION, 8));
         let first = driver.flush();
-        driver.told(0, &first[0], 1, true);
+        driver.reported(0, &first[0], 1, true);
         (9..9 + waiting as u16).for_each(|number| driver.send(0, unit(OURS, STATION, number)));
         let sent = driver.flush();
         assert_eq!(sent.len(), given);
-        driver.told(0, &sent[0], 6, false);
+        driver.reported(0, &sent[0], 6, false);
         let next = driver.flush();
         let again = next.first().map(|seen| (seen.number(), seen.is_again()));
         assert_eq!(again, (given == 1).then_some((9, true)));
@@ -249,9 +249,9 @@ fn a_unit_behind_which_others_went_is_not_sent_out_of_order() {
     (9..12).for_each(|number| driver.send(0, unit(OURS, STATION, number)));
     let sent = driver.flush();
     assert_eq!(numbers(&sent), [9, 10, 11]);
-    sent[..2].iter().for_each(|seen| driver.told(0, seen, 6, false));
+    sent[..2].iter().for_each(|seen| driver.reported(0, seen, 6, false));
     assert_eq!(driver.flush(), []);
-    driver.told(0, &sent[2], 6, false);
+    driver.reported(0, &sent[2], 6, false);
     let again = driver.flush();
     assert_eq!((again.len(), again[0].number(), again[0].is_again()), (1, 11, true));
     assert_eq!(driver.air.unacknowledged(), Unacknowledged { again: 1, lost: 2 });
@@ -264,7 +264,7 @@ fn a_unit_that_is_lost_twice_is_given_up_and_the_next_goes() {
     driver.send(0, unit(OURS, STATION, 9));
     for _ in 0..2 {
         let sent = driver.flush();
-        driver.told(0, &sent[0], 1, false);
+        driver.reported(0, &sent[0], 1, false);
     }
     (10..12).for_each(|number| driver.send(0, unit(OURS, STATION, number)));
     assert_eq!(numbers(&driver.flush()), [10]);
@@ -302,7 +302,7 @@ fn no_more_frames_wait_for_a_station_than_there_is_room_for_and_the_oldest_are_d
     assert_eq!(driver.unsent(0, Unsent::Crowded), 199 - MOST_FOR_STATION as u64);
     driver.now += MILLISECOND;
     let sample = Seen { rate: 22, retries: 1, frame: unit(OURS, STATION, 0) };
-    driver.told(0, &sample, 0, true);
+    driver.reported(0, &sample, 0, true);
     assert_eq!(numbers(&driver.flush()), [200 - MOST_FOR_STATION as u8]);
 }
 
@@ -335,7 +335,7 @@ fn what_is_told_of_strangers_changes_nothing() {
     driver.at_54();
     let stranger = unit(OURS, STRANGER, 1);
     let outcome = Outcome { is_acknowledged: false, retries: 7, rate: Some(2) };
-    (0..=stranger.len()).for_each(|cut| driver.air.told(0, &stranger[..cut], outcome, driver.now));
+    (0..=stranger.len()).for_each(|cut| driver.air.reported(0, &stranger[..cut], outcome, driver.now));
     assert_eq!((driver.flush(), driver.air.unacknowledged()), (vec![], Unacknowledged::default()));
 }
 
@@ -421,7 +421,7 @@ fn the_radio_has_no_more_at_once_than_it_sends_in_eight_milliseconds() {
     assert!(!driver.air.has_room() && driver.air.awaits_outcomes() && !driver.air.is_idle());
     for seen in &sent {
         driver.now += MILLISECOND / 2;
-        driver.told(0, seen, 0, true);
+        driver.reported(0, seen, 0, true);
     }
     let more = driver.flush();
     assert!((8..=17).contains(&more.len()), "{}", more.len());
@@ -442,7 +442,7 @@ fn a_station_whose_frame_is_out_too_long_is_given_nothing_more() {
     driver.send(0, long(OURS, STATION, 10));
     driver.send(1, unit(OTHER, STRANGER, 7));
     assert_eq!(numbers(&driver.flush()), [7]);
-    driver.told(0, &first[0], 6, false);
+    driver.reported(0, &first[0], 6, false);
     let again = driver.flush();
     assert_eq!((again.len(), again[0].number(), again[0].is_again()), (1, 9, true));
 }
@@ -461,13 +461,13 @@ fn a_frame_that_left_the_radio_keeps_none_waiting_until_outcomes_were_looked_at(
     let second = driver.flush();
     assert_eq!(numbers(&second), [10]);
     assert!(driver.air.is_unsettled);
-    driver.told(0, &second[0], 0, true);
-    driver.air.looked();
+    driver.reported(0, &second[0], 0, true);
+    driver.air.reports_read();
     assert!(!driver.air.is_unsettled);
     driver.now += 2 * MILLISECOND;
     driver.send(0, long(OURS, STATION, 11));
     assert_eq!(driver.flush(), []);
-    driver.told(0, &first[0], 0, true);
+    driver.reported(0, &first[0], 0, true);
     assert_eq!(numbers(&driver.flush()), [11]);
 }
 
@@ -483,7 +483,7 @@ fn behind_a_question_of_the_bridge_frames_go_once_it_is_told_of() {
     driver.now += 20 * MILLISECOND;
     driver.send(0, of_network(0xb0, OURS, STATION, 9, vec![0, 0, 2, 0, 0, 0]));
     assert_eq!(driver.flush(), []);
-    driver.told(0, &asked[0], 0, true);
+    driver.reported(0, &asked[0], 0, true);
     assert_eq!(numbers(&driver.flush()), [9]);
 }
 
@@ -516,7 +516,7 @@ fn what_waited_for_a_station_before_it_joined_goes_before_what_comes_behind() {
     (3..6).for_each(|number| driver.send(0, unit(OURS, STATION, number)));
     let mut sent = driver.run(usize::MAX);
     sent.extend(driver.run(usize::MAX));
-    driver.told(0, &Seen { rate: 2, retries: 0, frame: long(OURS, Address::of([2, 9, 9, 9, 9, 9]), 100) }, 0, true);
+    driver.reported(0, &Seen { rate: 2, retries: 0, frame: long(OURS, Address::of([2, 9, 9, 9, 9, 9]), 100) }, 0, true);
     sent.extend(driver.run(usize::MAX));
     assert_eq!(numbers(&sent), [1, 1, 3, 4, 5]);
     assert_eq!(sent[0].frame[0], 0xb0);
@@ -542,7 +542,7 @@ fn what_waits_for_room_goes_later_and_late_units_are_dropped() {
     driver.send(0, unit(OURS, STATION, 1));
     let first = driver.flush();
     assert_eq!(numbers(&first), [1]);
-    driver.told(0, &first[0], 0, true);
+    driver.reported(0, &first[0], 0, true);
     driver.send(0, unit(OURS, STATION, 2));
     driver.send(1, of_network(0xc0, OTHER, STRANGER, 3, vec![4, 0]));
     assert_eq!(driver.flush(), []);
@@ -567,7 +567,7 @@ fn units_that_are_late_for_a_while_go_all_the_same() {
         driver.send(0, unit(OURS, STATION, 1));
         driver.now += wait * MILLISECOND;
         let sent = driver.flush();
-        sent.iter().for_each(|seen| driver.told(0, seen, 0, true));
+        sent.iter().for_each(|seen| driver.reported(0, seen, 0, true));
         !sent.is_empty()
     };
     let going = (0..8).map(|_| goes_after(60)).collect::<Vec<_>>();
@@ -590,7 +590,7 @@ fn what_waits_of_a_network_is_bounded_and_the_longest_queue_loses_its_oldest() {
     assert!(octets <= MOST_OCTETS && waiting == MOST_OCTETS / 4024, "{waiting} {octets}");
     assert_eq!(driver.unsent(0, Unsent::Full) + driver.unsent(0, Unsent::Crowded) + waiting as u64, 4001);
     assert_eq!(driver.unsent(1, Unsent::Full), 0);
-    assert_eq!(driver.air.shares.waiting(0, Receiver::Station(STATION)), 1);
+    assert_eq!(driver.air.scheduler.waiting(0, Receiver::Station(STATION)), 1);
 }
 
 #[test]
@@ -600,7 +600,7 @@ fn what_a_network_used_of_the_air_is_counted_with_all_its_tries() {
     let before = driver.air.accounts[0].used;
     driver.send(0, long(OURS, STATION, 9));
     let sent = driver.flush();
-    driver.told(0, &sent[0], 6, true);
+    driver.reported(0, &sent[0], 6, true);
     let size = Size { octets: sent[0].frame.len(), rate: 108, is_acknowledged: true };
     assert_eq!(driver.air.accounts[0].used - before, size.cost().sending(7));
 }

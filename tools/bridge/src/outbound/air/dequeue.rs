@@ -8,10 +8,10 @@ use crate::os::clock::{self, Nanos, MILLISECOND};
 use crate::os::sockets::{Port, AT_A_TIME};
 use crate::outbound::air::account::Unsent;
 use crate::outbound::air::air_time::{Cost, Size};
-use crate::outbound::air::frame::{Kind, Receiver, Waiting, MOST_LIFETIME};
-use crate::outbound::air::in_flight::Name;
+use crate::outbound::air::frame::{FrameKind, OutboundFrame, Receiver, MOST_LIFETIME};
+use crate::outbound::air::in_flight::FrameName;
 use crate::outbound::air::lateness::Lateness;
-use crate::outbound::air::links::Stations;
+use crate::outbound::air::links::Links;
 use crate::outbound::air::rate_control::Choice;
 use crate::outbound::air::scheduler::Place;
 use crate::outbound::counts::count_refused;
@@ -32,18 +32,18 @@ impl<P: Port> Transmitter<P> {
     /// Whether the frame that waits first is worth nothing any more. A unit's time counts since its station could be
     /// sent to, and late ones go for a while (`lateness`).
     pub(super) fn is_worthless(
-        stations: &Stations,
+        links: &Links,
         lateness: &mut Lateness,
         place: Place,
-        frame: &Waiting,
+        frame: &OutboundFrame,
         now: Nanos,
     ) -> bool {
         let waited = now.saturating_sub(frame.since);
         let is_late = waited > frame.kind.lifetime();
-        if !matches!(frame.kind, Kind::Unit | Kind::Again) {
+        if !matches!(frame.kind, FrameKind::Unit | FrameKind::Again) {
             return is_late;
         }
-        let could_go = || now.saturating_sub(stations.goes_since(place, frame.address).max(frame.since));
+        let could_go = || now.saturating_sub(links.goes_since(place, frame.address).max(frame.since));
         let is_late = is_late && could_go() > frame.kind.lifetime();
         lateness.look(place, frame.address, is_late, now) || waited > MOST_LIFETIME
     }
@@ -72,11 +72,11 @@ impl<P: Port> Transmitter<P> {
     /// Where frames wait behind such as are out for long, the radio's socket is asked whether they are: what became of
     /// those that aren't needn't be known before others go.
     pub(super) fn settle(&mut self, now: Nanos) {
-        let may_be_done = self.flight.is_doubtful(now) && self.chosen.is_empty() && self.shares.has_ready();
+        let may_be_done = self.in_flight.is_doubtful(now) && self.chosen.is_empty() && self.scheduler.has_ready();
         match may_be_done.then(|| self.gate.port.unsent()) {
             None => {}
             Some(Ok(0)) => {
-                self.flight.settle();
+                self.in_flight.settle();
                 self.is_full = false;
                 self.is_unsettled = true;
             }
@@ -87,24 +87,24 @@ impl<P: Port> Transmitter<P> {
     /// When the radio's socket is looked at: once its first frame is overdue, and at once where it never tells
     /// anything.
     pub(super) fn next_look(&self, now: Nanos) -> Nanos {
-        let overdue = self.flight.overdue().filter(|_| self.stations.is_told());
+        let overdue = self.in_flight.overdue().filter(|_| self.links.is_told());
         overdue.unwrap_or(0).max(now + LOOK_EVERY)
     }
 
     /// Chooses the frame that goes next; false where none may go now.
     pub(super) fn choose(&mut self, now: Nanos) -> bool {
-        while let Some((place, receiver, frame)) = self.shares.first() {
+        while let Some((place, receiver, frame)) = self.scheduler.first() {
             let address = frame.address;
-            if Self::is_worthless(&self.stations, &mut self.lateness, place, frame, now) {
+            if Self::is_worthless(&self.links, &mut self.lateness, place, frame, now) {
                 self.drop_first(place, receiver, Unsent::Late);
             } else if matches!(receiver, Receiver::Station(_)) && self.awaits(place, address, now) {
-                self.shares.hold(place, receiver);
+                self.scheduler.hold(place, receiver);
             } else {
-                let is_unit = matches!(frame.kind, Kind::Unit | Kind::Again);
-                let rate = self.stations.expected_rate(place, address, is_unit);
+                let is_unit = matches!(frame.kind, FrameKind::Unit | FrameKind::Again);
+                let rate = self.links.expected_rate(place, address, is_unit);
                 let size = Size { octets: frame.octets.len(), rate, is_acknowledged: !address.is_group() };
                 let (cost, octets, kind) = (size.cost(), Rc::clone(&frame.octets), frame.kind);
-                self.is_full = !self.is_ending && !self.flight.has_room(cost.tries(1), now);
+                self.is_full = !self.is_ending && !self.in_flight.has_room(cost.tries(1), now);
                 if self.is_full {
                     self.busy_until = now + BUSY_SINCE_FULL;
                     return false;
@@ -119,41 +119,41 @@ impl<P: Port> Transmitter<P> {
     /// one that may be lost, since a unit is sent once more only where nothing went to its station since. Where many
     /// wait, the radio has several of them all the same, unless the last one was lost.
     pub(super) fn awaits(&self, place: Place, address: Address, now: Nanos) -> bool {
-        if self.stations.is_sure(place, address) {
-            return self.flight.is_overdue(place, address, now);
+        if self.links.is_sure(place, address) {
+            return self.in_flight.is_overdue(place, address, now);
         }
         let goes_alone =
-            self.shares.waiting(place, Receiver::Station(address)) <= FEW || self.stations.is_in_doubt(place, address);
-        self.flight.is_overdue(place, address, now)
-            || self.flight.is_unknown(place, address)
-            || goes_alone && self.flight.has(place, address)
+            self.scheduler.waiting(place, Receiver::Station(address)) <= FEW || self.links.is_in_doubt(place, address);
+        self.in_flight.is_overdue(place, address, now)
+            || self.in_flight.is_unknown(place, address)
+            || goes_alone && self.in_flight.has(place, address)
     }
 
     /// Takes the frame that goes next, and gives it to the radio.
     pub(super) fn take(
         &mut self,
         (place, receiver, address): (Place, Receiver, Address),
-        kind: Kind,
+        kind: FrameKind,
         octets: &Rc<Vec<u8>>,
         expected: (Size, Cost),
         now: Nanos,
     ) -> bool {
         let (choice, waits, cost) = self.choice(place, address, kind, octets, expected, now);
         let sending = cost.sending(1);
-        match self.shares.serve(place, microseconds(sending)) {
+        match self.scheduler.serve(place, microseconds(sending)) {
             Some(frame) => self.count_out(place, &frame),
             None => return false,
         }
         if waits {
-            self.shares.hold(place, receiver);
+            self.scheduler.hold(place, receiver);
         }
         self.accounts[place].used += sending;
         let number = Frame::of(octets).and_then(|frame| frame.sequence_control());
-        let name = Name { place, receiver: address, number };
-        let is_own = matches!(kind, Kind::Own { .. });
+        let name = FrameName { place, receiver: address, number };
+        let is_own = matches!(kind, FrameKind::Own { .. });
         // A sample is likely to need both of its tries.
         let reckoned = cost.tries(1 + u32::from(choice.is_sample));
-        self.flight.give(name, Sent { cost, receiver, is_own }, reckoned, now);
+        self.in_flight.give(name, Sent { cost, receiver, is_own }, reckoned, now);
         let mut packet = self.spare.pop().unwrap_or_default();
         packet.clear();
         packet.reserve_exact(SENDING_LEN + octets.len());
@@ -169,22 +169,22 @@ impl<P: Port> Transmitter<P> {
         &mut self,
         place: Place,
         address: Address,
-        kind: Kind,
+        kind: FrameKind,
         octets: &Rc<Vec<u8>>,
         (expected, cost): (Size, Cost),
         now: Nanos,
     ) -> (Choice, bool, Cost) {
-        let lowest = self.stations.lowest(place);
+        let lowest = self.links.lowest(place);
         let plainly = |retries| Choice { rate: lowest, retries, is_sample: false };
         let (choice, waits) = match kind {
-            Kind::Own { retries } => (plainly(retries), false),
+            FrameKind::Own { retries } => (plainly(retries), false),
             _ if address.is_group() => (plainly(0), false),
             _ => {
-                let is_busy = now < self.busy_until || self.flight.is_busy();
-                self.stations.choose(place, address, octets, is_busy, now)
+                let is_busy = now < self.busy_until || self.in_flight.is_busy();
+                self.links.choose(place, address, octets, is_busy, now)
             }
         };
-        let choice = if kind == Kind::AnswerToAll { plainly(0) } else { choice };
+        let choice = if kind == FrameKind::AnswerToAll { plainly(0) } else { choice };
         let size = Size { rate: choice.rate, ..expected };
         let cost = if size == expected { cost } else { size.cost() };
         let tries = match choice.retries {
@@ -209,7 +209,7 @@ impl<P: Port> Transmitter<P> {
                 if let Some((name, packet)) = self.chosen.pop_front() {
                     count_refused(&self.gate, packet.len(), &fault, &mut self.counts);
                     *self.accounts[name.place].unsent.entry(Unsent::Refused).or_default() += 1;
-                    self.flight.forget(name);
+                    self.in_flight.forget(name);
                     self.release(name.place, name.receiver);
                 }
             }

@@ -3,7 +3,7 @@ use std::hash::{Hash, Hasher};
 use std::rc::Rc;
 
 use crate::formats::frames::{Address, Frame, FrameType};
-use crate::inbound::waiter::LONGEST;
+use crate::inbound::frame::LONGEST;
 use crate::os::clock::{Nanos, MILLISECOND, SECOND};
 
 pub const PROBE_RESPONSE: u8 = 0x50;
@@ -46,7 +46,7 @@ impl Hash for Receiver {
 
 /// What a frame is, as far as it decides how long it is worth sending and how often it is tried.
 #[derive(Debug, Clone, Copy, PartialEq, Eq)]
-pub enum Kind {
+pub enum FrameKind {
     /// A unit of data for a station.
     Unit,
     /// A unit that was lost, and is sent once more.
@@ -63,14 +63,14 @@ pub enum Kind {
     Own { retries: u8 },
 }
 
-impl Kind {
-    pub fn of(frame: Frame<'_>) -> Kind {
+impl FrameKind {
+    pub fn of(frame: Frame<'_>) -> FrameKind {
         match (frame.frame_type(), frame.octets()[0]) {
-            (FrameType::Data, _) if frame.receiver().is_group() => Kind::GroupUnit,
-            (FrameType::Data, _) => Kind::Unit,
-            (_, PROBE_RESPONSE | AUTHENTICATION) => Kind::Answer,
-            (_, first) if ASSOCIATION_RESPONSES.contains(&first) => Kind::Answer,
-            _ => Kind::Word,
+            (FrameType::Data, _) if frame.receiver().is_group() => FrameKind::GroupUnit,
+            (FrameType::Data, _) => FrameKind::Unit,
+            (_, PROBE_RESPONSE | AUTHENTICATION) => FrameKind::Answer,
+            (_, first) if ASSOCIATION_RESPONSES.contains(&first) => FrameKind::Answer,
+            _ => FrameKind::Word,
         }
     }
 
@@ -79,11 +79,11 @@ impl Kind {
     /// and may last to the next beacon.
     pub fn lifetime(self) -> Nanos {
         match self {
-            Kind::Unit | Kind::Again => LONGEST,
-            Kind::GroupUnit => 100 * MILLISECOND,
-            Kind::AnswerToAll => 20 * MILLISECOND,
-            Kind::Answer => 200 * MILLISECOND,
-            Kind::Word | Kind::Own { .. } => 2 * SECOND,
+            FrameKind::Unit | FrameKind::Again => LONGEST,
+            FrameKind::GroupUnit => 100 * MILLISECOND,
+            FrameKind::AnswerToAll => 20 * MILLISECOND,
+            FrameKind::Answer => 200 * MILLISECOND,
+            FrameKind::Word | FrameKind::Own { .. } => 2 * SECOND,
         }
     }
 }
@@ -93,9 +93,9 @@ pub const MOST_LIFETIME: Nanos = 400 * MILLISECOND;
 
 /// A frame that waits for the air.
 #[derive(Debug)]
-pub struct Waiting {
+pub struct OutboundFrame {
     pub octets: Rc<Vec<u8>>,
     pub address: Address,
-    pub kind: Kind,
+    pub kind: FrameKind,
     pub since: Nanos,
 }

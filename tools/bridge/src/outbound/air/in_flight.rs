@@ -27,7 +27,7 @@ const MOST_STEP: Nanos = 100 * MILLISECOND;
 
 /// A frame by what the radio tells of it.
 #[derive(Debug, Clone, Copy, PartialEq, Eq)]
-pub struct Name {
+pub struct FrameName {
     /// The network that sends it.
     pub place: Place,
     /// Who it is for.
@@ -38,8 +38,8 @@ pub struct Name {
 
 /// A frame that the radio was given, and of which it hasn't told yet.
 #[derive(Debug)]
-struct Given<W> {
-    name: Name,
+struct FrameInFlight<W> {
+    name: FrameName,
     what: W,
     /// What of the radio's time it is reckoned to take from now on.
     reckoned: Nanos,
@@ -63,7 +63,7 @@ enum State {
     Missing,
 }
 
-impl<W> Given<W> {
+impl<W> FrameInFlight<W> {
     /// Whether the radio has it for so long that it must have let newer ones go before it.
     fn was_overtaken(&self, now: Nanos) -> bool {
         self.overdue.max(self.since + 2 * MOST_AT_ONCE) < now
@@ -77,8 +77,8 @@ fn at_pace(pace: u64, reckoned: Nanos) -> Nanos {
 
 /// The frames that the radio has, in the order in which it got them, and how fast it is.
 #[derive(Debug)]
-pub struct Flight<W> {
-    frames: VecDeque<Given<W>>,
+pub struct InFlight<W> {
+    frames: VecDeque<FrameInFlight<W>>,
     reckoned: Nanos,
     /// When the radio is reckoned to be done with all of them, though nobody has looked yet what became of some.
     done: Nanos,
@@ -90,11 +90,11 @@ pub struct Flight<W> {
     last_told: Nanos,
 }
 
-impl<W> Flight<W> {
+impl<W> InFlight<W> {
     /// The radio has nothing, and is taken to be as fast as is reckoned.
-    pub fn new() -> Flight<W> {
+    pub fn new() -> InFlight<W> {
         let took = PACE_PARTS * MILLISECOND;
-        Flight { frames: VecDeque::new(), reckoned: 0, done: 0, spent: took, took, pace: PACE_UNIT, last_told: 0 }
+        InFlight { frames: VecDeque::new(), reckoned: 0, done: 0, spent: took, took, pace: PACE_UNIT, last_told: 0 }
     }
 
     /// Whether a frame that is reckoned to take so long may be given to it now.
@@ -112,7 +112,7 @@ impl<W> Flight<W> {
     }
 
     /// The first frame that the radio may still have.
-    fn oldest(&self) -> Option<&Given<W>> {
+    fn oldest(&self) -> Option<&FrameInFlight<W>> {
         self.frames.iter().find(|given| given.state != State::Done)
     }
 
@@ -127,19 +127,27 @@ impl<W> Flight<W> {
     }
 
     /// The radio is given a frame.
-    pub fn give(&mut self, name: Name, what: W, reckoned: Nanos, now: Nanos) {
+    pub fn give(&mut self, name: FrameName, what: W, reckoned: Nanos, now: Nanos) {
         self.reckoned += reckoned;
         let behind_those_before = self.done.max(now) + self.takes(reckoned);
         self.done = behind_those_before.min(now + self.takes(self.reckoned));
         let overdue = now + 2 * (self.done - now);
-        self.frames.push_back(Given { name, what, reckoned, since: now, overdue, awaited: overdue, state: State::Out });
+        self.frames.push_back(FrameInFlight {
+            name,
+            what,
+            reckoned,
+            since: now,
+            overdue,
+            awaited: overdue,
+            state: State::Out,
+        });
     }
 
     /// The radio told of a frame at this time, which has taken as long as `took` says of it; answers what was given.
     /// `None` of a frame that it doesn't have.
-    pub fn told(&mut self, name: Name, now: Nanos, took: impl FnOnce(&W) -> Nanos) -> Option<W> {
+    pub fn reported(&mut self, name: FrameName, now: Nanos, took: impl FnOnce(&W) -> Nanos) -> Option<W> {
         let found = self.frames.iter().position(|given| given.name == name)?;
-        let Given { what, reckoned, since, overdue, .. } = self.frames.remove(found)?;
+        let FrameInFlight { what, reckoned, since, overdue, .. } = self.frames.remove(found)?;
         self.reckoned -= reckoned;
         if overdue < now {
             self.wait_anew(found, name, now);
@@ -155,7 +163,7 @@ impl<W> Flight<W> {
     }
 
     /// A frame took longer than was reckoned: those for others that the radio got after it have their time from now on.
-    fn wait_anew(&mut self, from: usize, late: Name, now: Nanos) {
+    fn wait_anew(&mut self, from: usize, late: FrameName, now: Nanos) {
         let (pace, mut reckoned) = (self.pace, 0);
         for given in self.frames.iter_mut().skip(from) {
             reckoned += given.reckoned;
@@ -168,7 +176,7 @@ impl<W> Flight<W> {
     }
 
     /// The radio sent a frame before those up to here that it got earlier for others: these are awaited for longer.
-    fn overtake(&mut self, until: usize, sent: Name, took: Nanos) {
+    fn overtake(&mut self, until: usize, sent: FrameName, took: Nanos) {
         let longer = 2 * self.takes(took);
         for given in self.frames.iter_mut().take(until) {
             if (given.name.place, given.name.receiver) != (sent.place, sent.receiver) {
@@ -178,7 +186,7 @@ impl<W> Flight<W> {
     }
 
     /// The radio was never given this frame.
-    pub fn forget(&mut self, name: Name) {
+    pub fn forget(&mut self, name: FrameName) {
         if let Some(place) = self.frames.iter().rposition(|given| given.name == name) {
             self.reckoned -= self.frames.remove(place).map_or(0, |given| given.reckoned);
         }
@@ -219,13 +227,13 @@ impl<W> Flight<W> {
     }
 
     /// What the radio told was looked at since `settle`: a frame that wasn't in it may be out after all.
-    pub fn looked(&mut self) {
+    pub fn reports_read(&mut self) {
         let done = self.frames.iter_mut().filter(|given| given.state == State::Done);
         done.for_each(|given| given.state = State::Missing);
     }
 
     /// Takes out the frames of which nothing will be told any more at this time.
-    pub fn expire(&mut self, now: Nanos) -> Vec<Name> {
+    pub fn expire(&mut self, now: Nanos) -> Vec<FrameName> {
         let mut gone = Vec::new();
         while let Some(given) = self.frames.front().filter(|given| given.since + MOST_OUT <= now) {
             gone.push(given.name);
@@ -236,7 +244,7 @@ impl<W> Flight<W> {
     }
 
     /// The radio has nothing any more: answers what it had.
-    pub fn clear(&mut self) -> Vec<Name> {
+    pub fn clear(&mut self) -> Vec<FrameName> {
         (self.reckoned, self.done) = (0, 0);
         self.frames.drain(..).map(|given| given.name).collect()
     }

@@ -32,7 +32,7 @@ impl Late {
 /// The stations whose units were late some time ago.
 #[derive(Debug, Default)]
 pub struct Lateness {
-    stations: BTreeMap<(Place, Address), Late>,
+    links: BTreeMap<(Place, Address), Late>,
     /// When those were taken out that can be forgotten: seldom enough that a call's work doesn't grow with the others.
     swept: Nanos,
 }
@@ -40,7 +40,7 @@ pub struct Lateness {
 impl Lateness {
     /// The first unit that waits for a station is late at this time, or it isn't. Whether it is dropped.
     pub fn look(&mut self, place: Place, station: Address, is_late: bool, now: Nanos) -> bool {
-        match self.stations.get_mut(&(place, station)).filter(|late| !late.is_over(now)) {
+        match self.links.get_mut(&(place, station)).filter(|late| !late.is_over(now)) {
             Some(late) => {
                 late.looked = now;
                 late.in_time_since = if is_late { None } else { late.in_time_since.or(Some(now)) };
@@ -49,9 +49,9 @@ impl Lateness {
             None if is_late => {
                 if now.saturating_sub(self.swept) >= LASTING {
                     self.swept = now;
-                    self.stations.retain(|_, late| !late.is_over(now));
+                    self.links.retain(|_, late| !late.is_over(now));
                 }
-                self.stations.insert((place, station), Late { since: now, in_time_since: None, looked: now });
+                self.links.insert((place, station), Late { since: now, in_time_since: None, looked: now });
                 false
             }
             None => false,
@@ -103,9 +103,9 @@ mod tests {
         for number in 0..100 {
             lateness.look(0, Address::of([2, 0, 0, 0, 0, number]), true, u64::from(number));
         }
-        assert_eq!(lateness.stations.len(), 100);
+        assert_eq!(lateness.links.len(), 100);
         assert!(!lateness.look(1, STATION, true, LASTING + 99));
         assert!(!lateness.look(0, STATION, true, LASTING + 99) && !lateness.look(0, OTHER, false, LASTING + 99));
-        assert_eq!(lateness.stations.len(), 2);
+        assert_eq!(lateness.links.len(), 2);
     }
 }

@@ -17,7 +17,7 @@ use crate::formats::radiotap::{Outcome, MOST_RETRIES};
 use crate::network::Network;
 use crate::os::clock::Nanos;
 use crate::outbound::air::in_flight::MOST_OUT;
-use crate::outbound::air::rate_control::{Choice, Rates};
+use crate::outbound::air::rate_control::{Choice, RateControl};
 use crate::outbound::air::scheduler::Place;
 
 /// How long the frames for a station wait at most for what became of the one before.
@@ -69,8 +69,8 @@ struct Last {
 
 /// What is known of a station.
 #[derive(Debug)]
-struct Station {
-    rates: Rates,
+struct Link {
+    rates: RateControl,
     last: Option<Last>,
     /// Until when frames for it wait, where they do.
     waits_until: Option<Nanos>,
@@ -82,20 +82,20 @@ struct Station {
 
 /// The stations of one network.
 #[derive(Debug)]
-struct Members {
+struct NetworkLinks {
     network: Network,
     /// Its lowest basic rate.
     lowest: u8,
-    stations: AddressMap<Station>,
-    joining: VecDeque<(Address, Rates)>,
+    links: AddressMap<Link>,
+    joining: VecDeque<(Address, RateControl)>,
     /// Who asked for this network alone, by a probe request that isn't answered yet.
     asking: VecDeque<Address>,
 }
 
 /// The stations of all networks.
 #[derive(Debug)]
-pub struct Stations {
-    networks: Vec<Members>,
+pub struct Links {
+    networks: Vec<NetworkLinks>,
     waits: VecDeque<(Nanos, Place, Address)>,
     turns: u64,
     vain: u32,
@@ -103,17 +103,17 @@ pub struct Stations {
     unacknowledged: Unacknowledged,
 }
 
-impl Stations {
+impl Links {
     /// No station of these networks yet.
-    pub fn new(networks: &[Network]) -> Stations {
-        let members = |network: &Network| Members {
+    pub fn new(networks: &[Network]) -> Links {
+        let members = |network: &Network| NetworkLinks {
             network: network.clone(),
             lowest: network.lowest_basic_rate(),
-            stations: AddressMap::default(),
+            links: AddressMap::default(),
             joining: VecDeque::new(),
             asking: VecDeque::new(),
         };
-        Stations {
+        Links {
             networks: networks.iter().map(members).collect(),
             waits: VecDeque::new(),
             turns: 0,
@@ -136,7 +136,7 @@ impl Stations {
             members.asking.truncate(MOST_ASKING - 1);
             members.asking.push_front(sender);
         }
-        let found = requested_rates(frame).and_then(|rates| Rates::common(&rates, &members.network.rates));
+        let found = requested_rates(frame).and_then(|rates| RateControl::common(&rates, &members.network.rates));
         if let Some(rates) = found {
             members.joining.retain(|(joining, _)| *joining != sender);
             members.joining.truncate(MOST_JOINING - 1);
@@ -153,21 +153,21 @@ impl Stations {
 
     /// A network tells a station that it is associated: the rates of its request are its rates.
     pub fn join(&mut self, place: Place, address: Address) {
-        let Members { stations, joining, .. } = &mut self.networks[place];
+        let NetworkLinks { links, joining, .. } = &mut self.networks[place];
         let found = joining.iter().position(|(joining, _)| *joining == address);
         if let Some((_, rates)) = found.and_then(|found| joining.remove(found)) {
-            if stations.len() >= MOST_STATIONS && !stations.contains_key(&address) {
-                let oldest = stations.iter().min_by_key(|(_, station)| station.used).map(|(address, _)| *address);
-                oldest.map(|address| stations.remove(&address));
+            if links.len() >= MOST_STATIONS && !links.contains_key(&address) {
+                let oldest = links.iter().min_by_key(|(_, station)| station.used).map(|(address, _)| *address);
+                oldest.map(|address| links.remove(&address));
             }
-            let station = Station { rates, last: None, waits_until: None, goes_since: 0, used: self.turns };
-            stations.insert(address, station);
+            let station = Link { rates, last: None, waits_until: None, goes_since: 0, used: self.turns };
+            links.insert(address, station);
         }
     }
 
     /// Whether the rates of a station are known, and used.
     pub fn knows(&self, place: Place, address: Address) -> bool {
-        self.networks[place].stations.contains_key(&address)
+        self.networks[place].links.contains_key(&address)
     }
 
     /// A network's lowest basic rate.
@@ -177,22 +177,22 @@ impl Stations {
 
     /// Since when frames for a station don't wait for what became of one before.
     pub fn goes_since(&self, place: Place, address: Address) -> Nanos {
-        self.networks[place].stations.get(&address).map_or(0, |station| station.goes_since)
+        self.networks[place].links.get(&address).map_or(0, |station| station.goes_since)
     }
 
     /// Whether what is sent to a station comes through as good as surely, as far as one knows.
     pub fn is_sure(&self, place: Place, address: Address) -> bool {
-        self.networks[place].stations.get(&address).map_or(true, |station| station.rates.are_sure())
+        self.networks[place].links.get(&address).map_or(true, |station| station.rates.are_sure())
     }
 
     /// Whether the last unit to a station was lost.
     pub fn is_in_doubt(&self, place: Place, address: Address) -> bool {
-        self.networks[place].stations.get(&address).map_or(false, |station| station.rates.is_in_doubt())
+        self.networks[place].links.get(&address).map_or(false, |station| station.rates.is_in_doubt())
     }
 
     /// At which rate the next frame goes to a station, unless it is a sample.
     pub fn expected_rate(&self, place: Place, address: Address, is_unit: bool) -> u8 {
-        let station = self.networks[place].stations.get(&address).filter(|_| is_unit && self.is_told());
+        let station = self.networks[place].links.get(&address).filter(|_| is_unit && self.is_told());
         station.map_or_else(|| self.lowest(place), |station| station.rates.plainly().rate)
     }
 
@@ -207,10 +207,10 @@ impl Stations {
         now: Nanos,
     ) -> (Choice, bool) {
         let is_told = self.is_told();
-        let Members { lowest, stations, .. } = &mut self.networks[place];
+        let NetworkLinks { lowest, links, .. } = &mut self.networks[place];
         let plainly = Choice { rate: *lowest, retries: MOST_RETRIES, is_sample: false };
         self.turns += 1;
-        let station = match stations.get_mut(&address).filter(|_| is_told) {
+        let station = match links.get_mut(&address).filter(|_| is_told) {
             Some(station) => station,
             None => return (plainly, false),
         };
@@ -233,8 +233,8 @@ impl Stations {
     }
 
     /// The radio tells what became of a frame that it was given for a station.
-    pub fn told(&mut self, place: Place, address: Address, frame: &[u8], outcome: Outcome, now: Nanos) -> Next {
-        let station = match self.networks[place].stations.get_mut(&address) {
+    pub fn reported(&mut self, place: Place, address: Address, frame: &[u8], outcome: Outcome, now: Nanos) -> Next {
+        let station = match self.networks[place].links.get_mut(&address) {
             Some(station) => station,
             None => return Next::Nothing,
         };
@@ -247,7 +247,7 @@ impl Stations {
             let rate = outcome.rate.or_else(|| last.as_ref().map(|last| last.choice.rate));
             let tries = outcome.retries.saturating_add(1);
             let rates = &mut station.rates;
-            rate.into_iter().for_each(|rate| rates.told(rate, tries, outcome.is_acknowledged, is_sample));
+            rate.into_iter().for_each(|rate| rates.reported(rate, tries, outcome.is_acknowledged, is_sample));
         }
         let is_lost = is_unit && !outcome.is_acknowledged;
         let next = match last {
@@ -271,7 +271,7 @@ impl Stations {
     /// The first of the waits is one that hasn't ended, or there is none: nobody is woken for one that has.
     fn forget_ended_waits(&mut self) {
         while let Some((until, place, address)) = self.waits.front() {
-            let station = self.networks[*place].stations.get(address);
+            let station = self.networks[*place].links.get(address);
             if station.map_or(false, |station| station.waits_until == Some(*until)) {
                 break;
             }
@@ -281,7 +281,7 @@ impl Stations {
 
     /// Whether what comes next for a station waits for what becomes of the frame before.
     pub fn waits(&self, place: Place, address: Address) -> bool {
-        self.networks[place].stations.get(&address).map_or(false, |station| station.waits_until.is_some())
+        self.networks[place].links.get(&address).map_or(false, |station| station.waits_until.is_some())
     }
 
     /// When `expire` has something to do.
@@ -293,7 +293,7 @@ impl Stations {
     pub fn expire(&mut self, now: Nanos) -> Option<(Place, Address)> {
         while let Some((until, place, address)) = self.waits.front().copied().filter(|(until, ..)| *until <= now) {
             self.waits.pop_front();
-            let station = self.networks[place].stations.get_mut(&address);
+            let station = self.networks[place].links.get_mut(&address);
             if let Some(station) = station.filter(|station| station.waits_until == Some(until)) {
                 station.go(now);
                 self.vain += u32::from(!self.was_told);
@@ -314,7 +314,7 @@ impl Stations {
     }
 }
 
-impl Station {
+impl Link {
     /// What comes next for it waits no more; answers whether it did.
     fn go(&mut self, now: Nanos) -> bool {
         let waited = self.waits_until.take().is_some();
@@ -387,9 +387,9 @@ mod tests {
         frame(control, BSSID, from, &[vec![0; fixed], elements].concat())
     }
 
-    fn stations() -> Stations {
+    fn links() -> Links {
         let network = Network { rates: RATES.to_vec(), ..network(Address::of(BSSID)) };
-        Stations::new(&[network.clone(), Network { bssid: Address::of([2, 0, 0, 0, 1, 2]), ..network }])
+        Links::new(&[network.clone(), Network { bssid: Address::of([2, 0, 0, 0, 1, 2]), ..network }])
     }
 
     fn made_up(number: usize) -> [u8; 6] {
@@ -397,9 +397,9 @@ mod tests {
         [2, 0, 0, 9, high, low]
     }
 
-    fn join(stations: &mut Stations, place: Place, from: [u8; 6]) {
-        stations.hear(place, Frame::of(&request(0, from)).unwrap());
-        stations.join(place, Address::of(from));
+    fn join(links: &mut Links, place: Place, from: [u8; 6]) {
+        links.hear(place, Frame::of(&request(0, from)).unwrap());
+        links.join(place, Address::of(from));
     }
 
     #[test]
@@ -414,51 +414,51 @@ mod tests {
     /// A flood in one network pushes out that network's own.
     #[test]
     fn no_more_stations_of_a_network_are_known_than_there_is_room_for() {
-        let mut stations = stations();
-        join(&mut stations, 1, STATION);
+        let mut links = links();
+        join(&mut links, 1, STATION);
         (0..=MOST_STATIONS).for_each(|number| {
-            join(&mut stations, 0, made_up(number));
+            join(&mut links, 0, made_up(number));
             let unit = Rc::new(frame(0x08, made_up(number), BSSID, &[]));
-            stations.choose(0, Address::of(made_up(number)), &unit, false, 0);
+            links.choose(0, Address::of(made_up(number)), &unit, false, 0);
         });
-        assert_eq!(stations.networks[0].stations.len(), MOST_STATIONS);
-        assert!(!stations.knows(0, Address::of(made_up(0))) && stations.knows(0, Address::of(made_up(1))));
-        assert!(stations.knows(1, Address::of(STATION)) && !stations.knows(0, Address::of(STATION)));
+        assert_eq!(links.networks[0].links.len(), MOST_STATIONS);
+        assert!(!links.knows(0, Address::of(made_up(0))) && links.knows(0, Address::of(made_up(1))));
+        assert!(links.knows(1, Address::of(STATION)) && !links.knows(0, Address::of(STATION)));
     }
 
     #[test]
     fn requests_that_await_an_answer_are_bounded_by_network() {
-        let mut stations = stations();
-        stations.hear(1, Frame::of(&request(0, STATION)).unwrap());
-        (0..=MOST_JOINING).for_each(|number| stations.hear(0, Frame::of(&request(0, made_up(number))).unwrap()));
+        let mut links = links();
+        links.hear(1, Frame::of(&request(0, STATION)).unwrap());
+        (0..=MOST_JOINING).for_each(|number| links.hear(0, Frame::of(&request(0, made_up(number))).unwrap()));
         for (place, from, is_known) in [(0, made_up(0), false), (0, made_up(1), true), (1, STATION, true)] {
-            stations.join(place, Address::of(from));
-            assert_eq!(stations.knows(place, Address::of(from)), is_known);
+            links.join(place, Address::of(from));
+            assert_eq!(links.knows(place, Address::of(from)), is_known);
         }
     }
 
     #[test]
     fn who_asked_for_a_network_alone_is_answered_once() {
-        let mut stations = stations();
+        let mut links = links();
         let probe = frame(PROBE_REQUEST, BSSID, STATION, &[0, 0]);
-        (0..2).for_each(|_| stations.hear(0, Frame::of(&probe).unwrap()));
-        assert!(!stations.answers(1, Address::of(STATION)));
-        assert!(stations.answers(0, Address::of(STATION)) && !stations.answers(0, Address::of(STATION)));
+        (0..2).for_each(|_| links.hear(0, Frame::of(&probe).unwrap()));
+        assert!(!links.answers(1, Address::of(STATION)));
+        assert!(links.answers(0, Address::of(STATION)) && !links.answers(0, Address::of(STATION)));
         (0..=MOST_ASKING).for_each(|number| {
-            stations.hear(0, Frame::of(&frame(PROBE_REQUEST, BSSID, made_up(number), &[])).unwrap());
+            links.hear(0, Frame::of(&frame(PROBE_REQUEST, BSSID, made_up(number), &[])).unwrap());
         });
-        assert!(!stations.answers(0, Address::of(made_up(0))) && stations.answers(0, Address::of(made_up(1))));
+        assert!(!links.answers(0, Address::of(made_up(0))) && links.answers(0, Address::of(made_up(1))));
     }
 
     #[test]
     fn what_is_told_of_strangers_changes_nothing() {
-        let mut stations = stations();
-        join(&mut stations, 0, STATION);
+        let mut links = links();
+        join(&mut links, 0, STATION);
         let outcome = Outcome { is_acknowledged: false, retries: 7, rate: Some(2) };
         let stranger = frame(0x08, [2, 0, 0, 0, 9, 9], BSSID, &[]);
         for cut in 0..=stranger.len() {
-            assert_eq!(stations.told(0, Address::of([2, 0, 0, 0, 9, 9]), &stranger[..cut], outcome, 1), Next::Nothing);
+            assert_eq!(links.reported(0, Address::of([2, 0, 0, 0, 9, 9]), &stranger[..cut], outcome, 1), Next::Nothing);
         }
-        assert_eq!((stations.unacknowledged(), stations.due()), (Unacknowledged::default(), None));
+        assert_eq!((links.unacknowledged(), links.due()), (Unacknowledged::default(), None));
     }
 }

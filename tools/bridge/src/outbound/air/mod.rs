@@ -27,11 +27,11 @@ use crate::os::sockets::Port;
 use crate::outbound::air::account::Account;
 use crate::outbound::air::air_time::Cost;
 use crate::outbound::air::beacons::Beacons;
-use crate::outbound::air::frame::{Receiver, Waiting};
-use crate::outbound::air::in_flight::{Flight, Name};
+use crate::outbound::air::frame::{OutboundFrame, Receiver};
+use crate::outbound::air::in_flight::{FrameName, InFlight};
 use crate::outbound::air::lateness::Lateness;
-use crate::outbound::air::links::{Stations, Unacknowledged};
-use crate::outbound::air::scheduler::{Place, Shares};
+use crate::outbound::air::links::{Links, Unacknowledged};
+use crate::outbound::air::scheduler::{Place, Scheduler};
 use crate::outbound::counts::Counts;
 use crate::outbound::gate::Gate;
 
@@ -48,12 +48,12 @@ struct Sent {
 pub struct Transmitter<P> {
     gate: Gate<P>,
     beacons: Beacons<P>,
-    shares: Shares<Receiver, Waiting>,
-    stations: Stations,
+    scheduler: Scheduler<Receiver, OutboundFrame>,
+    links: Links,
     lateness: Lateness,
-    flight: Flight<Sent>,
+    in_flight: InFlight<Sent>,
     /// Frames that are the radio's turn, and for which its socket has no room yet.
-    chosen: VecDeque<(Name, Vec<u8>)>,
+    chosen: VecDeque<(FrameName, Vec<u8>)>,
     /// The room of frames that were sent, for those that come.
     spare: Vec<Vec<u8>>,
     accounts: Vec<Account>,
@@ -80,10 +80,10 @@ impl<P: Port> Transmitter<P> {
         Transmitter {
             gate: Gate::new(port),
             beacons: Beacons::new(beacons, networks.len()),
-            shares: Shares::new(networks.iter().map(|network| network.weight)),
-            stations: Stations::new(networks),
+            scheduler: Scheduler::new(networks.iter().map(|network| network.weight)),
+            links: Links::new(networks),
             lateness: Lateness::default(),
-            flight: Flight::new(),
+            in_flight: InFlight::new(),
             chosen: VecDeque::new(),
             spare: Vec::new(),
             accounts: vec![Account::default(); networks.len()],
@@ -120,17 +120,17 @@ impl<P: Port> Transmitter<P> {
 
     /// What became so far of units that nobody acknowledged.
     pub fn unacknowledged(&self) -> Unacknowledged {
-        self.stations.unacknowledged()
+        self.links.unacknowledged()
     }
 
     /// A frame was heard that is for this network alone.
     pub fn heard(&mut self, place: Place, frame: Frame<'_>) {
-        self.stations.hear(place, frame);
+        self.links.hear(place, frame);
     }
 
     /// A station is associated, by this request, since before this bridge began.
     pub fn restore(&mut self, place: Place, request: Frame<'_>) {
-        self.stations.hear(place, request);
+        self.links.hear(place, request);
         if let Some(address) = request.transmitter() {
             self.join(place, address);
         }
@@ -138,13 +138,13 @@ impl<P: Port> Transmitter<P> {
 
     /// Whether a frame waits that may go now.
     pub fn has_room(&self) -> bool {
-        let waits = !self.chosen.is_empty() || self.shares.has_ready() && !self.is_full;
+        let waits = !self.chosen.is_empty() || self.scheduler.has_ready() && !self.is_full;
         waits && !self.gate.is_blocked() || self.beacons.has_room()
     }
 
     /// Whether nothing waits, for room or to be sent.
     pub fn is_idle(&self) -> bool {
-        self.shares.is_empty() && self.chosen.is_empty() && self.beacons.is_empty() && self.gate.is_settled()
+        self.scheduler.is_empty() && self.chosen.is_empty() && self.beacons.is_empty() && self.gate.is_settled()
     }
 
     /// Sends the beacons that wait.

@@ -13,36 +13,36 @@ pub type Place = usize;
 /// A network as the library sees it. The bridge writes `waits` alone once it is made.
 #[repr(C)]
 #[derive(Debug, Clone, Copy)]
-struct Lane {
+struct NetworkDebt {
     debt: u64,
     scale: u32,
     waits: bool,
 }
 
 extern "C" {
-    fn air_share_choose(lanes: *const Lane, number: usize) -> usize;
-    fn air_share_served(lanes: *mut Lane, number: usize, place: usize, cost: u32) -> bool;
-    fn air_share_told(lanes: *mut Lane, number: usize, place: usize, more: u32) -> bool;
+    fn air_share_choose(debts: *const NetworkDebt, number: usize) -> usize;
+    fn air_share_served(debts: *mut NetworkDebt, number: usize, place: usize, cost: u32) -> bool;
+    fn air_share_told(debts: *mut NetworkDebt, number: usize, place: usize, more: u32) -> bool;
 }
 
 /// The networks of a radio, what they owe, and which of them have a frame waiting for a turn.
 #[derive(Debug)]
-pub struct Lanes {
-    lanes: Vec<Lane>,
+pub struct NetworkDebts {
+    debts: Vec<NetworkDebt>,
     /// How many of them have a frame waiting.
     waiting: usize,
 }
 
-impl Lanes {
+impl NetworkDebts {
     /// Networks of these weights, from 1 to `MOST_WEIGHT`, which owe nothing and have nothing waiting.
-    pub fn new(weights: impl IntoIterator<Item = u8>) -> Lanes {
+    pub fn new(weights: impl IntoIterator<Item = u8>) -> NetworkDebts {
         let scales = weights.into_iter().map(|weight| SCALE / u32::from(weight.clamp(1, MOST_WEIGHT)));
-        Lanes { lanes: scales.map(|scale| Lane { debt: 0, scale, waits: false }).collect(), waiting: 0 }
+        NetworkDebts { debts: scales.map(|scale| NetworkDebt { debt: 0, scale, waits: false }).collect(), waiting: 0 }
     }
 
     /// Whether a network has a frame waiting for a turn, from now on.
     pub fn set_waits(&mut self, place: Place, waits: bool) {
-        let before = std::mem::replace(&mut self.lanes[place].waits, waits);
+        let before = std::mem::replace(&mut self.debts[place].waits, waits);
         self.waiting = self.waiting + usize::from(waits) - usize::from(before);
     }
 
@@ -54,23 +54,23 @@ impl Lanes {
     /// Whose turn it is: of those that have a frame waiting the one that owes least, and of several the one of the
     /// lowest place. `None` where none has.
     pub fn choose(&self) -> Option<Place> {
-        // SAFETY: the lanes are as many as is said, of the library's layout, and are only read.
-        let place = unsafe { air_share_choose(self.lanes.as_ptr(), self.lanes.len()) };
-        (place < self.lanes.len()).then_some(place)
+        // SAFETY: the debts are as many as is said, of the library's layout, and are only read.
+        let place = unsafe { air_share_choose(self.debts.as_ptr(), self.debts.len()) };
+        (place < self.debts.len()).then_some(place)
     }
 
     /// The network whose turn it is sends a frame that is reckoned to take so many microseconds; false, and nothing
     /// changes, where it is another's turn.
     pub fn serve(&mut self, place: Place, cost: u32) -> bool {
-        // SAFETY: the lanes are as many as is said, of the library's layout, and nobody else reads or writes them.
-        unsafe { air_share_served(self.lanes.as_mut_ptr(), self.lanes.len(), place, cost) }
+        // SAFETY: the debts are as many as is said, of the library's layout, and nobody else reads or writes them.
+        unsafe { air_share_served(self.debts.as_mut_ptr(), self.debts.len(), place, cost) }
     }
 
     /// A network's frame took so many microseconds more than was reckoned. A debt that would be too large for its
     /// number stays as it is.
-    pub fn told(&mut self, place: Place, more: u32) {
-        // SAFETY: the lanes are as many as is said, of the library's layout, and nobody else reads or writes them.
-        unsafe { air_share_told(self.lanes.as_mut_ptr(), self.lanes.len(), place, more) };
+    pub fn correct(&mut self, place: Place, more: u32) {
+        // SAFETY: the debts are as many as is said, of the library's layout, and nobody else reads or writes them.
+        unsafe { air_share_told(self.debts.as_mut_ptr(), self.debts.len(), place, more) };
     }
 }
 
@@ -80,28 +80,28 @@ mod tests {
 
     #[test]
     fn the_library_tests_its_arguments_itself() {
-        let mut lanes = Lanes::new([1, 0, 200]);
-        assert_eq!((lanes.choose(), lanes.any_waits()), (None, false));
-        assert_eq!(lanes.lanes.iter().map(|lane| lane.scale).collect::<Vec<_>>(), [SCALE, SCALE, SCALE / 16]);
-        lanes.set_waits(1, true);
-        assert_eq!(lanes.choose(), Some(1));
-        assert!(!lanes.serve(0, 5) && !lanes.serve(3, 5) && !lanes.serve(usize::MAX, 5));
-        assert!(lanes.serve(1, 5));
-        lanes.told(3, 5);
-        lanes.told(usize::MAX, 5);
-        lanes.told(2, u32::MAX);
+        let mut debts = NetworkDebts::new([1, 0, 200]);
+        assert_eq!((debts.choose(), debts.any_waits()), (None, false));
+        assert_eq!(debts.debts.iter().map(|one| one.scale).collect::<Vec<_>>(), [SCALE, SCALE, SCALE / 16]);
+        debts.set_waits(1, true);
+        assert_eq!(debts.choose(), Some(1));
+        assert!(!debts.serve(0, 5) && !debts.serve(3, 5) && !debts.serve(usize::MAX, 5));
+        assert!(debts.serve(1, 5));
+        debts.correct(3, 5);
+        debts.correct(usize::MAX, 5);
+        debts.correct(2, u32::MAX);
         assert_eq!(
-            lanes.lanes.iter().map(|lane| lane.debt).collect::<Vec<_>>(),
+            debts.debts.iter().map(|one| one.debt).collect::<Vec<_>>(),
             [0, 5 * 720_720, 45_045 * u64::from(u32::MAX)]
         );
-        assert_eq!(Lanes::new([]).choose(), None);
+        assert_eq!(NetworkDebts::new([]).choose(), None);
     }
 
     #[test]
     fn a_debt_never_turns() {
-        let mut lanes = Lanes::new([1]);
-        (0..10_000).for_each(|_| lanes.told(0, u32::MAX));
-        let most = lanes.lanes[0].debt;
+        let mut debts = NetworkDebts::new([1]);
+        (0..10_000).for_each(|_| debts.correct(0, u32::MAX));
+        let most = debts.debts[0].debt;
         assert!(most > u64::MAX - SCALE as u64 * u64::from(u32::MAX));
     }
 }

@@ -123,7 +123,7 @@ fn most_throughput(rate: u8) -> f64 {
 
 /// The rates of one station, slowest first.
 #[derive(Debug, Clone)]
-pub struct Rates {
+pub struct RateControl {
     rates: Vec<Rate>,
     /// The one that brings the most through; the slowest where none brings anything.
     best: usize,
@@ -138,15 +138,15 @@ pub struct Rates {
     turn: usize,
 }
 
-impl Rates {
+impl RateControl {
     /// The rates that a station's elements and a network's have both, whether basic or not; `None` where they have none
     /// of the band's. The slowest is taken for good until a unit shows otherwise.
-    pub fn common(station: &[u8], network: &[u8]) -> Option<Rates> {
+    pub fn common(station: &[u8], network: &[u8]) -> Option<RateControl> {
         let has = |octets: &[u8], rate: u8| octets.iter().any(|octet| octet & !BASIC == rate);
         let common = BAND.iter().copied().filter(|rate| has(station, *rate) && has(network, *rate));
         let mut rates: Vec<Rate> = common.map(Rate::untried).collect();
         rates.first_mut()?.known = Known::Share(1.0);
-        Some(Rates { rates, best: 0, of_all: 1.0, failures: 0, since_sample: 0, sampled: 0, turn: 0 })
+        Some(RateControl { rates, best: 0, of_all: 1.0, failures: 0, since_sample: 0, sampled: 0, turn: 0 })
     }
 
     /// How the next unit is to be sent, at this time since any fixed moment, where the radio is busy or isn't.
@@ -198,7 +198,7 @@ impl Rates {
     }
 
     /// What became of a unit that was sent at a rate: so many tries, the last of which was acknowledged, or none.
-    pub fn told(&mut self, rate: u8, tries: u8, is_acknowledged: bool, is_sample: bool) {
+    pub fn reported(&mut self, rate: u8, tries: u8, is_acknowledged: bool, is_sample: bool) {
         let place = match self.rates.iter().position(|known| known.rate == rate) {
             Some(place) => place,
             None => return,

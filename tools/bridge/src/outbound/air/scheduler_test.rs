@@ -58,7 +58,7 @@ impl Model {
         Some(frame)
     }
 
-    fn told(&mut self, place: Place, receiver: u8, more: u32) {
+    fn correct(&mut self, place: Place, receiver: u8, more: u32) {
         self.networks[place].debt += self.networks[place].scale * u128::from(more);
         self.of(place, receiver).debt += u128::from(more);
     }
@@ -132,9 +132,9 @@ impl Watch {
 const RECEIVERS: usize = 5;
 
 /// The frame that goes next, which costs so much.
-fn next<R: Copy + Ord + Hash, T>(shares: &mut Shares<R, T>, cost: u32) -> Option<T> {
-    let place = shares.first()?.0;
-    shares.serve(place, cost)
+fn next<R: Copy + Ord + Hash, T>(scheduler: &mut Scheduler<R, T>, cost: u32) -> Option<T> {
+    let place = scheduler.first()?.0;
+    scheduler.serve(place, cost)
 }
 
 /// A million calls in any order: the same frames in the same order as by the slow model, and what the sentences
@@ -146,8 +146,8 @@ fn any_calls_go_by_the_rule() {
     for run in 0..500 {
         let number = 1 + seeded.below(4);
         let weights: Vec<u8> = (0..number).map(|_| 1 + seeded.below(16) as u8).collect();
-        let (mut shares, mut model, mut watch) =
-            (Shares::new(weights.clone()), Model::new(&weights), Watch::new(&weights));
+        let (mut scheduler, mut model, mut watch) =
+            (Scheduler::new(weights.clone()), Model::new(&weights), Watch::new(&weights));
         let (mut pushed, mut gone, pushes) = (0u32, 0u32, 1 + seeded.below(6));
         for _ in 0..2000 {
             let (place, receiver) = (seeded.below(number), seeded.below(RECEIVERS) as u8);
@@ -155,11 +155,11 @@ fn any_calls_go_by_the_rule() {
                 0..=3 => {
                     let cost = 1 + seeded.below(1000) as u32;
                     let first = model.first();
-                    assert_eq!(shares.first().map(|(place, receiver, frame)| (place, receiver, *frame)), first);
+                    assert_eq!(scheduler.first().map(|(place, receiver, frame)| (place, receiver, *frame)), first);
                     let not_next = (0..number).filter(|other| first.map_or(true, |(place, ..)| place != *other));
-                    not_next.for_each(|other| assert_eq!(shares.serve(other, cost), None));
+                    not_next.for_each(|other| assert_eq!(scheduler.serve(other, cost), None));
                     let next = first.map_or(0, |(place, ..)| place);
-                    assert_eq!(shares.serve(next, cost), model.serve(cost));
+                    assert_eq!(scheduler.serve(next, cost), model.serve(cost));
                     if let Some((place, _, _)) = first {
                         watch.gets(place, u64::from(cost), true);
                         (served, gone) = (served + 1, gone + 1);
@@ -167,42 +167,42 @@ fn any_calls_go_by_the_rule() {
                 }
                 4 => {
                     let more = seeded.below(300) as u32;
-                    shares.told(place, receiver, more);
-                    model.told(place, receiver, more);
+                    scheduler.correct(place, receiver, more);
+                    model.correct(place, receiver, more);
                     watch.gets(place, u64::from(more), false);
                 }
                 5 => {
-                    shares.hold(place, receiver);
+                    scheduler.hold(place, receiver);
                     model.of(place, receiver).is_held = true;
                 }
                 6 => {
-                    shares.release(place, receiver);
+                    scheduler.release(place, receiver);
                     model.of(place, receiver).is_held = false;
                 }
                 7 => {
                     let waiting = &mut model.of(place, receiver).waiting;
                     let dropped = if waiting.is_empty() { None } else { Some(waiting.remove(0)) };
-                    assert_eq!(shares.drop_first(place, receiver), dropped);
+                    assert_eq!(scheduler.drop_first(place, receiver), dropped);
                     gone += u32::from(dropped.is_some());
                 }
                 8 => {
-                    shares.push_first(place, receiver, pushed);
+                    scheduler.push_first(place, receiver, pushed);
                     model.of(place, receiver).waiting.insert(0, pushed);
                     pushed += 1;
                 }
                 _ => {
-                    shares.push(place, receiver, pushed);
+                    scheduler.push(place, receiver, pushed);
                     model.of(place, receiver).waiting.push(pushed);
                     pushed += 1;
                 }
             }
             watch.look(&model);
-            assert_eq!(shares.waiting(place, receiver), model.of(place, receiver).waiting.len());
-            assert_eq!(shares.is_held(place, receiver), model.of(place, receiver).is_held);
+            assert_eq!(scheduler.waiting(place, receiver), model.of(place, receiver).waiting.len());
+            assert_eq!(scheduler.is_held(place, receiver), model.of(place, receiver).is_held);
         }
         let waiting: usize =
             model.networks.iter().flat_map(|network| &network.receivers).map(|one| one.waiting.len()).sum();
-        assert_eq!((pushed, shares.is_empty()), (gone + waiting as u32, waiting == 0), "{run}");
+        assert_eq!((pushed, scheduler.is_empty()), (gone + waiting as u32, waiting == 0), "{run}");
     }
     assert!(served > 100_000, "{served}");
 }
@@ -210,15 +210,15 @@ fn any_calls_go_by_the_rule() {
 /// Networks that all want all get what their weights say, whatever their frames cost.
 #[test]
 fn who_wants_all_gets_its_share() {
-    let mut shares = Shares::new([1, 2, 3]);
+    let mut scheduler = Scheduler::new([1, 2, 3]);
     let (costs, mut got) = ([12_000, 500, 1700], [0u64; 3]);
     for _ in 0..30_000 {
         for place in 0..3 {
-            shares.push(place, 0u8, place);
+            scheduler.push(place, 0u8, place);
         }
-        let place = shares.first().unwrap().0;
+        let place = scheduler.first().unwrap().0;
         got[place] += u64::from(costs[place]);
-        assert_eq!(shares.serve(place, costs[place]), Some(place));
+        assert_eq!(scheduler.serve(place, costs[place]), Some(place));
     }
     let all: u64 = got.iter().sum();
     for (place, weight) in [1, 2, 3].into_iter().enumerate() {
@@ -229,16 +229,16 @@ fn who_wants_all_gets_its_share() {
 
 #[test]
 fn what_was_told_later_counts_too() {
-    let mut shares = Shares::new([1, 1]);
+    let mut scheduler = Scheduler::new([1, 1]);
     let mut turns = [0u64; 2];
     for _ in 0..10_000 {
         for place in 0..2 {
-            shares.push(place, 0u8, place);
+            scheduler.push(place, 0u8, place);
         }
-        let place = next(&mut shares, 100).unwrap();
+        let place = next(&mut scheduler, 100).unwrap();
         turns[place] += 1;
         if place == 0 {
-            shares.told(0, 0, 300);
+            scheduler.correct(0, 0, 300);
         }
     }
     assert!(turns[1].abs_diff(4 * turns[0]) < turns[1] / 100, "{turns:?}");
@@ -246,16 +246,16 @@ fn what_was_told_later_counts_too() {
 
 #[test]
 fn receivers_of_a_network_take_turns_by_time() {
-    let mut shares = Shares::new([1]);
+    let mut scheduler = Scheduler::new([1]);
     for _ in 0..9 {
-        shares.push(0, 'a', 3);
+        scheduler.push(0, 'a', 3);
     }
     for _ in 0..9 {
-        shares.push(0, 'b', 1);
+        scheduler.push(0, 'b', 1);
     }
     let order: Vec<u32> = std::iter::from_fn(|| {
-        let cost = *shares.first()?.2;
-        next(&mut shares, cost)
+        let cost = *scheduler.first()?.2;
+        next(&mut scheduler, cost)
     })
     .collect();
     assert_eq!(order[..9], [3, 1, 1, 1, 3, 1, 1, 1, 3]);
@@ -263,58 +263,58 @@ fn receivers_of_a_network_take_turns_by_time() {
 
 #[test]
 fn idle_time_earns_nothing() {
-    let mut shares = Shares::new([1, 1]);
+    let mut scheduler = Scheduler::new([1, 1]);
     for _ in 0..50 {
-        shares.push(0, 'a', 'a');
+        scheduler.push(0, 'a', 'a');
     }
-    (0..40).for_each(|_| assert_eq!(next(&mut shares, 10), Some('a')));
+    (0..40).for_each(|_| assert_eq!(next(&mut scheduler, 10), Some('a')));
     for _ in 0..50 {
-        shares.push(1, 'b', 'b');
+        scheduler.push(1, 'b', 'b');
     }
-    let order: String = std::iter::from_fn(|| next(&mut shares, 10)).take(8).collect();
+    let order: String = std::iter::from_fn(|| next(&mut scheduler, 10)).take(8).collect();
     assert_eq!(order, "babababa");
 }
 
 #[test]
 fn a_held_receiver_waits_and_keeps_its_order() {
-    let mut shares = Shares::new([1]);
+    let mut scheduler = Scheduler::new([1]);
     for frame in [1, 2] {
-        shares.push(0, 'a', frame);
+        scheduler.push(0, 'a', frame);
     }
-    shares.hold(0, 'a');
-    assert_eq!((shares.first(), shares.has_ready(), shares.is_empty()), (None, false, false));
-    shares.push_first(0, 'a', 0);
-    shares.release(0, 'a');
-    assert_eq!([(); 4].map(|_| next(&mut shares, 1)), [Some(0), Some(1), Some(2), None]);
-    assert!(shares.is_empty());
+    scheduler.hold(0, 'a');
+    assert_eq!((scheduler.first(), scheduler.has_ready(), scheduler.is_empty()), (None, false, false));
+    scheduler.push_first(0, 'a', 0);
+    scheduler.release(0, 'a');
+    assert_eq!([(); 4].map(|_| next(&mut scheduler, 1)), [Some(0), Some(1), Some(2), None]);
+    assert!(scheduler.is_empty());
 }
 
 #[test]
 fn frames_are_taken_out_by_what_they_are() {
-    let mut shares = Shares::new([1]);
+    let mut scheduler = Scheduler::new([1]);
     for frame in 0..6 {
-        shares.push(0, 'a', frame);
+        scheduler.push(0, 'a', frame);
     }
-    assert_eq!(shares.longest(0), Some('a'));
-    assert_eq!(shares.take_all(0, 'a', |frame| frame % 2 == 0), [0, 2, 4]);
-    assert_eq!([(); 4].map(|_| next(&mut shares, 1)), [Some(1), Some(3), Some(5), None]);
-    assert_eq!((shares.take_all(0, 'b', |_| true), shares.longest(0)), (vec![], None));
+    assert_eq!(scheduler.longest(0), Some('a'));
+    assert_eq!(scheduler.take_all(0, 'a', |frame| frame % 2 == 0), [0, 2, 4]);
+    assert_eq!([(); 4].map(|_| next(&mut scheduler, 1)), [Some(1), Some(3), Some(5), None]);
+    assert_eq!((scheduler.take_all(0, 'b', |_| true), scheduler.longest(0)), (vec![], None));
 }
 
 /// What is kept of receivers doesn't grow with those that were.
 #[test]
 fn receivers_that_owe_nothing_are_forgotten() {
-    let mut shares = Shares::new([1]);
+    let mut scheduler = Scheduler::new([1]);
     for receiver in 0..30_000u32 {
-        shares.push(0, receiver, ());
-        next(&mut shares, 5);
+        scheduler.push(0, receiver, ());
+        next(&mut scheduler, 5);
     }
     let most = 2 * MOST_RESTING + FEW + 1;
-    assert!((FEW..=most).contains(&shares.networks[0].lanes.len()), "{}", shares.networks[0].lanes.len());
+    assert!((FEW..=most).contains(&scheduler.networks[0].receivers.len()), "{}", scheduler.networks[0].receivers.len());
     for _ in 0..2 {
-        shares.push(0, 7, ());
+        scheduler.push(0, 7, ());
     }
-    (0..2).for_each(|_| assert_eq!(next(&mut shares, 5), Some(())));
-    shares.networks[0].forget_rested();
-    assert_eq!(shares.networks[0].lanes.len(), 1);
+    (0..2).for_each(|_| assert_eq!(next(&mut scheduler, 5), Some(())));
+    scheduler.networks[0].forget_rested();
+    assert_eq!(scheduler.networks[0].receivers.len(), 1);
 }

@@ -18,7 +18,7 @@ const AT_LEAST_EVERY: Nanos = 20 * SECOND;
 
 /// The two files.
 #[derive(Debug)]
-pub struct Keeping {
+pub struct StateFiles {
     files: [File; 2],
     /// The place of the file that is written next.
     next: usize,
@@ -27,10 +27,10 @@ pub struct Keeping {
     has_failed: bool,
 }
 
-impl Keeping {
+impl StateFiles {
     /// Of these files, into which nothing was written yet.
-    pub fn new(files: [OwnedFd; 2]) -> Keeping {
-        Keeping { files: files.map(File::from), next: 0, written: None, has_failed: false }
+    pub fn new(files: [OwnedFd; 2]) -> StateFiles {
+        StateFiles { files: files.map(File::from), next: 0, written: None, has_failed: false }
     }
 
     /// What the bridge before has left in them.
@@ -98,10 +98,10 @@ mod tests {
         [0, 1].map(|place| std::env::temp_dir().join(format!("keeping-{}-{name}-{place}", std::process::id())))
     }
 
-    fn keeping(paths: &[PathBuf; 2]) -> Keeping {
+    fn keeping(paths: &[PathBuf; 2]) -> StateFiles {
         let mut options = OpenOptions::new();
         options.read(true).write(true).create(true);
-        Keeping::new([0, 1].map(|place| options.open(&paths[place]).unwrap().into()))
+        StateFiles::new([0, 1].map(|place| options.open(&paths[place]).unwrap().into()))
     }
 
     #[test]
@@ -138,7 +138,7 @@ mod tests {
     #[test]
     fn where_nothing_can_be_written_it_stops() {
         let full = || OpenOptions::new().write(true).open("/dev/full").unwrap().into();
-        let mut keeping = Keeping::new([full(), full()]);
+        let mut keeping = StateFiles::new([full(), full()]);
         assert!(keeping.left().is_err());
         keeping.write(b"x", 1, 0);
         assert!(!keeping.is_due(2, 100 * SECOND));

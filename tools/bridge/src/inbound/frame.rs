@@ -15,7 +15,7 @@ const PROBE_REQUEST: u8 = 4;
 const DISASSOCIATION: u8 = 10;
 const DEAUTHENTICATION: u8 = 12;
 
-/// Where a frame comes from and whom it is for: the name of its lane.
+/// Where a frame comes from and whom it is for: the name of its queue.
 #[derive(Debug, Clone, Copy, PartialEq, Eq, Hash, PartialOrd, Ord)]
 pub enum Source {
     /// From the air, for all networks.
@@ -38,7 +38,7 @@ pub type Flow = (Address, Address);
 
 /// What a frame is, in the order of its worth.
 #[derive(Debug, Clone, Copy, PartialEq, Eq, Hash, PartialOrd, Ord)]
-pub enum Kind {
+pub enum Priority {
     /// A probe request: a station looks for networks.
     Probe,
     /// A unit of data.
@@ -49,46 +49,46 @@ pub enum Kind {
     Notice,
 }
 
-impl Kind {
-    pub const ALL: [Kind; 4] = [Kind::Probe, Kind::Data, Kind::Request, Kind::Notice];
+impl Priority {
+    pub const ALL: [Priority; 4] = [Priority::Probe, Priority::Data, Priority::Request, Priority::Notice];
 
     /// That of a frame of the air.
-    fn of(frame: Frame<'_>) -> Kind {
+    fn of(frame: Frame<'_>) -> Priority {
         match (frame.frame_type(), frame.octets()[0] >> 4) {
-            (FrameType::Data, _) if frame.is_null() => Kind::Notice,
-            (FrameType::Data, _) => Kind::Data,
-            (FrameType::Management, PROBE_REQUEST) => Kind::Probe,
-            (FrameType::Management, DISASSOCIATION | DEAUTHENTICATION) => Kind::Notice,
-            _ => Kind::Request,
+            (FrameType::Data, _) if frame.is_null() => Priority::Notice,
+            (FrameType::Data, _) => Priority::Data,
+            (FrameType::Management, PROBE_REQUEST) => Priority::Probe,
+            (FrameType::Management, DISASSOCIATION | DEAUTHENTICATION) => Priority::Notice,
+            _ => Priority::Request,
         }
     }
 
     /// How long it is worth to let one wait. A notice has no end: what it says is as true later, and isn't said again.
     pub fn longest(self) -> Option<Nanos> {
         match self {
-            Kind::Probe | Kind::Data => Some(LONGEST),
-            Kind::Request => Some(LONGEST_OF_REQUEST),
-            Kind::Notice => None,
+            Priority::Probe | Priority::Data => Some(LONGEST),
+            Priority::Request => Some(LONGEST_OF_REQUEST),
+            Priority::Notice => None,
         }
     }
 }
 
-impl fmt::Display for Kind {
+impl fmt::Display for Priority {
     fn fmt(&self, to: &mut fmt::Formatter<'_>) -> fmt::Result {
         to.write_str(match self {
-            Kind::Probe => "probe requests",
-            Kind::Data => "frames of data",
-            Kind::Request => "other requests and polls",
-            Kind::Notice => "frames by which stations leave, doze or wake",
+            Priority::Probe => "probe requests",
+            Priority::Data => "frames of data",
+            Priority::Request => "other requests and polls",
+            Priority::Notice => "frames by which stations leave, doze or wake",
         })
     }
 }
 
 /// A frame that waits.
 #[derive(Debug, Clone, PartialEq, Eq)]
-pub struct Waiter {
+pub struct InboundFrame {
     /// What it is.
-    pub kind: Kind,
+    pub priority: Priority,
     /// Its sender and receiver.
     pub flow: Flow,
     /// When it came.
@@ -97,22 +97,22 @@ pub struct Waiter {
     pub octets: Vec<u8>,
 }
 
-impl Waiter {
+impl InboundFrame {
     /// A frame of the air that came at this time.
-    pub fn of_air(frame: Frame<'_>, arrived: Nanos) -> Waiter {
+    pub fn of_air(frame: Frame<'_>, arrived: Nanos) -> InboundFrame {
         let flow = (frame.transmitter().unwrap_or(NOBODY), frame.receiver());
-        Waiter { kind: Kind::of(frame), flow, arrived, octets: frame.octets().to_vec() }
+        InboundFrame { priority: Priority::of(frame), flow, arrived, octets: frame.octets().to_vec() }
     }
 
     /// A frame of a wire that came at this time.
-    pub fn of_wire(octets: &[u8], arrived: Nanos) -> Waiter {
+    pub fn of_wire(octets: &[u8], arrived: Nanos) -> InboundFrame {
         let flow = (Address::at(octets, 6).unwrap_or(NOBODY), Address::at(octets, 0).unwrap_or(NOBODY));
-        Waiter { kind: Kind::Data, flow, arrived, octets: octets.to_vec() }
+        InboundFrame { priority: Priority::Data, flow, arrived, octets: octets.to_vec() }
     }
 
     /// Whether it waited longer than it is worth.
     pub fn is_late(&self, now: Nanos) -> bool {
-        self.kind.longest().map_or(false, |longest| now.saturating_sub(self.arrived) > longest)
+        self.priority.longest().map_or(false, |longest| now.saturating_sub(self.arrived) > longest)
     }
 }
 

@@ -4,7 +4,7 @@ use std::collections::hash_map::Entry;
 use std::collections::HashMap;
 
 use crate::hashing::Seeds;
-use crate::inbound::waiter::{Flow, Waiter};
+use crate::inbound::frame::{Flow, InboundFrame};
 
 /// A queue that had more frames at a time gives its memory back once it is empty.
 const KEPT_SLOTS: usize = 256;
@@ -12,9 +12,9 @@ const KEPT_SLOTS: usize = 256;
 /// A frame in its queue, with the places of those beside it.
 #[derive(Debug)]
 pub struct Slot {
-    /// Its number among all frames of its lane.
+    /// Its number among all frames of its queue.
     pub number: u64,
-    pub waiter: Waiter,
+    pub frame: InboundFrame,
     before: Option<usize>,
     after: Option<usize>,
     after_of_flow: Option<usize>,
@@ -28,9 +28,9 @@ pub struct OfFlow {
     frames: usize,
 }
 
-/// The frames that wait of one kind in a lane, in the order in which they came.
+/// The frames that wait of one kind in a queue, in the order in which they came.
 #[derive(Debug, Default)]
-pub struct Queue {
+pub struct FlowQueue {
     pub slots: Vec<Slot>,
     free: Vec<usize>,
     first: Option<usize>,
@@ -38,11 +38,11 @@ pub struct Queue {
     pub flows: HashMap<Flow, OfFlow, Seeds>,
 }
 
-impl Queue {
+impl FlowQueue {
     /// A frame waits behind all others.
-    pub fn push(&mut self, number: u64, waiter: Waiter) {
-        let (flow, before) = (waiter.flow, self.last);
-        let place = self.keep(Slot { number, waiter, before, after: None, after_of_flow: None });
+    pub fn push(&mut self, number: u64, frame: InboundFrame) {
+        let (flow, before) = (frame.flow, self.last);
+        let place = self.keep(Slot { number, frame, before, after: None, after_of_flow: None });
         match before {
             Some(before) => self.slots[before].after = Some(place),
             None => self.first = Some(place),
@@ -85,22 +85,22 @@ impl Queue {
     }
 
     /// Takes the oldest one out.
-    pub fn pop(&mut self) -> Option<Waiter> {
+    pub fn pop(&mut self) -> Option<InboundFrame> {
         self.first.map(|place| self.take(place))
     }
 
     /// Takes the oldest one of a flow out.
-    pub fn pop_of(&mut self, flow: &Flow) -> Option<Waiter> {
+    pub fn pop_of(&mut self, flow: &Flow) -> Option<InboundFrame> {
         let place = self.flows.get(flow)?.first;
         Some(self.take(place))
     }
 
     /// Takes one out that is the oldest of its flow.
-    fn take(&mut self, place: usize) -> Waiter {
+    fn take(&mut self, place: usize) -> InboundFrame {
         let slot = &mut self.slots[place];
         let (before, after, next) = (slot.before, slot.after, slot.after_of_flow);
-        let Waiter { kind, flow, arrived, .. } = slot.waiter;
-        let octets = std::mem::take(&mut slot.waiter.octets);
+        let InboundFrame { priority, flow, arrived, .. } = slot.frame;
+        let octets = std::mem::take(&mut slot.frame.octets);
         match before {
             Some(before) => self.slots[before].after = after,
             None => self.first = after,
@@ -122,8 +122,8 @@ impl Queue {
         }
         self.free.push(place);
         if self.first.is_none() && self.slots.len() > KEPT_SLOTS {
-            *self = Queue::default();
+            *self = FlowQueue::default();
         }
-        Waiter { kind, flow, arrived, octets }
+        InboundFrame { priority, flow, arrived, octets }
     }
 }

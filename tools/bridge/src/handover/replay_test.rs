@@ -4,10 +4,10 @@ use std::time::Duration;
 
 use super::*;
 use crate::apctl::program::Program;
-use crate::handover::state::{choose, OfNetwork, Setting};
+use crate::handover::state::{choose, NetworkState, Setting};
 use crate::handover::state_text::MOST_AID;
 use crate::os::clock::{now, SECOND};
-use crate::stations::meaning::{said, Said};
+use crate::stations::meaning::{from_station, FromStation};
 use crate::testing::samples::{network, Seeded, OTHER, OURS, STATION, STRANGER};
 
 fn setting() -> Setting {
@@ -15,28 +15,28 @@ fn setting() -> Setting {
 }
 
 /// A station that joined our network with this identifier.
-fn kept(network: &Network, number: u8, aid: u16) -> Kept {
+fn kept(network: &Network, number: u8, aid: u16) -> KeptStation {
     let address = Address::of([2, 0xaa, 0, 0, 1, number]);
     let mut request = association_request(network, address);
     request[26] = number;
-    Kept { address, aid, listen: u16::from(number), dozes: false, has_dozed: false, request }
+    KeptStation { address, aid, listen: u16::from(number), dozes: false, has_dozed: false, request }
 }
 
-fn of_network(network: &Network, stations: Vec<Kept>) -> OfNetwork {
+fn of_network(network: &Network, stations: Vec<KeptStation>) -> NetworkState {
     let Network { bssid, ssid, rates, .. } = network.clone();
-    OfNetwork { bssid, ssid, rates, units: Some(3), waiting: 2, stations }
+    NetworkState { bssid, ssid, rates, units: Some(3), waiting: 2, stations }
 }
 
-fn state(networks: Vec<OfNetwork>) -> State {
+fn state(networks: Vec<NetworkState>) -> State {
     State { setting: setting(), written: 70 * SECOND, is_last: true, networks }
 }
 
 /// Two networks; the first has stations with the identifiers 2 and 4, of which the second one dozes.
 fn sample() -> State {
     let ours = network(OURS);
-    let dozing = Kept { dozes: true, has_dozed: true, ..kept(&ours, 9, 4) };
+    let dozing = KeptStation { dozes: true, has_dozed: true, ..kept(&ours, 9, 4) };
     let first = of_network(&ours, vec![kept(&ours, 7, 2), dozing]);
-    state(vec![first, OfNetwork { units: None, ..of_network(&network(OTHER), Vec::new()) }])
+    state(vec![first, NetworkState { units: None, ..of_network(&network(OTHER), Vec::new()) }])
 }
 
 #[test]
@@ -79,7 +79,7 @@ fn a_state_that_says_what_can_t_be_is_damaged() {
         assert_eq!(State::read(&state.text()), None, "{number}");
     }
     let mut twice = good;
-    twice.networks[0].stations[1] = Kept { aid: 3, ..twice.networks[0].stations[0].clone() };
+    twice.networks[0].stations[1] = KeptStation { aid: 3, ..twice.networks[0].stations[0].clone() };
     assert_eq!(State::read(&twice.text()), None);
 }
 
@@ -115,19 +115,19 @@ fn units_that_were_kept_are_told_as_lost() {
         (None, 2, Some("the units that 02:00:00:00:01:01 kept for 2 stations are lost")),
         (None, 0, None),
     ] {
-        let network = OfNetwork { units, waiting, ..of_network(&network(OURS), Vec::new()) };
+        let network = NetworkState { units, waiting, ..of_network(&network(OURS), Vec::new()) };
         assert_eq!(network.lost_units().as_deref(), told);
     }
 }
 
-fn said_of(restoring: &mut Restoring) -> Vec<ToSay> {
+fn said_of(restoring: &mut Replay) -> Vec<ReplayEvent> {
     std::iter::from_fn(|| restoring.next()).collect()
 }
 
 #[test]
 fn stations_are_said_in_order_with_gaps_filled_and_fillers_leave_last() {
     let ours = network(OURS);
-    let mut restoring = Restoring::of(&sample(), &[ours.clone()]).unwrap();
+    let mut restoring = Replay::of(&sample(), &[ours.clone()]).unwrap();
     let stations = sample().networks.remove(0).stations;
     let joins = |address, request: Vec<u8>| [authentication(OURS, address), request];
     let made_up_joins = |number| joins(made_up(number), association_request(&ours, made_up(number)));
@@ -139,8 +139,8 @@ fn stations_are_said_in_order_with_gaps_filled_and_fillers_leave_last() {
         &[mode_of_station(OURS, stations[1].address, true)],
         &[departure(OURS, made_up(0)), departure(OURS, made_up(1))],
     ];
-    let mut wanted: Vec<ToSay> = frames.concat().into_iter().map(ToSay::Frame).collect();
-    wanted.push(ToSay::Tables);
+    let mut wanted: Vec<ReplayEvent> = frames.concat().into_iter().map(ReplayEvent::Frame).collect();
+    wanted.push(ReplayEvent::Tables);
     assert_eq!(said_of(&mut restoring), wanted);
     assert!(!restoring.is_done());
 }
@@ -150,9 +150,9 @@ fn a_made_up_station_has_no_station_s_address() {
     let ours = Network { bssid: made_up(1), ..network(OURS) };
     let mut taken = kept(&ours, 1, 2);
     taken.address = made_up(0);
-    let mut restoring = Restoring::of(&state(vec![of_network(&ours, vec![taken])]), &[ours.clone()]).unwrap();
+    let mut restoring = Replay::of(&state(vec![of_network(&ours, vec![taken])]), &[ours.clone()]).unwrap();
     let first = said_of(&mut restoring).remove(0);
-    assert_eq!(first, ToSay::Frame(authentication(made_up(1), made_up(2))));
+    assert_eq!(first, ReplayEvent::Frame(authentication(made_up(1), made_up(2))));
 }
 
 #[test]
@@ -163,13 +163,13 @@ fn only_networks_that_are_the_same_to_their_stations_are_restored() {
         Network { rates: vec![0x84], ..ours.clone() },
         Network { bssid: STRANGER, ..ours.clone() },
     ] {
-        let found = Restoring::of(&state(vec![of_network(&ours, vec![kept(&ours, 1, 1)])]), &[other.clone()]);
+        let found = Replay::of(&state(vec![of_network(&ours, vec![kept(&ours, 1, 1)])]), &[other.clone()]);
         assert_eq!(found.map(drop), Err(NotUsed::OtherConfiguration));
-        let found = Restoring::of(&sample(), &[other, network(OTHER)]).unwrap();
+        let found = Replay::of(&sample(), &[other, network(OTHER)]).unwrap();
         assert!(found.is_empty());
     }
     let other = Network { max_known: 7, weight: 2, wire: Some("wire2".into()), ..ours };
-    assert!(!Restoring::of(&sample(), &[other]).unwrap().is_empty());
+    assert!(!Replay::of(&sample(), &[other]).unwrap().is_empty());
 }
 
 /// What a program does with the events that are said to it, as far as they matter here.
@@ -182,19 +182,19 @@ struct Model {
 }
 
 impl Model {
-    fn take(&mut self, bssid: Address, event: &ToSay) -> Vec<Answer> {
+    fn take(&mut self, bssid: Address, event: &ReplayEvent) -> Vec<Answer> {
         let octets = match event {
-            ToSay::Frame(octets) => octets,
-            ToSay::Tables => return self.tables(bssid).into_iter().map(Answer::Told).collect(),
+            ReplayEvent::Frame(octets) => octets,
+            ReplayEvent::Tables => return self.tables(bssid).into_iter().map(Answer::Told).collect(),
         };
         let frame = Frame::of(octets).unwrap();
         let station = frame.transmitter().unwrap();
-        let (aid, kind) = match said(frame, bssid) {
+        let (aid, kind) = match from_station(frame, bssid) {
             None => {
                 self.stations.insert(station, None);
                 return vec![answer(bssid, station, 0xb0, &[0, 0, 2, 0, 0, 0])];
             }
-            Some(Said::Association { listen }) => {
+            Some(FromStation::Association { listen }) => {
                 let used: HashSet<u16> = self.stations.values().flatten().map(|(aid, ..)| *aid).collect();
                 let aid = (1..=MOST_AID).find(|aid| !used.contains(aid)).unwrap();
                 if self.refuses.contains(&station) || used.len() >= self.max_stations {
@@ -203,11 +203,11 @@ impl Model {
                 self.stations.insert(station, Some((aid, listen, false)));
                 (aid, octets[0] | 0x10)
             }
-            Some(Said::Data { dozes, .. }) => {
+            Some(FromStation::Data { dozes, .. }) => {
                 self.stations.get_mut(&station).unwrap().as_mut().unwrap().2 = dozes;
                 return Vec::new();
             }
-            Some(Said::Deauthentication { .. }) => {
+            Some(FromStation::Deauthentication { .. }) => {
                 self.stations.remove(&station);
                 return Vec::new();
             }
@@ -246,15 +246,15 @@ fn restore(state: &State, ours: &Network, model: Model) -> Restored {
 
 /// What comes of all networks' stations, each with its model.
 fn restore_all(state: &State, networks: &[Network], mut models: Vec<Model>) -> Restored {
-    let mut restoring = Restoring::of(state, networks).unwrap();
+    let mut restoring = Replay::of(state, networks).unwrap();
     for (network, model) in networks.iter().zip(&mut models) {
         model.max_stations = network.max_stations.into();
     }
     while let Some(event) = restoring.next() {
         for (network, model) in networks.iter().zip(&mut models) {
             let is_heard = match &event {
-                ToSay::Frame(octets) => Frame::of(octets).unwrap().receiver() == network.bssid,
-                ToSay::Tables => true,
+                ReplayEvent::Frame(octets) => Frame::of(octets).unwrap().receiver() == network.bssid,
+                ReplayEvent::Tables => true,
             };
             if is_heard {
                 assert!(!restoring.is_done());
@@ -266,7 +266,7 @@ fn restore_all(state: &State, networks: &[Network], mut models: Vec<Model>) -> R
     restoring.restored()
 }
 
-fn members(stations: &[Kept]) -> Vec<Member> {
+fn members(stations: &[KeptStation]) -> Vec<Member> {
     stations.iter().map(|kept| (0, kept.address)).collect()
 }
 
@@ -289,7 +289,7 @@ fn who_is_answered_as_before_stays() {
 #[test]
 fn who_is_answered_otherwise_joins_again() {
     let ours = network(OURS);
-    let stations: Vec<Kept> = (1..=4).map(|number| kept(&ours, number, number.into())).collect();
+    let stations: Vec<KeptStation> = (1..=4).map(|number| kept(&ours, number, number.into())).collect();
     let state = state(vec![of_network(&ours, stations.clone())]);
     let refuses = Model { refuses: vec![stations[1].address], ..Model::default() };
     let restored = restore(&state, &ours, refuses);
@@ -301,7 +301,7 @@ fn who_is_answered_otherwise_joins_again() {
     assert_eq!(restore(&state, &ours, other).leave, [(0, STATION)]);
     // One whose listen interval or mode is another one in the table.
     for line in ["aid 2 listen 9 active", "aid 2 listen 2 doze", "aid 3 listen 2 active"] {
-        let mut restoring = Restoring::of(&state, std::slice::from_ref(&ours)).unwrap();
+        let mut restoring = Replay::of(&state, std::slice::from_ref(&ours)).unwrap();
         let mut model = Model { max_stations: 100, ..Model::default() };
         while let Some(event) = restoring.next() {
             for answer in model.take(OURS, &event) {
@@ -324,7 +324,7 @@ fn who_is_answered_otherwise_joins_again() {
 fn who_is_answered_by_another_identifier_joins_again() {
     let ours = network(OURS);
     let stations = vec![kept(&ours, 1, 1)];
-    let mut restoring = Restoring::of(&state(vec![of_network(&ours, stations.clone())]), &[ours]).unwrap();
+    let mut restoring = Replay::of(&state(vec![of_network(&ours, stations.clone())]), &[ours]).unwrap();
     said_of(&mut restoring);
     restoring.take(&answer(OURS, stations[0].address, 0x10, &[1, 0, 0, 0, 2, 0xc0]));
     let row = format!("station {} associated aid 1 listen 1 active kept 0", stations[0].address);
@@ -338,7 +338,7 @@ fn who_is_answered_by_another_identifier_joins_again() {
 #[test]
 fn who_has_an_identifier_above_the_new_most_joins_again() {
     let ours = Network { max_stations: 3, ..network(OURS) };
-    let stations: Vec<Kept> = [1, 3, 4].into_iter().map(|aid| kept(&ours, aid as u8, aid)).collect();
+    let stations: Vec<KeptStation> = [1, 3, 4].into_iter().map(|aid| kept(&ours, aid as u8, aid)).collect();
     let restored = restore(&state(vec![of_network(&ours, stations.clone())]), &ours, Model::default());
     assert_eq!(restored.stay.len(), 2);
     assert_eq!((restored.again, restored.leave), (members(&stations[2..]), vec![]));
@@ -350,7 +350,7 @@ fn who_alone_has_an_identifier_above_the_new_most_joins_again() {
     let ours = Network { max_stations: 3, ..network(OURS) };
     let stations = vec![kept(&ours, 4, 4)];
     let state = state(vec![of_network(&ours, stations.clone())]);
-    assert!(!Restoring::of(&state, std::slice::from_ref(&ours)).unwrap().is_empty());
+    assert!(!Replay::of(&state, std::slice::from_ref(&ours)).unwrap().is_empty());
     let restored = restore(&state, &ours, Model::default());
     assert_eq!(restored, Restored { again: members(&stations), ..Restored::default() });
 }
@@ -382,7 +382,7 @@ fn each_network_has_its_own_stations_again() {
 fn it_is_done_once_the_last_table_came() {
     let networks = [network(OURS), network(OTHER)];
     let state = state(vec![of_network(&networks[0], vec![kept(&networks[0], 1, 1)])]);
-    let mut restoring = Restoring::of(&state, &networks).unwrap();
+    let mut restoring = Replay::of(&state, &networks).unwrap();
     said_of(&mut restoring);
     let lines = [format!("network {OURS} ssid 6c"), "end".into(), format!("network {OTHER} ssid 6c"), "end".into()];
     for (line, is_done) in lines.into_iter().zip([false, false, false, true]) {
@@ -459,13 +459,13 @@ fn the_built_program_has_all_as_before() {
         std::fs::write(&path, config_of(&ours)).unwrap();
         let words = (program.to_str().unwrap(), path.to_str().unwrap());
         let (mut program, mut feeder) = Program::start(words.0, words.1, None, None).unwrap();
-        let mut restoring = Restoring::of(&state, std::slice::from_ref(&ours)).unwrap();
+        let mut restoring = Replay::of(&state, std::slice::from_ref(&ours)).unwrap();
         let until = now() + 60 * SECOND;
         while !restoring.is_done() {
             assert!(now() < until && !program.has_ended());
             while feeder.room() > 0 {
                 match restoring.next() {
-                    Some(event) => feeder.say(event.event()),
+                    Some(event) => feeder.feed(event.event()),
                     None => break,
                 }
                 feeder.flush().unwrap();

@@ -13,9 +13,10 @@ use libc::sock_filter;
 
 use super::staying::{left_state, RESTORED_FROM, RESTORED_TO};
 use super::*;
-use crate::apctl::recording::Record;
+use crate::apctl::recording::Recording;
 use crate::formats::radiotap::sending_header;
 use crate::handover::state::State;
+use crate::network::Network;
 use crate::os::sockets::hand;
 use crate::stations::own_frames::{deauthentication, departure, INACTIVITY};
 use crate::testing::samples::{data, network, radiotap, Unit, OTHER, OURS, STATION};
@@ -311,7 +312,7 @@ fn run_with(
     let clients = Clients::new(UnixListener::bind(stage.folder.join("socket")).unwrap()).unwrap();
     let outcome = thread::scope(|scope| {
         let name = surroundings.record.map_or_else(|| stage.folder.join("record"), PathBuf::from);
-        let record = Record::new("record", fs::File::create(name).unwrap());
+        let record = Recording::new("record", fs::File::create(name).unwrap());
         scope.spawn(|| {
             if let Some(state) = surroundings.state {
                 hand(&stage.requests, b"state\n", &files_of(state)).unwrap();
@@ -328,7 +329,7 @@ fn run_with(
 
 fn serve(
     path: &str,
-    record: Record,
+    record: Recording,
     (asked, clients): (UnixStream, Clients),
     (monitor, mut wires): (FakePort, Vec<Option<FakePort>>),
     surroundings: Surroundings,
@@ -348,7 +349,7 @@ fn serve(
     bridge.serve(|_| {
         let (monitor, wires) = ports.take().unwrap();
         let beacons = monitor.beside();
-        Ok(Sender::new(networks.clone(), monitor, beacons, wires))
+        Ok(Outbound::new(networks.clone(), monitor, beacons, wires))
     })
 }
 
@@ -499,12 +500,12 @@ fn the_newer_state_stays_until_another_is_whole() {
     for newer in [0, 1] {
         fs::write(format!("{state}.{newer}"), text(9 * SECOND, true)).unwrap();
         fs::write(format!("{state}.{}", 1 - newer), text(8 * SECOND, false)).unwrap();
-        let mut keeping = Keeping::new(files_of(&state));
-        let found = left_state(&mut keeping, &setting(100), 10 * SECOND).unwrap();
+        let mut state_files = StateFiles::new(files_of(&state));
+        let found = left_state(&mut state_files, &setting(100), 10 * SECOND).unwrap();
         assert_eq!((found.written, found.is_last), (9 * SECOND, true));
-        assert!(left_state(&mut keeping, &setting(101), 10 * SECOND).is_none());
-        keeping.write(b"begun and not whole", 1, 10 * SECOND);
-        assert_eq!(left_state(&mut keeping, &setting(100), 10 * SECOND), Some(found));
+        assert!(left_state(&mut state_files, &setting(101), 10 * SECOND).is_none());
+        state_files.write(b"begun and not whole", 1, 10 * SECOND);
+        assert_eq!(left_state(&mut state_files, &setting(100), 10 * SECOND), Some(found));
     }
     [0, 1].iter().for_each(|number| fs::remove_file(format!("{state}.{number}")).unwrap());
 }
@@ -691,7 +692,11 @@ fn what_a_program_says_wrongly_is_told() {
     for (text, says) in [
         ("sys.exit(7)\n", "the program ended with status 7 before its networks were open"),
         ("print('hello', flush=True)\nlist(events())\n", "the program wrote what isn't known: hello"),
-        ("open_networks(1)\nair(OTHER, b'0')\nlist(events())\n", "a frame before it was given one"),
+        (
+            // Both records by one call.
+            "sys.stdout.buffer.write(b'O' + bytes([0, 0, 0, 0, 0, 1, 0, 0]))\nair(OTHER, b'0')\nlist(events())\n",
+            "a frame before it was given one",
+        ),
         ("open_networks(1)\nnext(events())\nair(OTHER, b'0')\nlist(events())\n", "a network that it doesn't have"),
     ] {
         let (outcome, _) = run(text, true, |_| {});

@@ -1,5 +1,5 @@
 use super::*;
-use crate::inbound::waiter::LONGEST;
+use crate::inbound::frame::LONGEST;
 use crate::os::clock;
 use crate::os::sockets::AT_A_TIME;
 use crate::outbound::wire::MOST_OCTETS;
@@ -12,15 +12,15 @@ fn networks() -> Vec<Network> {
     ]
 }
 
-fn sender(wire: Recorder) -> Sender<Recorder> {
-    Sender::new(networks(), Recorder::default(), Recorder::default(), vec![None, Some(wire)])
+fn sender(wire: Recorder) -> Outbound<Recorder> {
+    Outbound::new(networks(), Recorder::default(), Recorder::default(), vec![None, Some(wire)])
 }
 
 fn unit(transmitter: Address) -> Vec<u8> {
     Unit { control: [0x08, 2], receiver: STATION, transmitter, ..Unit::default() }.octets()
 }
 
-fn on_wire(sender: &mut Sender<Recorder>) -> &[Vec<u8>] {
+fn on_wire(sender: &mut Outbound<Recorder>) -> &[Vec<u8>] {
     &sender.wire(1).unwrap().port.sent
 }
 

@@ -13,16 +13,16 @@ fn beacon(number: u16) -> Vec<u8> {
 }
 
 /// Our network with a station that is associated.
-fn joined() -> Operating {
+fn joined() -> Stations {
     let networks = [network(OTHER), Network { max_known: 2, ..network(OURS) }];
-    let mut operating = Operating::new(&networks, Some(5 * SECOND));
+    let mut operating = Stations::new(&networks, Some(5 * SECOND));
     operating.answered(OURS, &of_network(0xb0, STATION, 1, &[0, 0, 2, 0, 0, 0]), 0);
     operating.answered(OURS, &of_network(0x10, STATION, 2, &[1, 0, 0, 0, 1, 0xc0]), 0);
     operating
 }
 
 /// What is done behind a beacon of our network.
-fn behind_beacon(operating: &mut Operating, number: u16, now: Nanos) -> Vec<Errand> {
+fn behind_beacon(operating: &mut Stations, number: u16, now: Nanos) -> Vec<Errand> {
     assert_eq!(operating.answered(OURS, &beacon(number), now), []);
     operating.look(now)
 }
@@ -39,9 +39,9 @@ fn who_is_silent_is_asked_and_forgotten() {
     let frame = disassociation(OURS, STATION, INACTIVITY, 2055);
     let wanted = [Errand::Send { place: 1, frame, retries: 0 }, Errand::Say(departure(OURS, STATION))];
     assert_eq!(behind_beacon(&mut operating, 7, 8 * SECOND), wanted);
-    operating.said(&departure(OURS, STATION), 8 * SECOND);
+    operating.fed(&departure(OURS, STATION), 8 * SECOND);
     assert_eq!(behind_beacon(&mut operating, 8, 30 * SECOND), []);
-    assert_eq!(operating.roster().station(&(1, STATION)), None);
+    assert_eq!(operating.table().station(&(1, STATION)), None);
 }
 
 /// Who stays is known without a word. Whoever doesn't is told to join again, and the program that those have left
@@ -49,8 +49,8 @@ fn who_is_silent_is_asked_and_forgotten() {
 #[test]
 fn who_is_restored_is_known_and_others_are_told() {
     let request = association_request(&network(OURS), STATION);
-    let kept = Kept { address: STATION, aid: 4, listen: 1, dozes: false, has_dozed: false, request };
-    let mut operating = Operating::new(&[network(OTHER), network(OURS)], None);
+    let kept = KeptStation { address: STATION, aid: 4, listen: 1, dozes: false, has_dozed: false, request };
+    let mut operating = Stations::new(&[network(OTHER), network(OURS)], None);
     let restored = Restored {
         stay: vec![((1, STATION), kept.clone())],
         again: vec![(0, STRANGER)],
@@ -65,7 +65,7 @@ fn who_is_restored_is_known_and_others_are_told() {
     ];
     assert_eq!(operating.restore(&restored, 0), wanted);
     assert_eq!((operating.kept(0), operating.kept(1)), (vec![], vec![kept]));
-    assert_eq!(operating.roster().take_news(), []);
+    assert_eq!(operating.table().take_news(), []);
     // Who is told to join again isn't left for the next bridge.
     operating.dismiss(&[1]);
     assert_eq!(operating.kept(1), []);
@@ -76,18 +76,18 @@ fn who_acknowledges_stays() {
     let mut operating = joined();
     assert_eq!(behind_beacon(&mut operating, 3, 5 * SECOND).len(), 1);
     let outcome = Outcome { is_acknowledged: true, retries: 2, rate: Some(2) };
-    operating.shown(&null(OURS, STATION, 9), outcome, 5 * SECOND);
+    operating.reported(&null(OURS, STATION, 9), outcome, 5 * SECOND);
     for second in 6..10 {
         assert_eq!(behind_beacon(&mut operating, 4, second * SECOND), []);
     }
-    assert_eq!(operating.roster().station(&(1, STATION)).unwrap().to.rate, None);
+    assert_eq!(operating.table().station(&(1, STATION)).unwrap().to.rate, None);
 }
 
 #[test]
 fn who_dozes_is_asked_behind_a_beacon_after_which_it_listens() {
     let mut operating = joined();
     let null = [&[0x48, 0x11, 0, 0][..], OURS.octets(), STATION.octets(), OURS.octets(), &[0, 0]].concat();
-    operating.said(&null, 0);
+    operating.fed(&null, 0);
     assert_eq!(operating.look(5 * SECOND), []);
     let other = of_network(0x80, Address::BROADCAST, 3, &[&[0; 12][..], &[5, 4, 1, 2, 0, 0]].concat());
     operating.answered(OURS, &other, 6 * SECOND);
