@@ -8,6 +8,11 @@ use_debians_cargo() {
     unset RUSTFLAGS RUSTUP_TOOLCHAIN
 }
 
+# Forgets which crates the one in this folder was built with: Debian has one version of each, and the next Debian another.
+forget_crates() {
+    rm -f Cargo.lock
+}
+
 # Runs the tests of the crate in this folder. A test that can't run here says `not run:` and isn't counted. The last
 # line is 'N passed, M failed'; the status is 1 where a test failed, or none was built.
 test_by_cargo() {

@@ -290,7 +290,7 @@ impl Client {
                 Err(_) => return false,
             }
         }
-        self.answer = (taken < line.len()).then(|| (Line(line), taken));
+        self.answer = (taken < line.len()).then_some((Line(line), taken));
         true
     }
 

@@ -57,13 +57,12 @@ mod tests {
     fn each_octet_has_its_two_digits_in_lower_case() {
         let mut found = b"A ".to_vec();
         push(&all(), &mut found);
-        let wanted: String = (0..=255).map(|octet: u8| format!("{octet:02x}")).collect();
-        assert_eq!(String::from_utf8(found).unwrap(), format!("A {wanted}"));
+        assert_eq!(String::from_utf8(found).unwrap(), format!("A {}", hex::encode(all())));
     }
 
     #[test]
     fn digits_of_either_case_are_read() {
-        let text: String = (0..=255).map(|octet: u8| format!("{octet:02x}")).collect();
+        let text = hex::encode(all());
         assert_eq!(read(text.as_bytes()), Some(all()));
         assert_eq!(read(text.to_uppercase().as_bytes()), Some(all()));
         assert_eq!(read(b""), Some(vec![]));

@@ -39,7 +39,7 @@ const FAILED: u16 = 0x0001;
 const KEEP_SEQUENCE_NUMBER: u16 = 0x0010;
 const FCS_LEN: usize = 4;
 /// How often the radio tries a frame to one station again at most, beyond the first time, where no acknowledgement
-/// comes; fewer where so many tries would take too long on the air (`transmitter`).
+/// comes; fewer where so many tries would take too long on the air (`air`).
 pub const MOST_RETRIES: u8 = 10;
 /// The length of the header of a frame to be sent: the frame behind it begins at a multiple of four octets.
 pub const SENDING_LEN: usize = 16;

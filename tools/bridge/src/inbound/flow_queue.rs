@@ -1,5 +1,5 @@
-//! Frames of one kind in the order in which they came, and those of each flow in theirs. Each call takes the same time
-//! however many wait.
+//! Frames of one priority in the order in which they came, and those of each flow in theirs. Each call takes the same
+//! time however many wait.
 use std::collections::hash_map::Entry;
 use std::collections::HashMap;
 
@@ -28,7 +28,7 @@ pub struct OfFlow {
     frames: usize,
 }
 
-/// The frames that wait of one kind in a queue, in the order in which they came.
+/// The frames that wait of one priority in the queue of a source, in the order in which they came.
 #[derive(Debug, Default)]
 pub struct FlowQueue {
     pub slots: Vec<Slot>,

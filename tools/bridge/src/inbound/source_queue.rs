@@ -47,7 +47,7 @@ impl fmt::Display for Dropped {
 /// The frames that wait of one source.
 #[derive(Debug, Default)]
 pub struct SourceQueue {
-    /// Of each kind, in the order of their worth.
+    /// Of each priority, in its order.
     pub queues: [FlowQueue; Priority::ALL.len()],
     pub frames: usize,
     pub octets: usize,
@@ -84,7 +84,7 @@ impl SourceQueue {
         self.frames < MOST_FRAMES && self.octets + length <= MOST_OCTETS
     }
 
-    /// Drops those that waited too long, which of each kind are the oldest ones.
+    /// Drops those that waited too long, which of each priority are the oldest ones.
     fn drop_late(&mut self, now: Nanos) {
         for priority in Priority::ALL {
             while self.queues[priority as usize].oldest().map_or(false, |slot| slot.frame.is_late(now)) {

@@ -1,4 +1,4 @@
-//! What the program sends goes to the interfaces here: on the air as `transmitter` says, and by each wire in order,
+//! What the program sends goes to the interfaces here: on the air as `air` says, and by each `wire` in order,
 //! many frames a call, and no longer than is worth it.
 pub mod air;
 pub mod counts;
@@ -55,7 +55,7 @@ impl<P: Port> Outbound<P> {
         let mut counts = self.counts.clone();
         self.air.counts().iter().for_each(|(what, number)| count(&mut counts, what, *number));
         let Unacknowledged { again, lost } = self.air.unacknowledged();
-        let of_wires = self.wires.iter().flatten().map(|wire| wire.sent).sum();
+        let of_wires = self.wires.iter().flatten().map(Wire::sent_frames).sum();
         for (what, number) in [
             ("sent on the air", self.air.sent()),
             ("sent on the wires", of_wires),

@@ -22,14 +22,19 @@ pub struct Wire<P> {
     /// The interface.
     pub gate: Gate<P>,
     leaving: VecDeque<Leaving>,
-    pub octets: usize,
-    pub sent: u64,
+    pub(super) octets: usize,
+    sent: u64,
 }
 
 impl<P: Port> Wire<P> {
     /// Nothing waits.
     pub fn new(port: P) -> Wire<P> {
         Wire { gate: Gate::new(port), leaving: VecDeque::new(), octets: 0, sent: 0 }
+    }
+
+    /// How many frames were sent.
+    pub fn sent_frames(&self) -> u64 {
+        self.sent
     }
 
     /// Whether nothing waits, for room or to be sent.
@@ -42,6 +47,7 @@ impl<P: Port> Wire<P> {
         !self.leaving.is_empty() && !self.gate.is_blocked()
     }
 
+    /// A frame waits from now on. What has no room beside it is dropped, the oldest first.
     pub fn push(&mut self, octets: Vec<u8>, now: Nanos, counts: &mut Counts) {
         while self.octets + octets.len() > MOST_OCTETS {
             match self.leaving.pop_front() {

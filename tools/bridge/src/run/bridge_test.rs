@@ -693,8 +693,8 @@ fn what_a_program_says_wrongly_is_told() {
         ("sys.exit(7)\n", "the program ended with status 7 before its networks were open"),
         ("print('hello', flush=True)\nlist(events())\n", "the program wrote what isn't known: hello"),
         (
-            // Both records by one call.
-            "sys.stdout.buffer.write(b'O' + bytes([0, 0, 0, 0, 0, 1, 0, 0]))\nair(OTHER, b'0')\nlist(events())\n",
+            // Both records at once.
+            "import os\nos.write(1, b'O' + bytes([0, 0, 0, 0, 0, 1, 0, 0]) + b'A' + OTHER + bytes(2))\nlist(events())\n",
             "a frame before it was given one",
         ),
         ("open_networks(1)\nnext(events())\nair(OTHER, b'0')\nlist(events())\n", "a network that it doesn't have"),

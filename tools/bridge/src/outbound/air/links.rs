@@ -5,7 +5,7 @@
 //! back, with how often it was sent and whether it was acknowledged. A unit that wasn't is sent once more, with Retry
 //! set, where nothing was sent to its station since; later it would come out of order. So what comes next for a station
 //! waits while a sample is on the air, and after a unit that was lost until one is acknowledged. Where tries are lost,
-//! `transmitter` gives the radio one frame of a station at a time, unless many wait.
+//! `air` gives the radio one frame of a station at a time, unless many wait.
 //!
 //! Each network has tables of its own: what strangers do to one takes nothing from another. Nothing is sent or timed
 //! here. A radio that says nothing of what it sent is given all frames at the lowest basic rate.
