@@ -17,7 +17,7 @@ use crate::apctl::recording::Recording;
 use crate::formats::radiotap::sending_header;
 use crate::handover::state::State;
 use crate::network::Network;
-use crate::os::sockets::hand;
+use crate::os::sockets::{hand, Port};
 use crate::stations::own_frames::{deauthentication, departure, INACTIVITY};
 use crate::testing::samples::{data, network, radiotap, Unit, OTHER, OURS, STATION};
 

@@ -30,7 +30,7 @@ use crate::handover::state::Setting;
 use crate::handover::state_files::StateFiles;
 use crate::os::clock::{now, Nanos, MILLISECOND, SECOND};
 use crate::os::poller::{Poller, Ready, Token};
-use crate::os::sockets::{Batch, OfSocket, Port};
+use crate::os::sockets::{Batch, OfSocket};
 use crate::outbound::Outbound;
 
 const TO_END: Nanos = 20 * SECOND;

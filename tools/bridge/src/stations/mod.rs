@@ -13,9 +13,9 @@ use crate::formats::frames::{Address, Frame};
 use crate::formats::radiotap::{Outcome, Reception};
 use crate::handover::replay::Restored;
 use crate::network::Network;
-use crate::os::clock::{Nanos, SECOND};
+use crate::os::clock::Nanos;
 use crate::stations::keep_alive::{KeepAlive, Step};
-use crate::stations::news::{sentence, Forgotten, News};
+use crate::stations::news::{sentence, Forgotten};
 use crate::stations::own_frames::{
     deauthentication, departure, disassociation, is_null_of_network, null, number_beside, INACTIVITY, LEAVING,
 };

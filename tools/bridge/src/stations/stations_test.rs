@@ -1,4 +1,6 @@
 use super::*;
+use crate::os::clock::SECOND;
+use crate::stations::news::News;
 use crate::stations::own_frames::association_request;
 use crate::testing::samples::{network, OTHER, OURS, STATION, STRANGER};
 
