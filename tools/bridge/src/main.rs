@@ -40,8 +40,10 @@
 //! stations stay, `open PLACE...`, once the interfaces are there, with their sockets, `wire PLACE`, with the socket of
 //! a wire that is there again, `tables`, and `dismiss PLACE...`, by which all stations of these networks are told to
 //! join again; the end of its input ends it. It writes `ready`, once the networks are open, `sending`, once the first
-//! beacon was seen as sent, `alive` while the program answers, `down PLACE` where a wire ended, `dismissed`, `status N`
-//! with the status of the program, and `fault TEXT`, after which it ends with status 1.
+//! beacon was seen as sent, `unsent` where none was for a while, and `sending` again, `elsewhere MHZ` where the radio
+//! hears on another frequency than its channel's, and `here` once it is back, `alive` while the program answers, `down
+//! PLACE` where a wire ended, `dismissed`, `status N` with the status of the program, and `fault TEXT`, after which it
+//! ends with status 1.
 //!
 //! Where a bridge takes the place of another one, stations stay (`handover::replay`). The state that the one before
 //! has left in the files says who is associated, and by which request. The new program is told of these before anything
@@ -53,6 +55,8 @@
 //! that have fallen silent whether they are there; for one that isn't, or that doesn't associate where a network is
 //! nearly full, it tells the program that the station left. It answers who connects to its socket (`control::clients`).
 #![deny(unsafe_code)]
+// Shifts go before `&` and `|`, and need no parentheses for that: clippy 1.85 alone asks for them.
+#![allow(clippy::precedence)]
 
 mod apctl;
 mod control;
@@ -115,6 +119,7 @@ fn run(words: &Arguments) -> Result<(), Fault> {
     let (program, feeder) = Program::start(&words.program, &words.config, bounds, record)?;
     let manner = Manner {
         setting: Setting { phy: words.phy.clone(), channel: words.channel, interval: words.interval },
+        by: words.by,
         most_silence: Some(Nanos::from(words.idle) * SECOND).filter(|silence| *silence > 0),
         tells_alive: words.tells_alive,
     };

@@ -4,6 +4,7 @@ use std::ops::RangeInclusive;
 use std::os::unix::io::RawFd;
 use std::str::FromStr;
 
+use crate::control::by::By;
 use crate::control::log;
 use crate::formats::frames::Address;
 use crate::network::Network;
@@ -11,7 +12,8 @@ use crate::outbound::air::scheduler::MOST_WEIGHT;
 
 /// How it is called.
 pub const USAGE: &str = "bridge [--name NAME] --phy NAME --channel NUMBER --monitor NAME --interval UNITS \
-                         [--idle SECONDS] [--socket DESCRIPTOR] [--alive] [--record DESCRIPTOR:NAME] [--bounds OCTETS] \
+                         [--by active-monitors|managed|access-points] [--idle SECONDS] [--socket DESCRIPTOR] [--alive] \
+                         [--record DESCRIPTOR:NAME] [--bounds OCTETS] \
                          --network BSSID/SSID/RATES/STATIONS/KNOWN/SHARE[/WIRE]... PROGRAM CONFIG";
 
 /// What the words ask for.
@@ -27,6 +29,8 @@ pub struct Arguments {
     pub monitor: String,
     /// The beacon interval in time units.
     pub interval: u16,
+    /// By which interfaces the radio acknowledges, where that was said.
+    pub by: Option<By>,
     /// After how many seconds an associated station of which nothing was heard is asked; 0 asks nobody.
     pub idle: u32,
     /// The listening socket by which it is asked, as a descriptor.
@@ -69,7 +73,7 @@ impl Arguments {
         let mut words = words.into_iter();
         let (mut monitor, mut interval, mut record) = (None, None, None);
         let (mut phy, mut channel, mut idle, mut socket, mut tells_alive) = (None, None, IDLE, None, false);
-        let (mut name, mut bounds) = (log::UNNAMED.to_owned(), None);
+        let (mut name, mut bounds, mut by) = (log::UNNAMED.to_owned(), None, None);
         let (mut networks, mut rest) = (Vec::new(), Vec::new());
         while let Some(word) = words.next() {
             let mut value = || words.next().ok_or_else(|| WrongArguments(format!("{word} lacks its value")));
@@ -79,6 +83,7 @@ impl Arguments {
                 "--channel" => channel = Some(read_number(&value()?, "channel", 1..=14)?),
                 "--monitor" => monitor = Some(value()?),
                 "--interval" => interval = Some(read_number(&value()?, "beacon interval", 1..=u16::MAX)?),
+                "--by" => by = Some(read_by(&value()?)?),
                 "--idle" => idle = read_number(&value()?, "number of seconds", 0..=u32::MAX)?,
                 "--socket" => socket = Some(read_number(&value()?, "descriptor", FIRST_DESCRIPTOR..=RawFd::MAX)?),
                 "--alive" => tells_alive = true,
@@ -99,6 +104,7 @@ impl Arguments {
             channel: channel.ok_or_else(|| lacks("--channel"))?,
             monitor: monitor.ok_or_else(|| lacks("--monitor"))?,
             interval: interval.ok_or_else(|| lacks("--interval"))?,
+            by,
             idle,
             socket,
             tells_alive,
@@ -109,6 +115,10 @@ impl Arguments {
             config,
         })
     }
+}
+
+fn read_by(text: &str) -> Result<By, WrongArguments> {
+    text.parse().map_err(|_| WrongArguments(format!("{text} is no kind of interfaces")))
 }
 
 /// A number within limits.
@@ -154,7 +164,7 @@ mod tests {
     use crate::testing::samples::{network, OTHER, OURS};
 
     const GOOD: &str = "--name waltigon-live \
-                        --phy phy0 --channel 6 --monitor mon0 --interval 100 --idle 60 --socket 5 \
+                        --phy phy0 --channel 6 --monitor mon0 --interval 100 --by managed --idle 60 --socket 5 \
                         --alive --record 6:r:1 --bounds 2000000 --network 02:00:00:00:01:01/6c6162/8284/64/256/1/wire1 --network \
                         02:00:00:00:01:02/20/16/2007/10000/16 apctl config";
 
@@ -187,6 +197,7 @@ mod tests {
             channel: 6,
             monitor: "mon0".into(),
             interval: 100,
+            by: Some(By::Managed),
             idle: 60,
             socket: Some(5),
             tells_alive: true,
@@ -200,6 +211,10 @@ mod tests {
         let fewer =
             read(&GOOD.replace("--idle 60 --socket 5 --alive", "").replace("--name waltigon-live", "")).unwrap();
         assert_eq!((fewer.idle, fewer.socket, fewer.tells_alive), (300, None, false));
+        for (word, by) in [("active-monitors", By::ActiveMonitors), ("access-points", By::AccessPoints)] {
+            assert_eq!(read(&GOOD.replace("managed", word)).unwrap().by, Some(by));
+        }
+        assert_eq!(read(&GOOD.replace("--by managed", "")).unwrap().by, None);
         assert_eq!(fewer.name, "bridge");
     }
 
@@ -210,6 +225,7 @@ mod tests {
             ("--phy phy0", ""),
             ("--channel 6", ""),
             ("--channel 6", "--channel 15"),
+            ("managed", "monitors"),
             ("--idle 60", "--idle x"),
             ("--socket 5", "--socket 2"),
             ("100", "0"),
@@ -239,6 +255,6 @@ mod tests {
         ] {
             assert!(read(&GOOD.replacen(old, new, 1)).is_err(), "{old} {new}");
         }
-        assert!(read("--face text --phy phy0 --channel 6 --monitor mon0 --interval 100 apctl config").is_err());
+        assert!(read("--phy phy0 --channel 6 --monitor mon0 --interval 100 apctl config").is_err());
     }
 }

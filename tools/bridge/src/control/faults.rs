@@ -40,7 +40,25 @@ pub fn reason(fault: &io::Error) -> String {
     number.and_then(|number| text.strip_suffix(&number).map(str::to_owned)).unwrap_or(text)
 }
 
+/// Whether a fault is that of an interface that is down.
+pub fn is_down(fault: &io::Error) -> bool {
+    fault.raw_os_error() == Some(libc::ENETDOWN)
+}
+
 /// Says something to the person on standard error.
 pub fn tell(text: impl fmt::Display) {
     log::write(Level::Notice, text);
+}
+
+#[cfg(test)]
+mod tests {
+    use super::*;
+
+    #[test]
+    fn a_fault_of_the_system_is_told_without_its_number() {
+        let down = io::Error::from_raw_os_error(libc::ENETDOWN);
+        assert_eq!((reason(&down).as_str(), is_down(&down)), ("Network is down", true));
+        let other = io::Error::new(io::ErrorKind::Other, "of the bridge (os error)");
+        assert_eq!((reason(&other).as_str(), is_down(&other)), ("of the bridge (os error)", false));
+    }
 }

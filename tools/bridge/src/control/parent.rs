@@ -50,8 +50,14 @@ pub enum Notice {
     Ready,
     /// The wire of the network of this place has ended.
     Down(usize),
-    /// The first beacon was seen as sent.
+    /// The first beacon was seen as sent, or one again behind `Unsent`.
     Sending,
+    /// The radio has shown no beacon as sent for five seconds, or for three beacon intervals where these last longer.
+    Unsent,
+    /// The radio hears on this frequency, in MHz, which isn't its channel's.
+    Elsewhere(u16),
+    /// It hears on its channel again.
+    Here,
     /// The program has answered the last beginning of a beacon interval; told once a second at most.
     Alive,
     /// All stations that were to be told that they have to join again were told so.
@@ -64,17 +70,23 @@ pub enum Notice {
 
 /// Tells `tools/live`. Where that has ended nothing is to be done: the bridge's input has ended too.
 pub fn say(notice: &Notice) {
-    let line = match notice {
+    let mut output = io::stdout();
+    let _ = output.write_all(line_of(notice).as_bytes()).and_then(|()| output.flush());
+}
+
+fn line_of(notice: &Notice) -> String {
+    match notice {
         Notice::Ready => "ready\n".to_owned(),
         Notice::Down(place) => format!("down {place}\n"),
         Notice::Sending => "sending\n".to_owned(),
+        Notice::Unsent => "unsent\n".to_owned(),
+        Notice::Elsewhere(frequency) => format!("elsewhere {frequency}\n"),
+        Notice::Here => "here\n".to_owned(),
         Notice::Alive => "alive\n".to_owned(),
         Notice::Dismissed => "dismissed\n".to_owned(),
         Notice::Status(status) => format!("status {status}\n"),
         Notice::Fault(fault) => format!("fault {}\n", fault.to_string().replace('\n', " ")),
-    };
-    let mut output = io::stdout();
-    let _ = output.write_all(line.as_bytes()).and_then(|()| output.flush());
+    }
 }
 
 /// Reads requests as they come.
@@ -155,6 +167,14 @@ mod tests {
 
     fn nothing() -> OwnedFd {
         File::open("/dev/null").unwrap().into()
+    }
+
+    #[test]
+    fn notices_are_lines() {
+        let fault = Fault::new("two\nlines");
+        let notices = [Notice::Down(2), Notice::Unsent, Notice::Sending, Notice::Elsewhere(2412), Notice::Here];
+        let lines: String = notices.iter().chain([&Notice::Fault(fault)]).map(line_of).collect();
+        assert_eq!(lines, "down 2\nunsent\nsending\nelsewhere 2412\nhere\nfault two lines\n");
     }
 
     #[test]

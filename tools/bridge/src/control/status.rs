@@ -4,6 +4,7 @@ use std::fmt::{self, Display, Write};
 
 use crate::apctl::recording::Recording;
 use crate::apctl::tables::Tables;
+use crate::control::by::By;
 use crate::network::Network;
 use crate::os::clock::{Nanos, MILLISECOND, SECOND};
 use crate::outbound::air::account::Account;
@@ -36,12 +37,29 @@ impl Faults {
 /// Counts by what they count.
 pub type Named = BTreeMap<String, u64>;
 
+/// What is known of the radio; where all is well, nothing.
+#[derive(Debug, Clone, Copy, Default)]
+pub struct OfRadio {
+    /// Since when its interface is down.
+    pub down_since: Option<Nanos>,
+    /// Since when it has shown no beacon as sent.
+    pub unsent_since: Option<Nanos>,
+    /// On which frequency it hears, in MHz, where that isn't its channel's.
+    pub elsewhere: Option<u16>,
+    /// How many frames were heard on other frequencies.
+    pub heard_elsewhere: u64,
+}
+
 /// What is known of all.
 pub struct Status<'a> {
     /// The radio's name.
     pub phy: &'a str,
     /// The channel.
     pub channel: u8,
+    /// By which interfaces it acknowledges, where that is known.
+    pub by: Option<By>,
+    /// How it does.
+    pub radio: OfRadio,
     /// When the program was started.
     pub began: Nanos,
     /// The program's last faults.
@@ -79,7 +97,9 @@ impl Status<'_> {
 
     fn write_all(&self, to: &mut String) -> fmt::Result {
         write!(to, "{{\"version\":{},\"since\":{}", Text(VERSION), Seconds(self.now.saturating_sub(self.began)))?;
-        write!(to, ",\"phy\":{},\"channel\":{},\"faults\":", Text(self.phy), self.channel)?;
+        write!(to, ",\"phy\":{},\"channel\":{}", Text(self.phy), self.channel)?;
+        self.write_radio(to)?;
+        to.push_str(",\"faults\":");
         let faults = self.faults.0.iter().rev();
         list(to, faults, |to, (since, text)| {
             write!(to, "{{\"seconds\":{},\"text\":{}}}", Seconds(self.now.saturating_sub(*since)), Text(text))
@@ -96,6 +116,16 @@ impl Status<'_> {
         list(to, 0..self.networks.len(), |to, place| self.write_network(to, place))?;
         to.push('}');
         Ok(())
+    }
+
+    fn write_radio(&self, to: &mut String) -> fmt::Result {
+        if let Some(by) = self.by {
+            write!(to, ",\"by\":{}", Text(&by.to_string()))?;
+        }
+        let OfRadio { down_since, unsent_since, elsewhere, heard_elsewhere } = self.radio;
+        let ago = |moment: Option<Nanos>| Maybe(moment.map(|moment| Seconds(self.now.saturating_sub(moment))));
+        write!(to, ",\"radio\":{{\"down\":{},\"unsent\":{}", ago(down_since), ago(unsent_since))?;
+        write!(to, ",\"elsewhere\":{},\"heard_elsewhere\":{heard_elsewhere}}}", Maybe(elsewhere))
     }
 
     fn write_network(&self, to: &mut String, place: usize) -> fmt::Result {
@@ -301,6 +331,8 @@ mod tests {
         let status = Status {
             phy: "phy0",
             channel: 6,
+            by: Some(By::ActiveMonitors),
+            radio: OfRadio { down_since: None, unsent_since: Some(SECOND), elsewhere: Some(2412), heard_elsewhere: 3 },
             began: 0,
             faults: &faults,
             record: Some(&record),
@@ -315,7 +347,8 @@ mod tests {
             now: 3 * SECOND,
         };
         let wanted = [
-            r#""since":3.000,"phy":"phy0","channel":6,"#,
+            r#""since":3.000,"phy":"phy0","channel":6,"by":"active-monitors","#,
+            r#""radio":{"down":null,"unsent":2.000,"elsewhere":2412,"heard_elsewhere":3},"#,
             r#""faults":[{"seconds":2.000,"text":"fault L2 line 3"},{"seconds":1.000,"text":"fault L1 line 4"}],"#,
             r#""record":{"octets":0,"fault":null},"#,
             r#""beacons":{"sent":2,"late_ms_mean":3.000,"late_ms_worst":4.000,"missed":0},"#,

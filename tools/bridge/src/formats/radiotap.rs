@@ -5,6 +5,7 @@ const PRESENT_AT: usize = 4;
 const PRESENT_LEN: usize = 4;
 const FLAGS: usize = 1;
 const RATE: usize = 2;
+const CHANNEL: usize = 3;
 const SIGNAL: usize = 5;
 const RX_FLAGS: usize = 14;
 /// The bit of the field that only a frame has that was sent here.
@@ -92,6 +93,8 @@ pub struct Reception {
     pub signal: Option<i8>,
     /// At which rate, in units of 500 kb/s.
     pub rate: Option<u8>,
+    /// On which frequency, in MHz.
+    pub frequency: Option<u16>,
 }
 
 /// What the header of a packet of a monitor interface says of how it was heard.
@@ -101,7 +104,11 @@ pub fn reception(packet: &[u8]) -> Reception {
         None => Reception::default(),
         Some(header) => {
             let fields = Fields::of(header);
-            Reception { signal: fields.octet(SIGNAL).map(|octet| octet as i8), rate: fields.octet(RATE) }
+            Reception {
+                signal: fields.octet(SIGNAL).map(|octet| octet as i8),
+                rate: fields.octet(RATE),
+                frequency: fields.number(CHANNEL),
+            }
         }
     }
 }
@@ -217,7 +224,7 @@ mod tests {
     #[test]
     fn how_a_frame_was_heard_is_told() {
         let heard = radiotap(&data(), 1 << 2 | 1 << 3 | 1 << 5, &[22, 0, 0x85, 9, 0xa0, 0, 0xe2]);
-        assert_eq!(reception(&heard), Reception { signal: Some(-30), rate: Some(22) });
+        assert_eq!(reception(&heard), Reception { signal: Some(-30), rate: Some(22), frequency: Some(2437) });
         assert_eq!(reception(&radiotap(&data(), 1 << 1, &[0])), Reception::default());
         for packet in [&[][..], &[0, 0, 99, 0, 0xff, 0xff, 0, 0], &[0; 8], &[0, 0, 8, 0, 0x24, 0, 0, 0]] {
             assert_eq!(reception(packet), Reception::default(), "{packet:?}");

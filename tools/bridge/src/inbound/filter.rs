@@ -3,26 +3,50 @@
 //! goes on, and is judged as ever.
 //!
 //! Frames that were acknowledged come by a socket of their own, which wakes nobody: its filter lets through those alone
-//! whose header is as mac80211 writes it, and these the first filter keeps out.
+//! whose header is as mac80211 writes it, and these the first filter keeps out. By it come beacons too, of which the
+//! kernel draws some: what became of them tells that the radio goes on sending.
 use libc::sock_filter;
 
 use crate::formats::frames::{Address, BEACON};
+use crate::os::clock::{Nanos, SECOND};
 
 /// What is done with the frames that the radio shows as sent.
 #[derive(Debug, Clone, Copy, PartialEq, Eq)]
 pub enum Shown {
     /// They come, by which it is seen that the radio sends.
     All,
-    /// All but beacons come, cut after their addresses: what became of them is learned.
+    /// They come, cut after their addresses: what became of them is learned.
     Outcomes,
-    /// Of these come the ones that `acknowledged_filter` doesn't let through.
+    /// Of these come the ones that `acknowledged_filter` doesn't let through, and no beacons.
     Failures,
+}
+
+/// Of which beacons it is learned that they were sent.
+#[derive(Debug, Clone, Copy, PartialEq, Eq)]
+pub enum Drawn {
+    /// Of each.
+    Each,
+    /// Of those for which the kernel draws a smaller number, of 32 bits.
+    Below(u32),
+}
+
+impl Drawn {
+    /// About one a second, where so many networks have such beacon intervals; of each where they are rarer.
+    pub fn one_a_second(networks: usize, interval: Nanos) -> Drawn {
+        let all = SECOND * networks.max(1) as u64;
+        if interval >= all {
+            Drawn::Each
+        } else {
+            Drawn::Below(((u128::from(interval) << 32) / u128::from(all)) as u32)
+        }
+    }
 }
 
 // Of <linux/bpf_common.h>, and not in the crate libc yet.
 const TAX: u32 = 0x00;
 const TXA: u32 = 0x80;
 const LOAD_LENGTH: u16 = (libc::BPF_LD | libc::BPF_W | libc::BPF_LEN) as u16;
+const LOAD_FOUR: u16 = (libc::BPF_LD | libc::BPF_W | libc::BPF_ABS) as u16;
 const LOAD_OCTET: u16 = (libc::BPF_LD | libc::BPF_B | libc::BPF_ABS) as u16;
 const LOAD_OCTET_AT_X: u16 = (libc::BPF_LD | libc::BPF_B | libc::BPF_IND) as u16;
 const LOAD_TWO_AT_X: u16 = (libc::BPF_LD | libc::BPF_H | libc::BPF_IND) as u16;
@@ -59,6 +83,8 @@ const TYPE_BITS: u32 = 0x0c;
 const CONTROL: u32 = 0x04;
 const SUBTYPE_BITS: u32 = 0xf0;
 const PS_POLL: u32 = 0xa0;
+/// Where the kernel gives a number that it draws.
+const NUMBER_DRAWN_AT: u32 = (libc::SKF_AD_OFF + libc::SKF_AD_RANDOM) as u32;
 
 /// The filter of a monitor interface for these networks.
 pub fn monitor_filter(bssids: &[Address], shown: Shown) -> Vec<sock_filter> {
@@ -72,12 +98,20 @@ pub fn monitor_filter(bssids: &[Address], shown: Shown) -> Vec<sock_filter> {
 }
 
 /// The filter of the socket by which frames come that were sent, and acknowledged where that was awaited, cut after
-/// their addresses.
-pub fn acknowledged_filter() -> Vec<sock_filter> {
+/// their addresses; of beacons those that are drawn.
+pub fn acknowledged_filter(drawn: Drawn) -> Vec<sock_filter> {
     let mut filter =
         vec![plain(LOAD_OCTET, SECOND_PRESENT_OCTET), jump(IF_ANY_BIT, TX_FLAGS_BIT, 1, 0), returned(NONE)];
     filter.extend(read_lengths(NONE));
-    filter.extend(of_beacons());
+    filter.extend(of_beacons(match drawn {
+        Drawn::Each => vec![returned(OUTCOME_LEN)],
+        Drawn::Below(number) => vec![
+            plain(LOAD_FOUR, NUMBER_DRAWN_AT),
+            jump(IF_AT_LEAST, number, 1, 0),
+            returned(OUTCOME_LEN),
+            returned(NONE),
+        ],
+    }));
     filter.extend(of_outcomes(OUTCOME_LEN, NONE));
     filter
 }
@@ -118,8 +152,8 @@ fn read_lengths(odd: u32) -> Vec<sock_filter> {
 fn of_those_sent(shown: Shown) -> Vec<sock_filter> {
     let of_them = match shown {
         Shown::All => vec![returned(ALL)],
-        Shown::Outcomes => [of_beacons(), vec![returned(OUTCOME_LEN)]].concat(),
-        Shown::Failures => [of_beacons(), of_outcomes(NONE, OUTCOME_LEN)].concat(),
+        Shown::Outcomes => vec![returned(OUTCOME_LEN)],
+        Shown::Failures => [of_beacons(vec![returned(NONE)]), of_outcomes(NONE, OUTCOME_LEN)].concat(),
     };
     let mut filter =
         vec![plain(LOAD_OCTET, SECOND_PRESENT_OCTET), jump(IF_ANY_BIT, TX_FLAGS_BIT, 0, of_them.len() as u8)];
@@ -127,9 +161,11 @@ fn of_those_sent(shown: Shown) -> Vec<sock_filter> {
     filter
 }
 
-/// Beacons are kept out: what becomes of them is of no use.
-fn of_beacons() -> Vec<sock_filter> {
-    vec![plain(LOAD_OCTET_AT_X, 0), jump(IF_EQUAL, u32::from(BEACON), 0, 1), returned(NONE)]
+/// What is done with beacons.
+fn of_beacons(then: Vec<sock_filter>) -> Vec<sock_filter> {
+    let mut filter = vec![plain(LOAD_OCTET_AT_X, 0), jump(IF_EQUAL, u32::from(BEACON), 0, then.len() as u8)];
+    filter.extend(then);
+    filter
 }
 
 /// Whether a frame that was sent was acknowledged, by a header that names no fields before the flags but the rate;
@@ -197,6 +233,11 @@ mod tests {
 
     /// What the kernel does with a filter: how many octets of the packet go on.
     fn kept(filter: &[sock_filter], packet: &[u8]) -> u32 {
+        kept_of(filter, packet, 0)
+    }
+
+    /// The same where the kernel draws this number.
+    fn kept_of(filter: &[sock_filter], packet: &[u8], drawn: u32) -> u32 {
         let (mut a, mut x, mut place) = (0u32, 0u32, 0);
         loop {
             let step = filter[place];
@@ -209,6 +250,7 @@ mod tests {
             };
             let loaded = match step.code {
                 LOAD_LENGTH => Some(packet.len() as u32),
+                LOAD_FOUR if step.k == NUMBER_DRAWN_AT => Some(drawn),
                 LOAD_OCTET => load(step.k, 1),
                 LOAD_OCTET_AT_X => load(x.wrapping_add(step.k), 1),
                 LOAD_TWO_AT_X => load(x.wrapping_add(step.k), 2),
@@ -254,7 +296,7 @@ mod tests {
         let beacon =
             Unit { control: [BEACON, 0], transmitter: OURS, receiver: Address::BROADCAST, ..Unit::default() }.octets();
         for (asked, of_unit, of_beacon) in
-            [(Shown::All, ALL, ALL), (Shown::Outcomes, OUTCOME_LEN, NONE), (Shown::Failures, OUTCOME_LEN, NONE)]
+            [(Shown::All, ALL, ALL), (Shown::Outcomes, OUTCOME_LEN, OUTCOME_LEN), (Shown::Failures, OUTCOME_LEN, NONE)]
         {
             let filter = monitor_filter(&[OURS], asked);
             assert_eq!(
@@ -269,7 +311,7 @@ mod tests {
     /// where it was acknowledged and the header is as mac80211 writes it.
     #[test]
     fn outcomes_come_by_one_socket_or_the_other() {
-        let (waking, quiet) = (monitor_filter(&[OURS], Shown::Failures), acknowledged_filter());
+        let (waking, quiet) = (monitor_filter(&[OURS], Shown::Failures), acknowledged_filter(Drawn::Below(0)));
         let unit = Unit { transmitter: OURS, receiver: STRANGER, ..Unit::default() }.octets();
         let both = |packet: &[u8]| (kept(&waking, packet), kept(&quiet, packet));
         let sent = |present: u32, fields: &[u8]| both(&radiotap(&unit, present, fields));
@@ -292,6 +334,27 @@ mod tests {
         assert_eq!(kept(&nothing_filter(), &heard(&data())), NONE);
     }
 
+    /// By the socket that wakes nobody, whatever the header names.
+    #[test]
+    fn of_beacons_that_were_sent_about_one_a_second_comes() {
+        const INTERVAL: Nanos = 102_400_000;
+        let beacon = Unit { control: [BEACON, 0], transmitter: OURS, receiver: Address::BROADCAST, ..Unit::default() };
+        let packets = [shown(&beacon.octets()), radiotap(&beacon.octets(), 1 << 15, &[1, 0])];
+        for (networks, interval, wanted) in
+            [(1, INTERVAL, 103), (16, INTERVAL, 7), (1, SECOND, 1000), (16, 20 * SECOND, 1000)]
+        {
+            let filter = acknowledged_filter(Drawn::one_a_second(networks, interval));
+            for packet in &packets {
+                let came = (0..1000).filter(|part| kept_of(&filter, packet, part * (u32::MAX / 1000)) == OUTCOME_LEN);
+                assert_eq!(came.count(), wanted, "{networks} {interval}");
+            }
+        }
+        let unit = Unit { transmitter: OURS, receiver: STRANGER, ..Unit::default() }.octets();
+        let filter = acknowledged_filter(Drawn::Below(1));
+        assert_eq!(kept_of(&filter, &radiotap(&unit, 1 << 15, &[0, 0]), u32::MAX), OUTCOME_LEN);
+        assert_eq!(kept_of(&filter, &heard(&beacon.octets()), 0), NONE);
+    }
+
     #[test]
     fn what_is_cut_goes_on() {
         let filter = monitor_filter(&[OURS], Shown::Outcomes);
@@ -308,7 +371,7 @@ mod tests {
     #[test]
     fn it_agrees_with_what_is_judged() {
         let filter = monitor_filter(&[OURS, OTHER], Shown::Outcomes);
-        let apart = [monitor_filter(&[OURS, OTHER], Shown::Failures), acknowledged_filter()];
+        let apart = [monitor_filter(&[OURS, OTHER], Shown::Failures), acknowledged_filter(Drawn::Each)];
         let mut seeded = Seeded(3);
         let mut out = 0;
         for _ in 0..200_000 {
@@ -321,7 +384,6 @@ mod tests {
             let wanted = match Judge::new([OURS, OTHER]).judge(&packet, false, false) {
                 Judged::LeftOut(LeftOut::Controls | LeftOut::Others) => NONE,
                 Judged::Sent(frame, _) if frame.len() < LEAST as usize => ALL,
-                Judged::Sent(frame, _) if frame[0] == BEACON => NONE,
                 Judged::Sent(..) => OUTCOME_LEN,
                 _ => ALL,
             };

@@ -2,6 +2,7 @@
 pub mod clock;
 mod epoll;
 mod landlock;
+pub mod link;
 pub mod pipes;
 pub mod poller;
 pub mod sandbox;

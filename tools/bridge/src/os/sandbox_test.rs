@@ -79,6 +79,19 @@ fn a_bridge_that_opens_a_file_is_refused() {
     }
 }
 
+/// The errors are of a descriptor that is no socket.
+#[test]
+fn a_bridge_asks_how_an_interface_is() {
+    // SAFETY: no memory is handed over.
+    unsafe {
+        let found = bridge_that(|| libc::syscall(libc::SYS_getsockname, 0, 0, 0));
+        assert_eq!(found, Some(-libc::ENOTSOCK));
+        for what in crate::os::link::ASKED {
+            assert_eq!(bridge_that(move || libc::syscall(libc::SYS_ioctl, 0, what, 0)), Some(-libc::ENOTTY));
+        }
+    }
+}
+
 /// What becomes of a process within the program's bounds that makes a call: the signal that ended it, or the error.
 fn program_that(memory: u64, calls: impl Fn() -> c_long + Send + Sync + 'static) -> i32 {
     let bounds = Bounds::of("/bin/true", "/etc/hostname", memory).unwrap();

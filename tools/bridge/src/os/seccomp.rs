@@ -40,8 +40,15 @@ const WRITES: u32 = (libc::O_ACCMODE | libc::O_CREAT | libc::O_TRUNC | libc::O_A
     & !(libc::O_DIRECTORY as u32);
 const RUNS: u32 = libc::PROT_EXEC as u32;
 const IS_THREAD: u32 = libc::CLONE_THREAD as u32;
-/// What the bridge asks of its descriptors by ioctl(2): how much waits to be read or sent, and to wait for nothing.
-const ASKED: &[u32] = &[libc::FIONREAD as u32, libc::TIOCOUTQ as u32, libc::FIONBIO as u32];
+/// What the bridge asks of its descriptors by ioctl(2): how much waits to be read or sent, to wait for nothing, and the
+/// name and the flags of an interface.
+const ASKED: &[u32] = &[
+    libc::FIONREAD as u32,
+    libc::TIOCOUTQ as u32,
+    libc::FIONBIO as u32,
+    libc::SIOCGIFNAME as u32,
+    libc::SIOCGIFFLAGS as u32,
+];
 
 /// What any program needs that has begun: its memory, its end, its signals and the time.
 pub const ANY: &[Rule] = &[
@@ -94,6 +101,7 @@ pub const OF_BRIDGE: &[Rule] = &[
     Rule::Allowed(libc::SYS_recvmsg),
     Rule::Allowed(libc::SYS_recvfrom),
     Rule::Allowed(libc::SYS_getsockopt),
+    Rule::Allowed(libc::SYS_getsockname),
     // Filters of its own sockets.
     Rule::OneOf(libc::SYS_setsockopt, 2, &[libc::SO_ATTACH_FILTER as u32]),
     Rule::Allowed(libc::SYS_accept4),

@@ -10,6 +10,7 @@ use std::{io, ptr};
 use libc::{c_int, c_void, iovec, mmsghdr, sock_filter, sockaddr_ll};
 
 use crate::os::clock::{Nanos, SECOND};
+use crate::os::link::{link_of, Link};
 
 /// How many packets are read or written by one call. Four calls read no more than may wait of one flow
 /// (`queue::MOST_OF_FLOW`) before the program is given what was read: else bursts, in which TCP sends, would be cut.
@@ -81,6 +82,12 @@ pub trait Port {
     fn count_dropped(&mut self) -> u64;
     /// How many octets the interface was given and hasn't sent yet, what the kernel keeps beside them included.
     fn unsent(&self) -> io::Result<usize>;
+    /// How the interface is.
+    fn link(&self) -> io::Result<Link> {
+        Ok(Link::Up)
+    }
+    /// Forgets that the interface was down, where nobody was told that yet.
+    fn forget_fault(&self) {}
     /// Gives the interface up: nothing is heard or sent by it any more, and it has no descriptor. What is read or sent
     /// from then on is refused as by an interface that is down. A port without a socket has nothing to close.
     fn close(&mut self) {}
@@ -148,6 +155,16 @@ impl Port for PacketSocket {
 
     fn unsent(&self) -> io::Result<usize> {
         number_of(self.open_socket()?.as_raw_fd(), libc::TIOCOUTQ)
+    }
+
+    fn link(&self) -> io::Result<Link> {
+        link_of(self.open_socket()?.as_raw_fd())
+    }
+
+    fn forget_fault(&self) {
+        let mut fault: c_int = 0;
+        // The kernel forgets it by telling it.
+        let _ = read_option(self.descriptor(), libc::SOL_SOCKET, libc::SO_ERROR, &mut fault);
     }
 
     fn close(&mut self) {
@@ -292,6 +309,35 @@ pub fn hand(socket: &UnixStream, octets: &[u8], descriptors: &[OwnedFd]) -> io::
     Ok(())
 }
 
+/// A socket of an interface, as `tools/live` opens one.
+#[cfg(test)]
+pub fn open(interface: &str) -> io::Result<PacketSocket> {
+    const PACKET_IGNORE_OUTGOING: c_int = 23;
+    let name = std::ffi::CString::new(interface)?;
+    // SAFETY: the name ends with its zero octet; the descriptor is owned from here on.
+    let (index, socket) = unsafe {
+        let kind = libc::SOCK_RAW | libc::SOCK_NONBLOCK | libc::SOCK_CLOEXEC;
+        let socket = OwnedFd::from_raw_fd(checked(libc::socket(libc::AF_PACKET, kind, 0))?);
+        (libc::if_nametoindex(name.as_ptr()) as c_int, socket)
+    };
+    let one: c_int = 1;
+    let room: c_int = 1 << 16;
+    set_option(&socket, libc::SOL_SOCKET, libc::SO_SNDBUFFORCE, &room)?;
+    set_option(&socket, libc::SOL_SOCKET, libc::SO_TIMESTAMPNS, &one)?;
+    set_option(&socket, libc::SOL_PACKET, PACKET_AUXDATA, &one)?;
+    set_option(&socket, libc::SOL_PACKET, PACKET_IGNORE_OUTGOING, &one)?;
+    // SAFETY: all zero is an address; the length is its own.
+    unsafe {
+        let mut address: sockaddr_ll = zeroed();
+        address.sll_family = libc::AF_PACKET as u16;
+        address.sll_protocol = (libc::ETH_P_ALL as u16).to_be();
+        address.sll_ifindex = index;
+        let place = &address as *const sockaddr_ll;
+        checked(libc::bind(socket.as_raw_fd(), place.cast(), size_of::<sockaddr_ll>() as u32))?;
+    }
+    Ok(PacketSocket::of(interface, socket))
+}
+
 /// Sends frames by one call.
 fn send_many(socket: RawFd, frames: &[&[u8]]) -> io::Result<usize> {
     if let [frame] = frames {
@@ -412,7 +458,7 @@ impl Batch {
     fn auxiliary(&self, place: usize) -> (u32, Option<Nanos>) {
         let header = &self.headers[place].msg_hdr;
         let (mut status, mut arrived) = (0, None);
-        debug_assert!(header.msg_controllen as usize <= size_of_val(&self.controls[place]));
+        debug_assert!(header.msg_controllen <= size_of_val(&self.controls[place]) as _);
         // SAFETY: the kernel wrote whole control messages into the room of this header and said how long they are; each
         // is read as far as its own length says.
         unsafe {
@@ -442,46 +488,14 @@ mod tests {
     use super::*;
     use crate::inbound::filter::{monitor_filter, Shown};
     use crate::os::clock::{now, wall_now};
-    use crate::testing::samples::{data, radiotap, OURS, STRANGER};
-    use std::io::Write;
+    use crate::testing::samples::{data, radiotap, tell_not_run, OURS, STRANGER};
 
-    const PACKET_IGNORE_OUTGOING: c_int = 23;
-
-    /// A socket of the loopback interface, as `tools/live` opens those of the others.
-    fn open() -> io::Result<PacketSocket> {
-        // SAFETY: no memory is handed over; the descriptor is owned from here on.
-        let socket = unsafe {
-            let kind = libc::SOCK_RAW | libc::SOCK_NONBLOCK | libc::SOCK_CLOEXEC;
-            OwnedFd::from_raw_fd(checked(libc::socket(libc::AF_PACKET, kind, 0))?)
-        };
-        let one: c_int = 1;
-        let room: c_int = 1 << 16;
-        set_option(&socket, libc::SOL_SOCKET, libc::SO_SNDBUFFORCE, &room)?;
-        set_option(&socket, libc::SOL_SOCKET, libc::SO_TIMESTAMPNS, &one)?;
-        set_option(&socket, libc::SOL_PACKET, PACKET_AUXDATA, &one)?;
-        set_option(&socket, libc::SOL_PACKET, PACKET_IGNORE_OUTGOING, &one)?;
-        // SAFETY: all zero is an address; the length is its own.
-        unsafe {
-            let mut address: sockaddr_ll = zeroed();
-            address.sll_family = libc::AF_PACKET as u16;
-            address.sll_protocol = (libc::ETH_P_ALL as u16).to_be();
-            address.sll_ifindex = 1;
-            let place = &address as *const sockaddr_ll;
-            checked(libc::bind(socket.as_raw_fd(), place.cast(), size_of::<sockaddr_ll>() as u32))?;
-        }
-        Ok(PacketSocket::of("lo", socket))
-    }
-
-    /// Two sockets on the loopback interface, or `None` where the machine gives none, as without root. That is told
-    /// past what the test's runner keeps back, so that whoever counts the tests that passed can leave this one out.
+    /// Two sockets on the loopback interface, or `None` where the machine gives none, as without root.
     fn pair() -> Option<(PacketSocket, PacketSocket)> {
-        match (open(), open()) {
+        match (open("lo"), open("lo")) {
             (Ok(hearing), Ok(sending)) => Some((hearing, sending)),
             _ => {
-                let thread = std::thread::current();
-                let name = thread.name().unwrap_or("a test");
-                let mut told = io::stderr();
-                writeln!(told, "not run: {name}: no packet socket here, which takes root").unwrap();
+                tell_not_run("no packet socket here, which takes root");
                 None
             }
         }

@@ -65,7 +65,7 @@ mod tests {
 
     #[test]
     fn the_clock_goes_on_as_that_of_std_does() {
-        let (begun, begun_by_std) = (monotonic(), Instant::now());
+        let (begun_by_std, begun) = (Instant::now(), monotonic());
         sleep(Duration::from_millis(20));
         let (gone, gone_by_std) = (monotonic() - begun, begun_by_std.elapsed().as_nanos() as Nanos);
         assert!(gone >= 20_000_000 && gone <= gone_by_std && gone_by_std - gone < SECOND, "{gone} {gone_by_std}");

@@ -84,6 +84,12 @@ impl<P: Port> Outbound<P> {
         self.acknowledged.as_mut()
     }
 
+    /// The radio's interface is up again, after so long.
+    pub fn radio_came_up(&mut self, after: Nanos) {
+        self.air.came_up(after);
+        self.acknowledged.iter().for_each(Port::forget_fault);
+    }
+
     /// The wire of the network of this place, and what waits for it.
     pub fn wire(&mut self, place: Place) -> Option<&mut Gate<P>> {
         self.wires.get_mut(place).and_then(Option::as_mut).map(|wire| &mut wire.gate)

@@ -147,6 +147,7 @@ impl<P: Port> Running<P> {
     fn send_on_air(&mut self, bssid: Address, octets: Vec<u8>, time: Nanos) -> Result<(), Fault> {
         if octets.first() == Some(&BEACON) {
             self.beacons.count(time.saturating_sub(self.ticks.last_due()));
+            self.radio.beacons.given(time);
         }
         let errands = self.stations.answered(bssid, &octets, time);
         self.outbound.send_on_air(bssid, octets, time)?;

@@ -17,9 +17,13 @@ use crate::apctl::recording::Recording;
 use crate::formats::radiotap::sending_header;
 use crate::handover::state::State;
 use crate::network::Network;
+use crate::os::link::Link;
 use crate::os::sockets::{hand, Port};
 use crate::stations::own_frames::{deauthentication, departure, INACTIVITY};
 use crate::testing::samples::{data, network, radiotap, Unit, OTHER, OURS, STATION};
+
+#[path = "radio_test.rs"]
+mod radio;
 
 const BEACON: &str = "80000000ffffffffffff020000000101020000000101";
 /// What each program begins with: how it reads and writes records.
@@ -123,6 +127,10 @@ struct FakePort {
     takes: Duration,
     /// Whether it goes down once it is read.
     goes_down: Arc<AtomicBool>,
+    /// How its interface is.
+    link: Arc<Mutex<Link>>,
+    /// Whether a radio's sends nothing any more, and shows nothing.
+    is_silent: Arc<AtomicBool>,
     is_closed: bool,
 }
 
@@ -131,8 +139,10 @@ impl FakePort {
     fn new(interface: &'static str) -> (FakePort, UnixDatagram, Arc<Mutex<Vec<Vec<u8>>>>) {
         let ((near, far), sent) = (UnixDatagram::pair().unwrap(), Arc::default());
         let other_end = far.try_clone().unwrap();
-        let (takes, goes_down) = (Duration::ZERO, Arc::default());
-        let port = FakePort { interface, near, far, sent, shows: false, takes, goes_down, is_closed: false };
+        let (takes, goes_down, is_silent) = (Duration::ZERO, Arc::default(), Arc::default());
+        let link = Arc::new(Mutex::new(Link::Up));
+        let (shows, is_closed) = (false, false);
+        let port = FakePort { interface, near, far, sent, shows, takes, goes_down, link, is_silent, is_closed };
         let sent = Arc::clone(&port.sent);
         (port, other_end, sent)
     }
@@ -166,6 +176,12 @@ impl Port for FakePort {
 
     fn send(&mut self, frames: &[&[u8]]) -> io::Result<usize> {
         assert!(!self.is_closed);
+        if *self.link.lock().unwrap() != Link::Up {
+            return Err(io::Error::from_raw_os_error(libc::ENETDOWN));
+        }
+        if self.is_silent.load(Ordering::SeqCst) {
+            return Ok(frames.len());
+        }
         for frame in frames {
             thread::sleep(self.takes);
             self.sent.lock().unwrap().push(frame.to_vec());
@@ -188,6 +204,10 @@ impl Port for FakePort {
         Ok(0)
     }
 
+    fn link(&self) -> io::Result<Link> {
+        Ok(*self.link.lock().unwrap())
+    }
+
     fn close(&mut self) {
         self.is_closed = true;
     }
@@ -198,7 +218,8 @@ impl FakePort {
     fn beside(&self) -> FakePort {
         let (near, far) = (self.near.try_clone().unwrap(), self.far.try_clone().unwrap());
         let (sent, goes_down) = (Arc::clone(&self.sent), Arc::clone(&self.goes_down));
-        FakePort { near, far, sent, goes_down, ..*self }
+        let (link, is_silent) = (Arc::clone(&self.link), Arc::clone(&self.is_silent));
+        FakePort { near, far, sent, goes_down, link, is_silent, ..*self }
     }
 }
 
@@ -215,6 +236,8 @@ struct Stage {
     sent_on_other_wire: Arc<Mutex<Vec<Vec<u8>>>>,
     other_goes_down: Arc<AtomicBool>,
     air_goes_down: Arc<AtomicBool>,
+    air_link: Arc<Mutex<Link>>,
+    air_is_silent: Arc<AtomicBool>,
 }
 
 impl Stage {
@@ -296,6 +319,7 @@ fn run_with(
     let (wire, far_wire, sent_on_wire) = FakePort::new("wire1");
     let (other, other_wire, sent_on_other_wire) = FakePort::new("wire2");
     let (other_goes_down, air_goes_down) = (Arc::clone(&other.goes_down), Arc::clone(&monitor.goes_down));
+    let (air_link, air_is_silent) = (Arc::clone(&monitor.link), Arc::clone(&monitor.is_silent));
     let mut stage = Stage {
         folder,
         requests,
@@ -307,6 +331,8 @@ fn run_with(
         sent_on_other_wire,
         other_goes_down,
         air_goes_down,
+        air_link,
+        air_is_silent,
     };
     let ports = (monitor, vec![Some(wire), Some(other)]);
     let clients = Clients::new(UnixListener::bind(stage.folder.join("socket")).unwrap()).unwrap();
@@ -343,7 +369,7 @@ fn serve(
         wires[1] = None;
     }
     let (program, feeder) = Program::start(path, "radio.toml", None, Some(record))?;
-    let manner = Manner { setting: setting(interval), most_silence: Some(300 * SECOND), tells_alive: false };
+    let manner = Manner { setting: setting(interval), by: None, most_silence: Some(300 * SECOND), tells_alive: false };
     let mut bridge = Bridge::new(program, feeder, Requests::new(asked), Some(clients), manner)?;
     let mut ports = Some((monitor, wires));
     bridge.serve(|_| {
@@ -663,14 +689,6 @@ fn a_wire_that_is_missing_at_the_start_is_taken_later() {
     assert_eq!((came, stage.sent_on_wire.lock().unwrap().clone()), (to_other(0x20), vec![data()]));
     assert!(before.contains(r#""wire":"wire2","wire_down":"#), "{before}");
     assert!(!before.contains(r#""wire":"wire2","wire_down":null"#), "{before}");
-}
-
-#[test]
-fn a_monitor_interface_that_goes_down_ends_all() {
-    let (outcome, _) = run_with(TWO, Surroundings { networks: 2, ..Surroundings::default() }, |stage| {
-        stage.air_goes_down.store(true, Ordering::SeqCst);
-    });
-    assert_eq!(outcome, Err(Fault::new("mon0: Network is down: was it taken down?")));
 }
 
 #[test]

@@ -1,18 +1,23 @@
-//! The bridge while it runs: one thread that waits for what comes first, and does it. `reading` is what comes by the
-//! interfaces, `answering` what the program answers and others ask, `timing` what beacons go before, `staying` how
-//! stations stay from one bridge to the next, and `telling` what people are told.
+//! The bridge while it runs: one thread that waits for what comes first, and does it. `requests` is what `tools/live`
+//! asks for, `opening` how frames begin to go, `interfaces` and `reading` what comes by the interfaces, `feeding` what
+//! the program is given, `answering` what it answers and others ask, `timing` what beacons go before, `radio` whether
+//! the radio does what it has to, `staying` how stations stay from one bridge to the next, `telling` what people are
+//! told, and `ending` the end. `running` has what all of these change.
 mod answering;
+mod beacon_watch;
 mod ending;
 mod feeding;
 mod interfaces;
 pub mod intervals;
 mod opening;
+mod radio;
 mod reading;
 mod requests;
 mod running;
 mod staying;
 mod telling;
 mod timing;
+mod tuning;
 
 use std::thread::sleep;
 use std::time::Duration;
@@ -21,6 +26,7 @@ use running::Running;
 
 use crate::apctl::feeder::Feeder;
 use crate::apctl::program::Program;
+use crate::control::by::By;
 use crate::control::clients::Clients;
 use crate::control::faults::Fault;
 use crate::control::parent::{say, Handed, Notice, Request, Requests};
@@ -47,6 +53,8 @@ const ALIVE_EVERY: Nanos = SECOND;
 pub struct Manner {
     /// The radio, its channel and the beacon interval.
     pub setting: Setting,
+    /// By which interfaces the radio acknowledges, where that is known.
+    pub by: Option<By>,
     /// After how long an associated station of which nothing was heard is asked; `None` asks nobody.
     pub most_silence: Option<Nanos>,
     /// Whether `tools/live` is told that the program answers.
@@ -195,6 +203,7 @@ impl<P: OfSocket> Bridge<P> {
         self.send()?;
         self.take_acknowledged()?;
         self.tell_sending()?;
+        self.watch_radio()?;
         self.keep(false);
         Ok(())
     }
@@ -239,8 +248,8 @@ impl<P: OfSocket> Bridge<P> {
                 let tick = if is_late { self.time + MILLISECOND } else { running.ticks.due() };
                 let alive = (self.manner.tells_alive && running.is_answered).then_some(self.alive_told + ALIVE_EVERY);
                 let look = Some(running.next_look().max(self.time)).filter(|look| running.is_before_beacon(*look));
-                let times =
-                    [running.beacon_due, running.outbound.air.due(), running.sends_next(self.time), alive, look];
+                let (radio, sends) = (running.radio.due(self.time), running.sends_next(self.time));
+                let times = [running.beacon_due, running.outbound.air.due(), sends, alive, look, radio];
                 times.into_iter().flatten().fold(tick, Nanos::min)
             }
             _ => Nanos::MAX,

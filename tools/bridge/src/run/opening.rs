@@ -6,7 +6,7 @@ use super::{Bridge, Phase};
 use crate::control::faults::Fault;
 use crate::control::parent::{say, Notice};
 use crate::formats::frames::Address;
-use crate::inbound::filter::{acknowledged_filter, monitor_filter, nothing_filter, Shown};
+use crate::inbound::filter::{monitor_filter, nothing_filter, Shown};
 use crate::os::poller::Token;
 use crate::os::sockets::{OfSocket, AT_A_TIME};
 use crate::outbound::Outbound;
@@ -68,12 +68,12 @@ impl<P: OfSocket> Bridge<P> {
     /// The radio sends: from now on of the frames that it shows as sent only their outcomes come, and those that were
     /// acknowledged wake nobody where they have a port of their own.
     pub(super) fn filter_outcomes(&mut self) -> Result<(), Fault> {
-        let acknowledged = self.running.as_mut().and_then(|running| running.outbound.acknowledged());
-        let shown = if acknowledged.is_some() { Shown::Failures } else { Shown::Outcomes };
-        if let Some(port) = acknowledged {
-            let outcome = port.set_filter(&acknowledged_filter());
-            outcome.map_err(|fault| Fault::of(format!("{}: no filter", port.interface()), &fault))?;
-        }
+        let running = match &mut self.running {
+            Some(running) => running,
+            None => return Ok(()),
+        };
+        running.filter_acknowledged()?;
+        let shown = if running.outbound.acknowledged().is_some() { Shown::Failures } else { Shown::Outcomes };
         self.set_filter(shown)
     }
 }

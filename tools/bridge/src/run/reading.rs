@@ -2,9 +2,9 @@
 //! go.
 use super::running::{Ended, Running, Way};
 use super::IN_A_ROW;
-use crate::control::faults::{reason, Fault};
+use crate::control::faults::{is_down, reason, Fault};
 use crate::control::log::{self, Level};
-use crate::formats::frames::Address;
+use crate::formats::frames::{Address, BEACON};
 use crate::formats::radiotap::reception;
 use crate::inbound::filter::nothing_filter;
 use crate::inbound::frame::{InboundFrame, Source};
@@ -87,9 +87,13 @@ impl<P: Port> Running<P> {
                 },
                 _ => &mut self.outbound.air.gate().port,
             };
-            let number = port
-                .receive(batch)
-                .map_err(|fault| Fault::new(format!("{}: {}: was it taken down?", port.interface(), reason(&fault))))?;
+            let number = match port.receive(batch) {
+                Ok(number) => number,
+                Err(fault) if is_down(&fault) && !matches!(token, Token::Wire(_)) => return self.went_down(time),
+                Err(fault) => {
+                    return Err(Fault::new(format!("{}: {}: was it taken down?", port.interface(), reason(&fault))))
+                }
+            };
             if token != Token::Acknowledged {
                 self.batching.count(number);
             }
@@ -134,23 +138,29 @@ impl<P: Port> Running<P> {
             Judged::LeftOut(reason) => self.leave_out(Way::Air, reason),
             Judged::Sent(frame, outcome) => {
                 self.leave_out(Way::Air, LeftOut::Sent);
-                self.see_sent(frame);
+                self.see_sent(frame, arrived);
                 self.stations.reported(frame, outcome, arrived);
                 self.outbound.reported(frame, outcome, arrived);
             }
             Judged::GoesOn(frame) => {
+                let reception = reception(packet.octets);
+                reception.frequency.into_iter().for_each(|frequency| self.radio.tuning.heard(frequency, arrived));
                 self.outbound.heard(frame);
-                self.stations.heard(frame, reception(packet.octets), arrived);
+                self.stations.heard(frame, reception, arrived);
                 self.wait_of_air(frame.octets(), arrived);
             }
         }
     }
 
-    /// The first frame of ours that the radio shows as sent shows that it sends what it is given.
-    fn see_sent(&mut self, frame: &[u8]) {
+    /// The first frame of ours that the radio shows as sent shows that it sends what it is given, and a beacon that it
+    /// still does.
+    fn see_sent(&mut self, frame: &[u8], time: Nanos) {
         let is_ours = Address::at(frame, 10).map_or(false, |found| self.outbound.place_of(&found).is_some());
         if is_ours {
             self.beacon_due = None;
+        }
+        if is_ours && frame.first() == Some(&BEACON) {
+            self.radio.beacons.shown(time);
         }
     }
 

@@ -1,6 +1,7 @@
 //! The interfaces, and what waits between them and the program.
 use std::collections::BTreeMap;
 
+use super::radio::Radio;
 use super::Manner;
 use crate::apctl::feeder::Feeder;
 use crate::apctl::records::Event;
@@ -67,6 +68,7 @@ pub struct Running<P> {
     /// Until when the first beacon has to be seen as sent, while none was.
     pub(super) beacon_due: Option<Nanos>,
     pub(super) has_told_sending: bool,
+    pub(super) radio: Radio,
     pub(super) given: Given,
     pub(super) left_out: BTreeMap<(Way, LeftOut), u64>,
     pub(super) has_told_drops: bool,
@@ -84,7 +86,9 @@ pub struct Running<P> {
 impl<P: Port> Running<P> {
     pub(super) fn new(outbound: Outbound<P>, networks: Vec<Network>, manner: &Manner) -> Running<P> {
         let start = now();
+        let ticks = Ticks::new(start, manner.setting.interval);
         Running {
+            radio: Radio::new(manner.setting.channel, networks.len(), &ticks),
             outbound,
             judge: Judge::new(networks.iter().map(|network| network.bssid)),
             waiting: InboundQueue::new(networks.len()),
@@ -93,7 +97,7 @@ impl<P: Port> Running<P> {
             tables: Tables::new(networks.len()),
             read_in: vec![0; 1 + networks.len()],
             networks,
-            ticks: Ticks::new(start, manner.setting.interval),
+            ticks,
             said_tick: start,
             is_answered: false,
             beacons_awaited: 0,

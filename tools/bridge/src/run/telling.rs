@@ -54,6 +54,8 @@ impl<P: Port> Running<P> {
         Status {
             phy: &manner.setting.phy,
             channel: manner.setting.channel,
+            by: manner.by,
+            radio: self.radio.status(),
             began,
             faults,
             record: feeder.record(),

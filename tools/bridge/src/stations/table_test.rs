@@ -4,7 +4,7 @@ use crate::stations::own_frames::departure;
 use crate::testing::samples::{OTHER, OURS, STATION, STRANGER};
 
 const FIRST: Member = (0, STATION);
-const PLAIN: Reception = Reception { signal: Some(-40), rate: Some(22) };
+const PLAIN: Reception = Reception { signal: Some(-40), rate: Some(22), frequency: None };
 
 fn table() -> StationTable {
     StationTable::new(vec![OURS, OTHER])

@@ -1,5 +1,5 @@
 //! Frames that several tests use, and a port that keeps what is sent by it.
-use std::io;
+use std::io::{self, Write};
 use std::os::unix::io::RawFd;
 
 use libc::sock_filter;
@@ -71,6 +71,14 @@ pub fn radiotap(frame: &[u8], present: u32, fields: &[u8]) -> Vec<u8> {
     packet
 }
 
+/// Tells that this test can't run here, past what the test's runner keeps back, so that whoever counts the tests that
+/// passed can leave this one out.
+pub fn tell_not_run(why: &str) {
+    let thread = std::thread::current();
+    let mut told = io::stderr();
+    writeln!(told, "not run: {}: {why}", thread.name().unwrap_or("a test")).unwrap();
+}
+
 /// Numbers that look random, always the same from one seed (SplitMix64).
 pub struct Seeded(pub u64);
 
@@ -98,6 +106,8 @@ pub struct Recorder {
     pub longest: Option<usize>,
     /// The octets that it hasn't sent yet.
     pub unsent: usize,
+    /// Whether its interface is down.
+    pub is_down: bool,
 }
 
 impl Port for Recorder {
@@ -114,6 +124,9 @@ impl Port for Recorder {
     }
 
     fn send(&mut self, frames: &[&[u8]]) -> io::Result<usize> {
+        if self.is_down {
+            return Err(io::Error::from_raw_os_error(libc::ENETDOWN));
+        }
         let long = frames.iter().position(|frame| self.longest.map_or(false, |most| frame.len() > most));
         let fitting = frames.len().min(self.room.unwrap_or(usize::MAX)).min(long.unwrap_or(usize::MAX));
         if fitting == 0 {

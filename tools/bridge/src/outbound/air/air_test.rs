@@ -535,6 +535,34 @@ fn a_refused_frame_is_counted_and_the_next_is_sent() {
     assert_eq!(driver.unsent(0, Unsent::Refused), 2);
 }
 
+/// While the interface is down, beacons are refused and counted. Else nothing is lost of what isn't late yet once it is
+/// up again.
+#[test]
+fn what_waits_for_an_interface_that_is_down_goes_once_it_is_up_unless_it_is_late() {
+    for (down, lost) in [(LONGEST / 2, 0), (LONGEST * 2, 2)] {
+        let mut driver = driver([1, 1]);
+        driver.air.gate.port.is_down = true;
+        driver.air.beacons.gate.port.is_down = true;
+        driver.send(0, deauthentication(3));
+        driver.send(1, unit(OTHER, STATION, 4));
+        assert_eq!((driver.flush(), driver.air.is_down(), driver.air.chosen.len()), (vec![], true, 2));
+        driver.send(0, of_network(BEACON, OURS, Address::BROADCAST, 5, Vec::new()));
+        driver.send(1, of_network(0xc0, OTHER, STATION, 6, vec![8, 0]));
+        assert_eq!((driver.flush(), driver.beacons(), driver.air.has_room()), (vec![], vec![], false));
+        driver.now += down;
+        driver.air.gate.port.is_down = false;
+        driver.air.beacons.gate.port.is_down = false;
+        driver.air.came_up(down);
+        driver.send(0, of_network(BEACON, OURS, Address::BROADCAST, 7, Vec::new()));
+        let sent = driver.run(3);
+        assert_eq!(numbers(&sent), if lost > 0 { vec![6] } else { vec![3, 4, 6] });
+        assert_eq!(numbers(&driver.beacons()), [7]);
+        assert_eq!(driver.unsent(0, Unsent::Late) + driver.unsent(1, Unsent::Late), lost);
+        assert_eq!(driver.air.counts()["refused by mon0: Network is down"], 1);
+        assert!(!driver.air.is_down() && driver.air.chosen.is_empty() && driver.air.scheduler.is_empty());
+    }
+}
+
 #[test]
 fn what_waits_for_room_goes_later_and_late_units_are_dropped() {
     let mut driver = driver([1, 1]);

@@ -1,6 +1,7 @@
 //! Beacons: they go at once, by a socket of their own.
 use std::collections::VecDeque;
 
+use crate::control::faults::is_down;
 use crate::os::sockets::{Port, AT_A_TIME};
 use crate::outbound::counts::{count_refused, Counts};
 use crate::outbound::gate::Gate;
@@ -11,6 +12,15 @@ pub struct Beacons<P> {
     pub(super) gate: Gate<P>,
     frames: VecDeque<Vec<u8>>,
     most: usize,
+}
+
+/// What came of those that waited.
+#[derive(Debug, Default)]
+pub struct Flushed {
+    /// How many went.
+    pub sent: u64,
+    /// Whether the interface is down, which refused the others.
+    pub is_down: bool,
 }
 
 impl<P: Port> Beacons<P> {
@@ -37,9 +47,14 @@ impl<P: Port> Beacons<P> {
         !self.frames.is_empty() && !self.gate.is_blocked()
     }
 
-    /// Sends those that wait, and answers how many went.
-    pub fn flush(&mut self, counts: &mut Counts) -> u64 {
-        let mut sent = 0;
+    /// The interface is up again.
+    pub fn forget_fault(&self) {
+        self.gate.port.forget_fault();
+    }
+
+    /// Sends those that wait.
+    pub fn flush(&mut self, counts: &mut Counts) -> Flushed {
+        let mut flushed = Flushed::default();
         self.gate.unblock();
         while self.has_room() {
             let mut frames: [&[u8]; AT_A_TIME] = [&[]; AT_A_TIME];
@@ -48,14 +63,15 @@ impl<P: Port> Beacons<P> {
             match self.gate.send(&frames[..number]) {
                 Ok(number) => {
                     self.frames.drain(..number);
-                    sent += number as u64;
+                    flushed.sent += number as u64;
                 }
                 Err(fault) => {
                     let beacon = self.frames.pop_front();
+                    flushed.is_down |= is_down(&fault);
                     count_refused(&self.gate, beacon.map_or(0, |beacon| beacon.len()), &fault, counts);
                 }
             }
         }
-        sent
+        flushed
     }
 }

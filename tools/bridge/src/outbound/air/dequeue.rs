@@ -2,6 +2,7 @@
 use std::rc::Rc;
 
 use super::{microseconds, Sent, Transmitter};
+use crate::control::faults::is_down;
 use crate::formats::frames::{Address, Frame};
 use crate::formats::radiotap::{sending_header, SENDING_LEN};
 use crate::os::clock::{self, Nanos, MILLISECOND};
@@ -53,7 +54,7 @@ impl<P: Port> Transmitter<P> {
     pub fn flush(&mut self, now: Nanos, until: Nanos) {
         let mut time = now;
         self.settle(now);
-        while !self.gate.is_blocked() && self.beacons.is_empty() && time < until {
+        while !self.gate.is_blocked() && !self.is_down && self.beacons.is_empty() && time < until {
             while self.chosen.len() < AT_A_TIME && self.choose(now) {}
             if self.chosen.is_empty() {
                 break;
@@ -205,6 +206,7 @@ impl<P: Port> Transmitter<P> {
                 self.spare.truncate(AT_A_TIME);
                 self.sent += number as u64;
             }
+            Err(fault) if is_down(&fault) => self.is_down = true,
             Err(fault) => {
                 if let Some((name, packet)) = self.chosen.pop_front() {
                     count_refused(&self.gate, packet.len(), &fault, &mut self.counts);

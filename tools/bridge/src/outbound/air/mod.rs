@@ -21,10 +21,11 @@ pub mod scheduler;
 use std::collections::VecDeque;
 
 use crate::formats::frames::Frame;
+use crate::inbound::frame::LONGEST;
 use crate::network::Network;
 use crate::os::clock::Nanos;
-use crate::os::sockets::Port;
-use crate::outbound::air::account::Account;
+use crate::os::sockets::{Port, AT_A_TIME};
+use crate::outbound::air::account::{Account, Unsent};
 use crate::outbound::air::air_time::Cost;
 use crate::outbound::air::beacons::Beacons;
 use crate::outbound::air::frame::{OutboundFrame, Receiver};
@@ -69,6 +70,8 @@ pub struct Transmitter<P> {
     look_due: Option<Nanos>,
     /// Whether the radio is given all that waits.
     is_ending: bool,
+    /// Whether the interface is down, so that the radio is given nothing but beacons, which it refuses.
+    is_down: bool,
     sent: u64,
     /// What the interface refused.
     counts: Counts,
@@ -93,6 +96,7 @@ impl<P: Port> Transmitter<P> {
             is_late: false,
             look_due: None,
             is_ending: false,
+            is_down: false,
             sent: 0,
             counts: Counts::new(),
         }
@@ -139,7 +143,7 @@ impl<P: Port> Transmitter<P> {
     /// Whether a frame waits that may go now.
     pub fn has_room(&self) -> bool {
         let waits = !self.chosen.is_empty() || self.scheduler.has_ready() && !self.is_full;
-        waits && !self.gate.is_blocked() || self.beacons.has_room()
+        waits && !self.gate.is_blocked() && !self.is_down || self.beacons.has_room()
     }
 
     /// Whether nothing waits, for room or to be sent.
@@ -147,9 +151,38 @@ impl<P: Port> Transmitter<P> {
         self.scheduler.is_empty() && self.chosen.is_empty() && self.beacons.is_empty() && self.gate.is_settled()
     }
 
+    /// Whether the interface is down.
+    pub fn is_down(&self) -> bool {
+        self.is_down
+    }
+
+    /// The interface is down: what is to be sent waits.
+    pub fn went_down(&mut self) {
+        self.is_down = true;
+    }
+
+    /// The interface is up again after so long. What had its turn before is dropped where it waited too long meanwhile;
+    /// what waits for its turn is looked at when that comes.
+    pub fn came_up(&mut self, after: Nanos) {
+        self.is_down = false;
+        self.gate.port.forget_fault();
+        self.beacons.forget_fault();
+        if after > LONGEST {
+            for (name, packet) in std::mem::take(&mut self.chosen) {
+                *self.accounts[name.place].unsent.entry(Unsent::Late).or_default() += 1;
+                self.spare.push(packet);
+                self.in_flight.forget(name);
+                self.release(name.place, name.receiver);
+            }
+            self.spare.truncate(AT_A_TIME);
+        }
+    }
+
     /// Sends the beacons that wait.
     pub fn flush_beacons(&mut self) {
-        self.sent += self.beacons.flush(&mut self.counts);
+        let flushed = self.beacons.flush(&mut self.counts);
+        self.sent += flushed.sent;
+        self.is_down |= flushed.is_down;
     }
 
     /// From now on the radio is given all that waits, however much it has.
