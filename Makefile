@@ -114,9 +114,10 @@ bridge: ## builds the bridge of tools/live, by Debian's cargo
 
 # Tests tools/live beside the gate: first the parts of its bridge and its own, with what an attacker in one of them would
 # try, then, in a guest, unmodified Linux stations that join the networks of the built program, the same as a service of
-# systemd and from the package of `make deb`, then on an air that loses frames, and at last where networks share the air
-# of one radio, both with hostapd beside it. Takes root and Debian's packages debootstrap, e2fsprogs, qemu-system-x86 and
-# python3, and those of `make deb`. Each run in the guest ends with 'N passed, M failed'.
+# systemd, beside NetworkManager and iwd, and from the package of `make deb`, then on an air that loses frames, and at
+# last where networks share the air of one radio, both with hostapd beside it. SUITE=trixie takes a guest of Debian 13,
+# SUITE='bookworm trixie' one after the other (tools/dev/test-live). Takes root and Debian's packages debootstrap,
+# e2fsprogs, qemu-system-x86 and python3, and those of `make deb`. Each run in a guest ends with 'N passed, M failed'.
 test-live: apctl ## tests the bridge with real stations in a guest; takes root
 	@tools/bridge/build test
 	@tools/guest/air/build test
@@ -124,6 +125,7 @@ test-live: apctl ## tests the bridge with real stations in a guest; takes root
 	@ATTACKS=yes tools/dev/test Confined Staying
 	@tools/dev/test-live
 	@tools/dev/test-live service
+	@tools/dev/test-live managers
 	@tools/dev/test-live networks
 	@share/deb
 	@tools/dev/test-live package

@@ -3,19 +3,21 @@
 # waltigon-live that take none.
 _waltigon() {
     local word=${COMP_WORDS[COMP_CWORD]} before=${COMP_WORDS[COMP_CWORD - 1]} options='' offered='' takes_files=yes
+    local radios=''
     case ${1##*/} in
     waltigon-capture-from-report) options='--network --out' ;;
     waltigon-capture-from-run) options='--clutter --out' ;;
     waltigon-config-from-hostapd) ;;
     waltigon-explain) options='--program --said' offered='check run play live' ;;
     waltigon-live)
-        options='--phy --wire --wires --share --monitor --country --idle --program --bridge --record --tables --status --as-root --json --watch'
-        offered='kick reload status check-networks'
+        options='--phy --wire --wires --share --monitor --by --country --idle --program --bridge --record --tables --status --as-root --json --watch'
+        offered='kick reload status check-networks check-radio'
         if [ "$COMP_CWORD" != 1 ]; then
             case ${COMP_WORDS[1]} in
             kick | reload) options='--phy' takes_files='' ;;
             status) options='--phy --json --watch' takes_files='' ;;
             check-networks) options='--wire --wires --program' ;;
+            check-radio) options='--by' takes_files='' radios=$(ls /sys/class/ieee80211 2>/dev/null) ;;
             esac
         fi
         ;;
@@ -28,6 +30,7 @@ _waltigon() {
     esac
     COMPREPLY=()
     case $before in
+    --by) mapfile -t COMPREPLY < <(compgen -W 'active-monitors managed access-points' -- "$word") ;;
     --fcs) mapfile -t COMPREPLY < <(compgen -W 'auto yes no' -- "$word") ;;
     --phy) mapfile -t COMPREPLY < <(compgen -W "$(ls /sys/class/ieee80211 2>/dev/null)" -- "$word") ;;
     --network | --beacons-of | --station | --stations | --from | --to | --channel | --every | --said | --wire | --share | \
@@ -36,7 +39,7 @@ _waltigon() {
         if [[ $word == -* ]]; then
             mapfile -t COMPREPLY < <(compgen -W "$options --help --version" -- "$word")
         else
-            [ "$COMP_CWORD" = 1 ] || offered=''
+            [ "$COMP_CWORD" = 1 ] || offered=$radios
             mapfile -t COMPREPLY < <(compgen -W "$offered" -- "$word"; [ -z "$takes_files" ] || compgen -f -- "$word")
         fi
         ;;

@@ -6,7 +6,7 @@ import subprocess
 from dataclasses import dataclass
 
 from airing import RATES
-from stage import NETWORK_TEXT, RADIO_TEXT, READY, TIMEOUT
+from stage import BY, NETWORK_TEXT, RADIO_TEXT, READY, TIMEOUT
 from stations import Failed, Host, run, wait_for
 
 SECONDS_TO_END = 60
@@ -94,7 +94,7 @@ class Own(Point):
 
     def __init__(self, folder: str, phy: str, live: str, program: str, bridge: str | None) -> None:
         super().__init__(folder, phy)
-        self.words = [live, self.config, "--phy", phy, "--program", program]
+        self.words = [live, self.config, "--phy", phy, "--program", program, *BY]
         self.words += ["--bridge", bridge] if bridge else []
 
     def begin(self, networks: list[Served], more: tuple[str, ...] = ()) -> None:

@@ -12,8 +12,8 @@ from collections import defaultdict
 from contextlib import suppress
 from dataclasses import dataclass, field
 
-from frames import (DATA, DEAUTHENTICATION, DISASSOCIATION, MANAGEMENT, NULL, PROBE_RESPONSE, Frame, address_of,
-                    address_text, is_group, number)
+from frames import (BEACON, DATA, DEAUTHENTICATION, DISASSOCIATION, MANAGEMENT, NULL, PROBE_RESPONSE, Frame,
+                    address_of, address_text, is_group, number)
 from radiotap import captured
 from stations import Failed, Radio, run, wait_for
 
@@ -43,6 +43,8 @@ done
 {program} "$@" | tee "$answers"
 """
 READY, TIMEOUT = "networks are on channel", 30
+# Where BY names the interfaces that networks have (tools/live, `--by`), each start gets it.
+BY = ("--by", os.environ["BY"]) if "BY" in os.environ else ()
 LONGEST_PACKET = "4096"
 SECONDS_TO_END = 60
 TOP = os.path.dirname(os.path.dirname(os.path.dirname(os.path.realpath(__file__))))
@@ -138,19 +140,45 @@ def read_pcap(path: str) -> list[bytes]:
     return packets
 
 
-def comparable(octets: bytes) -> bytes:
-    """A frame without what the kernel or the radio writes into it: Duration, Retry, a probe response's timestamp."""
+def stamped_by_radio(release: str) -> tuple[int, ...]:
+    """The management frames whose timestamp the simulated radio of a kernel writes: from Linux 7 on beacons too, before
+    only probe responses (mac80211_hwsim.c)."""
+    return (PROBE_RESPONSE, BEACON) if int(release.partition(".")[0]) >= 7 else (PROBE_RESPONSE,)
+
+
+STAMPED = stamped_by_radio(os.uname().release)
+
+
+def comparable(octets: bytes, stamped: tuple[int, ...] = STAMPED) -> bytes:
+    """A frame without what the kernel or the radio writes into it: Duration, Retry, and the timestamp of some."""
     text = bytearray(octets)
     text[1] &= ~RETRY
     text[DURATION] = bytes(2)
-    if Frame(octets).is_management(PROBE_RESPONSE):
+    if any(Frame(octets).is_management(subtype) for subtype in stamped):
         text[TIMESTAMP] = bytes(8)
     return bytes(text)
 
 
-def receiver_of(octets: bytes) -> bytes:
-    """Address 1 of a frame."""
-    return octets[RECEIVER]
+def kind_and_receiver(octets: bytes) -> tuple[bool, bytes]:
+    """Whether a frame is a beacon, and its address 1."""
+    return Frame(octets).is_management(BEACON), octets[RECEIVER]
+
+
+def beacons_before(frames: list[bytes]) -> list[int]:
+    """Of each frame for a group, by receiver, how many beacons stand before it; beacons themselves are left out."""
+    beacons = itertools.accumulate(Frame(octets).is_management(BEACON) for octets in frames)
+    found = [(octets[RECEIVER], count) for octets, count in zip(frames, beacons)
+             if is_group(octets[RECEIVER]) and not Frame(octets).is_management(BEACON)]
+    return [count for _, count in sorted(found, key=lambda pair: pair[0])]
+
+
+def same_on_air(what: str, heard: list[bytes], wrote: list[bytes]) -> None:
+    """Failed where other frames were heard than were written, or in another order: a beacon may overtake frames for a
+    group that were written before it, and nothing may overtake a beacon (docs/BRIDGE.md)."""
+    same(what, sorted(heard, key=kind_and_receiver), sorted(wrote, key=kind_and_receiver))
+    early = sum(found < wanted for found, wanted in zip(beacons_before(heard), beacons_before(wrote)))
+    if early:
+        raise Failed(f"{what}: {early} frames for a group went before a beacon that was written before them")
 
 
 class NotSeen(Failed):
@@ -275,7 +303,7 @@ class Start:
         self.observed = Tcpdump("obs0", os.path.join(self.folder, "observed.pcap"))
         # What keeps the answers is a script, which couldn't run within the program's bounds.
         words = [self.bridge, self.config, "--phy", self.phy, "--program", self.keeping, "--record", self.record,
-                 "--as-root", *self.more]
+                 "--as-root", *BY, *self.more]
         for net in self.networks if "--wires" not in self.more else ():
             words += ["--wire", f"{net.bssid}={net.port}"]
         with open(self.log, "wb") as log:
@@ -421,8 +449,8 @@ class Start:
                 last[way] = frame.sequence_control
         for net in bssids.values():
             wrote = [octets for start in starts for octets in start.sent_on_air(net.bssid)]
-            same(f"{self.name}: heard of {net.ssid}", sorted(heard[net.bssid], key=receiver_of),
-                 sorted((comparable(bytes.fromhex(octets)) for octets in wrote), key=receiver_of))
+            same_on_air(f"{self.name}: heard of {net.ssid}", heard[net.bssid],
+                        [comparable(bytes.fromhex(octets)) for octets in wrote])
         return f"{sum(map(len, heard.values()))} frames heard"
 
 

@@ -6,7 +6,7 @@ import os
 import time
 import traceback
 
-from stage import processes_of
+from stage import BY, processes_of
 from stations import Failed, Host, Station, load_radios, run, unload_radios
 
 FREQUENCY = 2437
@@ -75,6 +75,11 @@ class ServiceCases:
         """The service's lines in the journal."""
         lines = run("journalctl", "-u", self.unit, "-o", "json", "--no-pager").splitlines()
         return [entry for entry in map(json.loads, lines) if isinstance(entry.get("MESSAGE"), str)]
+
+
+def words_of(*words: str) -> str:
+    """The file of a radio that gives its service these words of waltigon-live."""
+    return f"WORDS={' '.join((*BY, *words))}\n"
 
 
 def the_one(executable: str) -> int:

@@ -54,10 +54,11 @@ class Radio:
 
 
 def load_radios(number: int) -> list[Radio]:
-    """Loads the simulation with so many radios."""
+    """Loads the simulation with so many radios. Where CHANNELS says that each can be on several channels at a time, they
+    have channel contexts, as most real ones; else the kernel emulates these from Linux 6.9 on."""
     if os.path.isdir(SIMULATION):
         raise Failed("mac80211_hwsim is loaded already: take it out by `modprobe -r mac80211_hwsim`")
-    run("modprobe", "mac80211_hwsim", f"radios={number}")
+    run("modprobe", "mac80211_hwsim", f"radios={number}", f"channels={os.environ.get('CHANNELS', '1')}")
     folders = wait_for("simulated radios", 10, lambda: glob.glob(f"{SIMULATION}/hwsim*/net/*"))
     radios = []
     for folder in folders:

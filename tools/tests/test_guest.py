@@ -199,6 +199,50 @@ class Log(unittest.TestCase):
         self.assertEqual(compare.forgotten(""), 0)
 
 
+BSSID, STATION, GROUP = (bytes.fromhex(text) for text in ("020000000101", "020000000201", "ffffffffffff"))
+
+
+def frame(kind, receiver, number, stamp=0):
+    """A frame of a network, of this first octet."""
+    return bytes([kind, 0, 0, 0]) + receiver + BSSID + BSSID + bytes([number << 4, 0]) + stamp.to_bytes(8, "little")
+
+
+class OnAir(unittest.TestCase):
+    """What another radio heard beside what was written."""
+
+    beacons = [frame(0x80, GROUP, number) for number in range(3)]
+    units = [frame(0x08, GROUP, number) for number in range(4)]
+    answer = frame(0x08, STATION, 9)
+
+    def test_a_beacon_may_overtake_frames_for_a_group(self):
+        """And frames for a station go whenever they go."""
+        one, two, _ = self.beacons
+        wrote = [one, self.answer, *self.units, two]
+        stage.same_on_air("heard", [one, self.units[0], two, *self.units[1:], self.answer], wrote)
+
+    def test_nothing_may_overtake_a_beacon(self):
+        """Not one frame for a group, of several."""
+        one, two, _ = self.beacons
+        with self.assertRaisesRegex(Failed, "1 frames for a group went before a beacon"):
+            stage.same_on_air("heard", [one, self.units[0], two, self.units[1]], [one, two, *self.units[:2]])
+
+    def test_frames_of_a_kind_keep_their_order_and_number(self):
+        """Beacons do, and frames for a group."""
+        for wrote in (self.beacons, self.units):
+            for heard in (wrote[::-1], wrote[1:], [wrote[0], *wrote], [wrote[0], self.answer, *wrote[1:]]):
+                with self.assertRaises(Failed):
+                    stage.same_on_air("heard", heard, wrote)
+
+    def test_the_timestamp_is_left_out_that_the_kernels_radio_writes(self):
+        """Of beacons from Linux 7 on, of probe responses always."""
+        for release, leaves_beacons_out in (("6.1.0-50-amd64", False), ("6.12.117+deb13-amd64", False),
+                                            ("7.3.4+deb13-amd64", True)):
+            stamped = stage.stamped_by_radio(release)
+            for kind, is_left_out in ((0x80, leaves_beacons_out), (0x50, True), (0x08, False)):
+                found = [stage.comparable(frame(kind, GROUP, 1, stamp), stamped) for stamp in (7, 8)]
+                self.assertEqual(found[0] == found[1], is_left_out, (release, kind))
+
+
 class Folders(unittest.TestCase):
     """Files of starts of one name."""
 

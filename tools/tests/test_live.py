@@ -20,24 +20,24 @@ from contextlib import ExitStack
 from dataclasses import replace
 from unittest import mock
 
-from frames import address_of
+from frames import address_of, address_text
 from live import (asking, changes, checks, keeping, machine, record, rights, running, serving, setting_up, showing,
                   telling, wires)
 from live.bridge import Bridge, Signals
 from live.changes import Change, Changes
-from live.checks import (Plan, Wanted, check_abilities, check_bridge, check_config, check_left, check_names, check_port,
+from live.checks import (Plan, Wanted, check_bridge, check_config, check_left, check_names, check_port,
                          check_program, check_record, check_wires, read_wires, set_country)
 from live.faults import Fault
 from live.machine import Interface
-from live.phys import read_phy
 from live.record import make_record
 from live.rights import Rights
 from live.service import Service
 from live.settings import Network, Settings, read_settings
+from live.ways import Way
+from machines import OTHER, OURS, OnMachine
 from statuses import document, network, only_known, station
 
 TOOLS = os.path.dirname(os.path.dirname(os.path.realpath(__file__)))
-OURS, OTHER = address_of("02:00:00:00:01:01"), address_of("02:00:00:00:01:02")
 STRANGER = address_of("02:bb:00:00:00:01")
 CONFIG = """version = 1
 channel = 6
@@ -53,56 +53,12 @@ max_known = 16
 quota = 8
 max_events = 100
 """
-# Of `iw phy phy0 info` of mac80211_hwsim, kernel 6.1, iw 5.19; lines that say nothing of these things are left out.
-SIMULATED = """Wiphy phy0
-\twiphy index: 0
-\tSupported interface modes:
-\t\t * IBSS
-\t\t * managed
-\t\t * AP
-\t\t * AP/VLAN
-\t\t * monitor
-\t\t * mesh point
-\tBand 1:
-\t\tFrequencies:
-\t\t\t* 2412 MHz [1] (20.0 dBm)
-\t\t\t* 2437 MHz [6] (20.0 dBm)
-\t\t\t* 2467 MHz [12] (20.0 dBm) (no IR)
-\t\t\t* 2484 MHz [14] (disabled)
-\tBand 2:
-\t\tFrequencies:
-\t\t\t* 5260 MHz [52] (20.0 dBm) (no IR, radar detection)
-\tSupported commands:
-\t\t * new_interface
-\tsoftware interface modes (can always be added):
-\t\t * AP/VLAN
-\t\t * monitor
-\tvalid interface combinations:
-\t\t * #{ IBSS } <= 1, #{ managed, AP, mesh point, P2P-client, P2P-GO } <= 2048, #{ P2P-device } <= 1,
-\t\t   total <= 2050, #channels <= 1, radar detect widths: { 20 MHz (no HT), 20 MHz }
 
-\tDevice supports TX status socket option.
-"""
-SMALL = """\tSupported interface modes:
-\t\t * managed
-\t\t * monitor
-\tBand 1:
-\t\tFrequencies:
-\t\t\t* 2437.0 MHz [6] (20.0 dBm)
-\tsoftware interface modes (can always be added):
-\t\t * monitor
-\tinterface combinations are not supported
-"""
-COUNTED = """\tSupported interface modes:
-\t\t * managed
-\t\t * monitor
-\tsoftware interface modes (can always be added):
-\tvalid interface combinations:
-\t\t * #{ managed } <= 2, #{ AP } <= 1,
-\t\t   total <= 2, #channels <= 1
-\t\t * #{ managed, monitor } <= 3,
-\t\t   total <= 3, #channels <= 1
-"""
+
+def read(path):
+    """The text of a file."""
+    with open(path, encoding="utf-8") as file:
+        return file.read()
 
 
 def setUpModule():
@@ -110,80 +66,6 @@ def setUpModule():
     called_so = mock.patch.object(sys, "argv", ["tools/live"])
     called_so.start()
     unittest.addModuleCleanup(called_so.stop)
-
-
-class Radios(unittest.TestCase):
-    """What `iw` says of a radio."""
-
-    def test_simulated(self):
-        """Many networks, and of its channels those that may be used."""
-        phy = read_phy(SIMULATED)
-        self.assertEqual(phy.most_networks(), 2048)
-        self.assertIsNone(phy.fault_of(2437))
-        self.assertEqual([phy.fault_of(frequency) for frequency in (2467, 2484, 5260, 2407)],
-                         ["no IR", "disabled", "no IR", "this radio doesn't have it"])
-
-    def test_small(self):
-        """Without combinations it has one interface beside the monitor."""
-        phy = read_phy(SMALL)
-        self.assertEqual((phy.most_networks(), phy.fault_of(2437)), (1, None))
-
-    def test_monitor_that_is_counted(self):
-        """Where the monitor is one of the combination, it takes a place."""
-        self.assertEqual(read_phy(COUNTED).most_networks(), 2)
-
-    def settings(self, networks, channel=6):
-        """Settings of so many networks."""
-        return Settings(channel, 100, tuple(Network(bytes([2, 0, 0, 0, 0, place]), b"\x82")
-                                            for place in range(networks)))
-
-    def test_faults(self):
-        """Each is told by name."""
-        for text, settings, says in (
-                (SMALL, self.settings(2), "allows 1 managed interfaces"),
-                (SMALL.replace("* monitor", "* AP"), self.settings(1), "no mode monitor"),
-                (SIMULATED, self.settings(1, 12), "channel 12 (2467 MHz): no IR"),
-                (SIMULATED, self.settings(1, 14), "channel 14 (2484 MHz): disabled")):
-            with self.assertRaisesRegex(Fault, says.replace("(", r"\(").replace(")", r"\)")):
-                check_abilities("phy0", read_phy(text), settings)
-        check_abilities("phy0", read_phy(SIMULATED), self.settings(16))
-
-
-class OnMachine(unittest.TestCase):
-    """A machine whose commands are only kept here."""
-
-    SETTINGS = Settings(6, 100, (Network(OURS, b"\x82"), Network(OTHER, b"\x82")))
-    WIRES = ((OURS, "nowire1"),)
-    WANTED = Wanted("radio.toml", "apctl", "bridge", "phy9", "mon0", WIRES, None, None)
-    RADIO = [
-        "iw phy phy9 interface add mon0 type monitor flags control", "ip link set mon0 mtu 2304",
-        "ip link set mon0 up", "iw dev mon0 set freq 2437",
-        "iw phy phy9 interface add mon0n1 type managed addr 02:00:00:00:01:01", "ip link set mon0n1 up",
-        "iw phy phy9 interface add mon0n2 type managed addr 02:00:00:00:01:02", "ip link set mon0n2 up"]
-    # What `ethtool -k` and `ethtool -i` say of a veth.
-    ANSWERS = {"-k": "Features for nowire1:\ngeneric-receive-offload: on\nlarge-receive-offload: off [fixed]\n",
-               "-i": "driver: veth\n"}
-
-    def setUp(self):
-        self.commands = []
-        self.failing = None
-        folder = tempfile.TemporaryDirectory()
-        self.addCleanup(folder.cleanup)
-        self.folder = folder.name
-        self.made = Changes("phy9", self.folder)
-        self.addCleanup(self.made.close)
-        for where, name, value in (
-                (machine, "run", self.run_command), (setting_up.shutil, "which", lambda command: None)):
-            patch = mock.patch.object(where, name, value)
-            patch.start()
-            self.addCleanup(patch.stop)
-
-    def run_command(self, *words):
-        """Keeps a command, which fails where the test says so."""
-        self.commands.append(" ".join(words))
-        if self.commands[-1] == self.failing:
-            raise Fault("it failed")
-        return self.ANSWERS.get(words[1], "") if words[0] == "ethtool" else ""
 
 
 class Machine(OnMachine):
@@ -199,9 +81,10 @@ class Machine(OnMachine):
                 before = len(self.commands)
         return self.commands[:before], self.commands[before:], told.getvalue()
 
-    def plan(self, bssids=(OURS, OTHER), wires=(), channel=6):
+    def plan(self, bssids=(OURS, OTHER), wires=(), channel=6, ways=(Way.ACTIVE_MONITORS,)):
         """A plan of networks with these addresses."""
-        return Plan(Settings(channel, 100, tuple(Network(bssid, b"\x82") for bssid in bssids)), wires)
+        networks = tuple(Network(bssid, b"\x82") for bssid in bssids)
+        return Plan(Settings(channel, 100, networks), wires, ways=ways)
 
     def test_radio(self):
         """The channel is set while the monitor interface is alone; what was added is deleted, and nothing else."""
@@ -210,29 +93,63 @@ class Machine(OnMachine):
         self.assertEqual(taken_back, ["iw dev mon0n2 del", "iw dev mon0n1 del", "iw dev mon0 del"])
         self.assertEqual(os.listdir(self.folder), ["phy9.lock"])
 
+    def test_ways(self):
+        """The interfaces of networks are of the kind that the plan names; each that isn't of that kind is set up anew."""
+        kinds = {Way.MANAGED: "managed addr 02:00:00:00:01:01", Way.ACTIVE_MONITORS: "monitor addr 02:00:00:00:01:01 flags active"}
+        for way, kind in kinds.items():
+            made, _, _ = self.changed(self.plan((OURS,), ways=(way,)))
+            self.assertEqual(made, [*self.MONITOR, f"iw phy phy9 interface add mon0n1 type {kind}", "ip link set mon0n1 up"])
+            self.commands.clear()
+        made, _, _ = self.changed(*(self.plan((OURS,), ways=(way,)) for way in kinds))
+        self.assertEqual(made[9:12], ["iw dev mon0n1 del", "iw dev mon0 del", self.MONITOR[0]])
+
+    def test_access_points(self):
+        """The kernel's beacon is as rare as it allows, and of an address that no network has, those with the radio's own
+        one included."""
+        own = {OURS: "000000000101", address_of("02:00:00:00:00:00"): "020000000000"}
+        for bssid, sender in own.items():
+            with mock.patch.object(machine, "read_file", lambda *_, bssid=bssid: address_text(bssid)):
+                made, taken_back, _ = self.changed(self.plan((OURS,), ways=(Way.ACCESS_POINTS,)))
+            self.assertEqual(made[7:], [
+                "iw phy phy9 interface add mon0n1 type __ap addr 02:00:00:00:01:01",
+                "ip link set mon0n1 addrgenmode none", "ip link set mon0n1 up",
+                "iw dev mon0n1 ap start waltigon 2437 10000 1 hidden-ssid head 80000000ffffffffffff"
+                f"{sender}{sender}00000000000000000000" "1027" "0000" "0000" "010182"])
+            self.assertEqual(taken_back, ["iw dev mon0n1 del", "iw dev mon0 del"])
+            self.commands.clear()
+
+    def test_another_channel_than_was_asked_for(self):
+        """It is told, and what was set up is taken back; so it is where the kernel names none."""
+        for said, says in (("channel 1 (2412 MHz), width: 20 MHz", "was set to 2437 MHz, and mon0 is on 2412 MHz"),
+                           ("type monitor", "was set to 2437 MHz, and mon0 is on no channel")):
+            self.channel = said
+            with self.assertRaisesRegex(Fault, f"^phy9: .*{says}"):
+                self.changed(self.plan())
+            self.assertEqual(self.commands[-2:], ["iw dev mon0 info", "iw dev mon0 del"])
+
     def test_what_stays_is_left_alone(self):
         """A plan like the one before changes nothing; one with another network that one's interface alone."""
         made, taken_back, _ = self.changed(self.plan(), self.plan(), self.plan((OURS, STRANGER)), self.plan((OURS,)))
         self.assertEqual(made[len(self.RADIO):], [
-            "iw dev mon0n2 del", "iw phy phy9 interface add mon0n2 type managed addr 02:bb:00:00:00:01",
+            "iw dev mon0n2 del", "iw phy phy9 interface add mon0n2 type monitor addr 02:bb:00:00:00:01 flags active",
             "ip link set mon0n2 up", "iw dev mon0n2 del"])
         self.assertEqual(taken_back, ["iw dev mon0n1 del", "iw dev mon0 del"])
 
     def test_another_channel(self):
         """It can only be set while the monitor interface is alone: all of the radio is set up anew, and no wire is."""
         made, _, _ = self.changed(self.plan((OURS,), self.WIRES), self.plan((OURS,), self.WIRES, 11))
-        self.assertEqual(made[10:], [
-            "iw dev mon0n1 del", "iw dev mon0 del", *self.RADIO[:3], "iw dev mon0 set freq 2462", *self.RADIO[4:6]])
+        self.assertEqual(made[13:], [
+            "iw dev mon0n1 del", "iw dev mon0 del", *self.RADIO[:3], "iw dev mon0 set freq 2462", *self.RADIO[4:9]])
 
     def test_wires_that_change(self):
         """A wire that is given no more is taken back before another is set up."""
         self.changed(self.plan((OURS,), self.WIRES), self.plan((OURS,), ((OURS, "nowire2"),)))
-        self.assertEqual(self.commands[10:13], [
+        self.assertEqual(self.commands[13:16], [
             "ip link set nowire1 down", "ethtool -K nowire1 gro on", "ethtool -k nowire2"])
 
     def test_fault_in_the_middle(self):
         """What was done before it is taken back, where one of these fails too the others."""
-        self.failing = "iw phy phy9 interface add mon0n2 type managed addr 02:00:00:00:01:02"
+        self.failing = "iw phy phy9 interface add mon0n2 type monitor addr 02:00:00:00:01:02 flags active"
         with self.assertRaisesRegex(Fault, "it failed"):
             self.changed(self.plan())
         self.assertEqual(self.commands[-2:], ["iw dev mon0n1 del", "iw dev mon0 del"])
@@ -272,16 +189,30 @@ class Machine(OnMachine):
             self.assertEqual(machine.country(), "DE")
 
     def test_network_manager(self):
-        """Where it runs it is told to leave these interfaces alone before one is made, and in the end no more."""
-        path = os.path.join(self.folder, "conf.d", "mon0.conf")
+        """It is told to leave these interfaces alone, and the radio's other ones, before one is made, and in the end no more;
+        the file is there whether it runs or not."""
+        path = setting_up.UNMANAGED.format("mon0")
         reloaded = mock.Mock(side_effect=lambda: self.commands.append(f"reload, {os.path.exists(path)}"))
-        with (mock.patch.object(setting_up, "UNMANAGED", os.path.join(self.folder, "conf.d", "{}.conf")),
-              mock.patch.object(setting_up, "RUNNING", self.folder),
-              mock.patch.object(setting_up.shutil, "which", lambda command: "/usr/bin/nmcli"),
-              mock.patch.object(setting_up, "reload_network_manager", reloaded),
-              mock.patch.object(changes, "reload_network_manager", reloaded)):
+        others = [mock.Mock(radio=radio) for radio in ("phy9", "phy5", "phy9")]
+        for interface, name in zip(others, ("wlan3", "wlan5", "mon0n7")):
+            interface.name = name
+        written = []
+        with (mock.patch.object(setting_up, "reload_network_manager", reloaded),
+              mock.patch.object(changes, "reload_network_manager", reloaded),
+              mock.patch.object(machine, "interfaces", lambda: others),
+              mock.patch.object(setting_up.SettingUp, "tune", lambda *_: written.append(read(path)))):
             made, taken_back, _ = self.changed(self.plan())
         self.assertEqual((made[0], taken_back[-1]), ("reload, True", "reload, False"))
+        self.assertEqual(written, ["[device-waltigon-mon0]\nmatch-device=interface-name:mon0*,interface-name:wlan3\n"
+                                   "managed=0\n"])
+        self.assertEqual(os.listdir(self.folder), ["phy9.lock"])
+
+    def test_network_manager_without_a_place(self):
+        """Where the file can't be written that is told, and stations are served all the same."""
+        with mock.patch.object(setting_up, "UNMANAGED", os.path.join(self.folder, "phy9.lock", "{}.conf")):
+            made, _, told = self.changed(self.plan())
+        self.assertEqual(made, self.RADIO)
+        self.assertIn("mon0.conf: File exists: NetworkManager may take the interfaces of this radio", told)
 
     def test_left(self):
         """What others made is told with the commands; other names are not looked at, nor what an earlier start left."""
@@ -371,8 +302,7 @@ class HandedOn(OnMachine):
         self.patch(machine, "country", lambda: self.found_country)
         self.patch(machine, "radios", lambda: ["phy9"])
         self.patch(machine, "interfaces", lambda: [Interface(name) for name in (*self.phys, "nowire1")])
-        self.patch(checks, "check_abilities", lambda *_: None)
-        self.patch(checks, "read_phy", lambda text: text)
+        self.patch(checks, "this_kernel", lambda: (6, 12))
 
     def patch(self, where, name, value):
         """Puts something in place until the test ends."""
@@ -386,7 +316,8 @@ class HandedOn(OnMachine):
             case ("iw", "reg", "set", country):
                 self.found_country = country
             case ("iw", "phy", phy, "interface", "add", name, *more):
-                self.phys[name], self.addresses[name] = phy, more[-1]
+                self.phys[name] = phy
+                self.addresses[name] = more[more.index("addr") + 1] if "addr" in more else None
             case ("iw", "dev", name, "del"):
                 del self.phys[name]
                 self.up.discard(name)
@@ -405,11 +336,11 @@ class HandedOn(OnMachine):
         self.made = made
         with contextlib.redirect_stderr(io.StringIO()) as told, ExitStack() as stack:
             stack.callback(made.close)
-            checks.check_radio(wanted, settings, made, stack)
-            setting_up.SettingUp(wanted, made, stack).follow(Plan(settings, wires))
+            ways = checks.check_radio(wanted, settings, made, stack)
+            setting_up.SettingUp(wanted, made, stack).follow(Plan(settings, wires, ways=ways))
             done, self.commands = self.commands, []
             if hands_on:
-                made.hand_on(checks.as_set_up(settings))
+                made.hand_on(checks.as_set_up(settings, Way.ACTIVE_MONITORS))
         ended, self.commands = self.commands, []
         return done, ended, told.getvalue()
 
@@ -417,14 +348,14 @@ class HandedOn(OnMachine):
         """A start leaves all as it is set up."""
         self.made.close()
         done, ended, _ = self.start(self.WORDS, self.SETTINGS, hands_on=True)
-        self.assertEqual((done[0], done[-len(self.RADIO):]), ("iw reg set DE", self.RADIO))
+        self.assertEqual((done[1], done[-len(self.RADIO):]), ("iw reg set DE", self.RADIO))
         self.assertEqual(ended, [])
 
     def test_goes_on(self):
         """Nothing of the radio is set up anew, and all is taken back in the end, in reverse order."""
         self.hand_on()
         done, ended, told = self.start(self.WORDS, self.SETTINGS)
-        self.assertEqual(done, ["iw phy phy9 info", "ethtool -k nowire1", "ethtool -i nowire1"])
+        self.assertEqual(done, ["iw phy phy9 info"] * 2 + ["ethtool -k nowire1", "ethtool -i nowire1"])
         self.assertEqual(ended, [
             "iw dev mon0n2 del", "iw dev mon0n1 del", "iw dev mon0 del", "ip link set nowire1 down",
             "ethtool -K nowire1 gro on", "iw reg set 00"])
@@ -442,7 +373,7 @@ class HandedOn(OnMachine):
         """A wire that is given no more."""
         self.hand_on()
         done, ended, _ = self.start(self.WORDS, self.SETTINGS, wires=())
-        self.assertEqual(done[1:], ["ip link set nowire1 down", "ethtool -K nowire1 gro on"])
+        self.assertEqual(done[2:], ["ip link set nowire1 down", "ethtool -K nowire1 gro on"])
         self.assertEqual(ended, ["iw dev mon0n2 del", "iw dev mon0n1 del", "iw dev mon0 del", "iw reg set 00"])
 
     def test_another_radio_than_it_would_be(self):
@@ -457,7 +388,9 @@ class HandedOn(OnMachine):
                 (self.WORDS, self.SETTINGS, lambda: self.addresses.update(mon0n1="02:00:00:00:01:09")),
                 (self.WORDS, self.SETTINGS, lambda: self.up.remove("mon0n2")),
                 (self.WORDS, self.SETTINGS, lambda: setattr(self, "found_country", "US")),
-                (self.WORDS, self.SETTINGS, lambda: self.write("2 2437\n")),
+                (replace(self.WORDS, way=Way.ACCESS_POINTS), self.SETTINGS, lambda: None),
+                (self.WORDS, self.SETTINGS, lambda: self.write("1 2437\n")),
+                (self.WORDS, self.SETTINGS, lambda: self.write("2 managed 2437\n")),
                 (self.WORDS, self.SETTINGS, lambda: self.write("")),
                 (self.WORDS, self.SETTINGS, lambda: os.unlink(os.path.join(self.folder, "phy9.stay")))):
             self.setUp()
@@ -746,7 +679,8 @@ class FilesAndPrograms(WithFiles):
         phy = [self.config, "--phy", "phy0"]
         for words in ([], [self.config], [*phy, "--wire", "x=y"], [*phy, "--tables", "0"], [*phy, "--idle", "-1"],
                       [*phy, "--country", "Germany"], [*phy, "--status", "70000"], ["kick"], ["kick", "x", "y"],
-                      ["status", "more"], ["status", "--json", "--watch"], ["reload", "more"]):
+                      ["status", "more"], ["status", "--json", "--watch"], ["reload", "more"], [*phy, "--by", "cable"],
+                      ["check-radio"], ["check-radio", "phy0", "phy1"]):
             self.assertEqual(subprocess.run([tool, *words], capture_output=True, check=False).returncode, 2, words)
         done = subprocess.run([tool, self.config, "--phy", "phy0", "--program", os.path.join(self.folder, "apctl")],
                               capture_output=True, text=True, check=False)
@@ -754,6 +688,9 @@ class FilesAndPrograms(WithFiles):
         done = subprocess.run([tool, "status", "--phy", "no-such-radio"], capture_output=True, text=True, check=False)
         self.assertEqual((done.returncode, done.stdout), (1, ""))
         self.assertIn("no-such-radio.sock: no bridge answers", done.stderr)
+        done = subprocess.run([tool, "check-radio", "no-such-radio"], capture_output=True, text=True, check=False)
+        self.assertEqual((done.returncode, done.stdout), (1, ""))
+        self.assertIn("live: no-such-radio: there is no such radio", done.stderr)
 
 
 class Unit(WithFiles):
@@ -1088,6 +1025,16 @@ class Shown(unittest.TestCase):
         self.assertEqual(lines[8], "02:00:00:00:01:02 (no name): 0 stations, wire none, down for 0:01:05")
         self.assertEqual(lines[10], "1:02:05 ago: fault memory line 7 network 02:00:00:00:01:02")
 
+    def test_radio(self):
+        """By which interfaces it acknowledges, and what keeps stations from all networks."""
+        told = {**self.DOCUMENT, "by": "active-monitors",
+                "radio": {"down": None, "unsent": 7.2, "elsewhere": 2412, "heard_elsewhere": 3}}
+        lines = showing.text_of(told).splitlines()
+        self.assertTrue(lines[0].startswith("phy0, channel 6 by active monitors, for 0:00:12"))
+        self.assertEqual(lines[1:3], ["the radio has told no beacon as sent for 0:00:07", "the radio is on 2412 MHz"])
+        told["radio"] = {"down": 61, "unsent": None, "elsewhere": None, "heard_elsewhere": 0}
+        self.assertEqual(showing.text_of(told).splitlines()[1:3], ["the monitor interface is down for 0:01:01", ""])
+
     def test_watched(self):
         """Each second until Ctrl-C, also while nobody answers."""
         answers = [self.DOCUMENT, Fault("no bridge answers"), KeyboardInterrupt()]
@@ -1110,7 +1057,8 @@ class Running(WithFiles):
             self.stack.callback(signal.signal, number, signal.getsignal(number))
         self.told = self.stack.enter_context(contextlib.redirect_stderr(io.StringIO()))
 
-    def run_bridge(self, later=lambda: None, tables=None, does=SENDS, status=0, after="true", port=None):
+    def run_bridge(self, later=lambda: None, tables=None, does=SENDS, status=0, after="true", port=None,
+                   ways=(Way.ACTIVE_MONITORS,)):
         """Runs it; `later` is called by another thread after a while. Of the machine nothing is changed: what is set up
         is only kept."""
         path = self.write("bridge", BRIDGE.format(folder=self.folder, does=does, status=status, after=after), 0o755)
@@ -1118,14 +1066,14 @@ class Running(WithFiles):
         wanted = Wanted(self.config, "apctl", path, "phy0", "mon0", wires, self.path("a.trace"), tables,
                         status=port)
         self.followed, self.outcomes = [], []
-        setting_up = mock.Mock(follow=lambda plan, missing: self.followed.append(plan))
+        setting_up = mock.Mock(follow=lambda plan, missing: self.followed.append(plan), radio_interfaces=lambda: [])
         with ExitStack() as stack:
             for where, name, value in (
                     (changes, "RUN", self.folder), (serving, "page_user_of", lambda _: None),
                     (serving, "check_rights", mock.Mock()), (serving, "SettingUp", lambda *_: setting_up),
                     (serving, "rights_of", lambda _: Rights()), (serving, "open_radio", lambda _: []),
                     (serving, "Wires", lambda _: mock.Mock(are_missing=False, open=lambda plan: {})),
-                    (serving, "check", lambda *_: Plan(read_settings(self.config), wires)),
+                    (serving, "check", lambda *_: Plan(read_settings(self.config), wires, ways=ways)),
                     (serving, "check_again", lambda _, before: self.check_again(before))):
                 stack.enter_context(mock.patch.object(where, name, value))
             stack.enter_context(mock.patch.object(running.RunFile, "reloaded", lambda _, fault: self.outcomes.append(fault)))
@@ -1138,7 +1086,7 @@ class Running(WithFiles):
 
     def check_again(self, before):
         """The configuration is read again: where it isn't one that is a fault."""
-        return Plan(read_settings(self.config), before.wires)
+        return replace(before, settings=read_settings(self.config))
 
     def read(self, name):
         """What the bridge has written."""
@@ -1172,10 +1120,10 @@ class Running(WithFiles):
             self.end()
         self.run_bridge(later)
         self.assertRegex(self.read("words"),
-                         "^--name live --phy phy0 --channel 6 --monitor mon0 --interval 100 --idle 300 --socket [0-9]+ "
+                         "^--name live --phy phy0 --channel 6 --monitor mon0 --interval 100 --by active-monitors --idle 300 --socket [0-9]+ "
                          f"--record [0-9]+:{self.path('a.trace')} --bounds [0-9]+ --network 02:00:00:00:01:01/6c6162/82840b16/8/16/1/wire1 apctl {self.config}\n$")
         self.assertEqual(self.read("asked"), "state\nopen\ntables\n")
-        self.assertRegex(self.told.getvalue(), "^live: 1 networks are on channel 6; Ctrl-C ends it, .*\nlive: the program "
+        self.assertRegex(self.told.getvalue(), "^live: 1 networks are on channel 6, by active monitor interfaces; Ctrl-C ends it, .*\nlive: the program "
                                                "ended with status 0; taking down what was set up\n$")
         self.assertEqual(len(self.followed), 1)
         self.assertEqual([name for name in os.listdir(self.folder) if name.startswith("phy0.")], ["phy0.lock"])
@@ -1187,7 +1135,7 @@ class Running(WithFiles):
             self.end()
         self.run_bridge(later)
         self.assertIn("; all stays as it is set up, for the next start\n", self.told.getvalue())
-        self.assertEqual(self.read("phy0.stay"), "1 2437\n")
+        self.assertEqual(self.read("phy0.stay"), "2 active-monitors 2437\n")
         left = ["phy0.lock", "phy0.state.0", "phy0.state.1", "phy0.stay"]
         self.assertEqual(sorted(name for name in os.listdir(self.folder) if name.startswith("phy0.")), left)
         self.run_bridge(self.end)
@@ -1255,6 +1203,32 @@ class Running(WithFiles):
         changed.join()
         self.assertEqual([plan.settings.channel for plan in self.followed], [6, 11])
         self.assertIn("has changed since it was read, and is read again", self.told.getvalue())
+
+    def test_sends_nothing(self):
+        """Then the radio is set up in the next way; where there is none all ends."""
+        self.write("words", "")
+        nothing = "this radio does not send beside its interfaces: no beacon was seen as sent within 1 second"
+        does = f"[ \"$request\" != open ] || {{ [ -e {self.folder}/second ] || {{ touch {self.folder}/second; break; }}; echo sending; }}"
+        after = f"[ -e {self.folder}/third ] || {{ touch {self.folder}/third; echo 'fault {nothing}'; exit 1; }}"
+        self.run_bridge(lambda: self.end_once_told("networks are on channel"), does=does, after=after,
+                        ways=(Way.MANAGED, Way.ACCESS_POINTS))
+        self.assertEqual([plan.way for plan in self.followed], [Way.MANAGED, Way.ACCESS_POINTS])
+        self.assertIn("by managed interfaces this radio sends nothing, so it serves by access point interfaces; it begins anew",
+                      self.told.getvalue())
+        self.assertIn("1 networks are on channel 6, by access point interfaces", self.told.getvalue())
+        for name in ("second", "third"):
+            os.unlink(self.path(name))
+        with self.assertRaisesRegex(Fault, "^this radio does not send beside its interfaces"):
+            self.run_bridge(does=does, after=after, ways=(Way.ACCESS_POINTS,))
+
+    def test_beacons_and_channel(self):
+        """For what the bridge tells of them the radio is set up anew, each time once."""
+        does = SENDS + "; [ $request = open ] && (sleep 0.3; echo unsent; sleep 0.3; echo sending; echo elsewhere 2412; sleep 0.3; echo here)"
+        self.run_bridge(lambda: self.end_once(lambda: self.told.getvalue().count("phy0 was set up anew") == 2), does=does)
+        told = self.told.getvalue()
+        places = [told.index(text) for text in ("phy0 sends nothing", "phy0 was set up anew",
+                                                "it is set back to 2437 MHz")]
+        self.assertEqual(places, sorted(places))
 
     def test_does_not_begin_anew_with_a_fault(self):
         """A configuration that has a fault by then is told, and all ends."""

@@ -223,7 +223,8 @@ class Shown(unittest.TestCase):
 
     def test_no_station(self):
         self.told = document(network(1, b"guests", wire_down=90.5), {**network(2, b"office", counts=None), "ssid": None},
-                             record={"octets": 65536, "fault": "No space left on device"})
+                             record={"octets": 65536, "fault": "No space left on device"}, by="active-monitors",
+                             radio={"down": None, "unsent": 65.0, "elsewhere": 2412, "heard_elsewhere": 3})
         self.open()
         self.look("none")
         text = self.browser.value(TEXT)
@@ -232,6 +233,10 @@ class Shown(unittest.TestCase):
         self.assertNotIn("wire wire2, which", text)
         self.assertIn("no counts yet", text)
         self.assertIn("the recording stopped: No space left on device", text)
+        self.assertIn("channel 6, phy0, by active monitors", text)
+        self.assertIn("the radio has told no beacon as sent for 1 min 5 s", text)
+        self.assertIn("the radio is on 2412 MHz", text)
+        self.assertNotIn("the monitor interface is down", text)
         self.assertIn("(name not told yet)", text)
         self.assertEqual(self.browser.faults, [])
 

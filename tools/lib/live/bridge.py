@@ -6,6 +6,7 @@ import subprocess
 import time
 from collections.abc import Iterable
 from contextlib import ExitStack, suppress
+from typing import Protocol
 
 import called
 from frames import address_text
@@ -20,7 +21,15 @@ FIRST = ("nice", "-n", "-15")  # before this machine's other programs: stations 
 ENDING = (signal.SIGINT, signal.SIGTERM)
 STATE, OPEN, WIRE, TABLES, DISMISS = "state", "open", "wire", "tables", "dismiss"
 PROGRAM_ENDED = "the program ended by itself"
+SENDS_NOTHING = "this radio does not send beside its interfaces"
 FORBIDDEN_CALL = 128 + signal.SIGSYS  # the status of a program that made a call that it may not make
+
+
+class HasFileno(Protocol):
+    """What one can wait for."""
+
+    def fileno(self) -> int:
+        """Its descriptor."""
 
 
 class Notice:
@@ -28,6 +37,7 @@ class Notice:
     DISMISS, of which the first three hand descriptors over."""
 
     READY, SENDING, ALIVE, DOWN, DISMISSED = "ready", "sending", "alive", "down", "dismissed"
+    UNSENT, ELSEWHERE, HERE = "unsent", "elsewhere", "here"
     STATUS, FAULT = "status", "fault"
 
 
@@ -83,8 +93,8 @@ def words_of(wanted: Wanted, plan: Plan, descriptor: int, record: tuple[int, str
     with its name, and how many octets of address space the program has, where it runs within bounds."""
     settings = plan.settings
     words = [wanted.bridge, "--name", called.name(), "--phy", wanted.phy,
-             "--channel", str(settings.channel), "--monitor", wanted.monitor, "--interval", str(settings.interval), "--idle", str(wanted.idle),
-             "--socket", str(descriptor)]
+             "--channel", str(settings.channel), "--monitor", wanted.monitor, "--interval", str(settings.interval),
+             "--by", plan.way.value, "--idle", str(wanted.idle), "--socket", str(descriptor)]
     if tells_alive:
         words += ["--alive"]
     if record is not None:
@@ -107,6 +117,8 @@ class Bridge:
         self.is_ready = self.is_sending = self.is_over = self.was_dismissed = False
         self.alive = 0  # how often it told that the program answers
         self.down: list[int] = []  # the places of networks whose wires have ended, until somebody has looked at them
+        self.is_unsent = False  # no beacon was told as sent for some seconds
+        self.elsewhere: int | None = None  # the frequency on which it hears, where that isn't the channel's
         self.status: int | None = None
         self.fault: str | None = None
         self.control, theirs = socket.socketpair()
@@ -146,9 +158,10 @@ class Bridge:
         for place, wire in wires.items():
             self.ask(f"{WIRE} {place}", [wire.fileno()])
 
-    def wait(self, seconds: float | None) -> None:
-        """Waits until it tells something, a signal comes, or the time is over; then takes what was told."""
-        readable = select.select([self.signals.waker, self.control], [], [], seconds)[0]
+    def wait(self, seconds: float | None, others: tuple["HasFileno", ...] = ()) -> None:
+        """Waits until it tells something, a signal comes, one of the others has something to read, or the time is over;
+        then takes what was told."""
+        readable = select.select([self.signals.waker, self.control, *others], [], [], seconds)[0]
         self.signals.drain()
         if self.control in readable:
             try:
@@ -166,7 +179,13 @@ class Bridge:
             case Notice.READY:
                 self.is_ready = True
             case Notice.SENDING:
-                self.is_sending = True
+                self.is_sending, self.is_unsent = True, False
+            case Notice.UNSENT:
+                self.is_unsent = True
+            case Notice.ELSEWHERE:
+                self.elsewhere = int(rest)
+            case Notice.HERE:
+                self.elsewhere = None
             case Notice.ALIVE:
                 self.alive += 1
             case Notice.DOWN:
@@ -177,6 +196,11 @@ class Bridge:
                 self.status = int(rest)
             case Notice.FAULT:
                 self.fault = rest
+
+    @property
+    def sends_nothing(self) -> bool:
+        """Whether it has ended since the radio sends nothing in the way in which it was set up."""
+        return self.fault is not None and self.fault.startswith(SENDS_NOTHING)
 
     def has_to_go_on(self) -> bool:
         """Whether neither a signal nor a fault ended it."""

@@ -42,7 +42,7 @@ class Change:
                 case "address mode":
                     machine.run("ip", "link", "set", self.name, "addrgenmode", *self.more)
                 case "unmanaged":
-                    os.unlink(self.name)
+                    remove_file(self.name)
                     reload_network_manager()
                 case "country":
                     machine.run("iw", "reg", "set", self.name)
@@ -60,6 +60,13 @@ class Change:
                 return True
             case _:
                 return Interface(self.name).exists
+
+
+def remove_file(path: str) -> None:
+    """Removes a file, and its folders that nothing else is in."""
+    os.unlink(path)
+    with suppress(OSError):
+        os.removedirs(os.path.dirname(path))
 
 
 def reload_network_manager() -> None:

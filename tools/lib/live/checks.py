@@ -15,9 +15,10 @@ from live import changes, machine
 from live.changes import Change, Changes
 from live.faults import Fault
 from live.machine import Interface
-from live.phys import MANAGED, MONITOR, Phy, read_phy
+from live.phys import Phy
 from live.settings import MOST_EVENTS, Settings, read_settings
 from live.telling import tell
+from live.ways import Way, this_kernel, ways_of
 
 Wires = tuple[tuple[bytes, str], ...]
 Shares = tuple[tuple[bytes, int], ...]
@@ -25,7 +26,7 @@ MOST_WEIGHT = 16
 MOST_NAME = 15
 COUNTRY_SECONDS = 3.0
 LOCAL = "127.0.0.1"
-SET_UP = 1  # the number of the way in which `setting_up` sets up a radio; another way has another number
+SET_UP = 2  # the number of the way in which `setting_up` sets up a radio; another way has another number
 # Of a checkout of the source; an installation has none.
 MAKEFILE = os.path.join(os.path.dirname(os.path.realpath(__file__)), "..", "..", "..", "Makefile")
 CARGO = "/usr/bin/cargo"
@@ -37,7 +38,7 @@ class Wanted:
     """What the words ask for; `wires` are pairs of a BSSID and an interface, and more of them stand in the file
     `wires_file`; `shares` are pairs of a BSSID and the weight of its share of the air, which is 1 of all others. Stations
     of which nothing was heard for `idle` seconds are asked, with 0 nobody is. With `as_root` the bridge and the program
-    run as root, and the program without bounds."""
+    run as root, and the program without bounds. `way` forces the kind of interfaces that the networks have."""
 
     config: str
     program: str
@@ -53,6 +54,7 @@ class Wanted:
     status: int | None = None
     shares: Shares = ()
     as_root: bool = False
+    way: Way | None = None
 
     def network_interface(self, place: int) -> str:
         """The interface that stands for the network of this place, so that the radio acknowledges what comes to it."""
@@ -61,12 +63,23 @@ class Wanted:
 
 @dataclass(frozen=True)
 class Plan:
-    """What is to be served: the settings of a configuration in which no fault was found, the wires, and the weights of
-    shares of the air."""
+    """What is to be served: the settings of a configuration in which no fault was found, the wires, the weights of
+    shares of the air, and the ways in which the radio can serve, the one that is taken first."""
 
     settings: Settings
     wires: Wires
     shares: Shares = ()
+    ways: tuple[Way, ...] = (Way.ACTIVE_MONITORS,)
+
+    @property
+    def way(self) -> Way:
+        """The one that is taken."""
+        return self.ways[0]
+
+    @property
+    def served(self) -> str:
+        """What is served, in few words."""
+        return f"{len(self.settings.networks)} networks are on channel {self.settings.channel}"
 
 
 def check(wanted: Wanted, made: Changes, stack: ExitStack) -> Plan:
@@ -80,8 +93,8 @@ def check(wanted: Wanted, made: Changes, stack: ExitStack) -> Plan:
     check_shares(wanted, settings)
     check_port(wanted.status)
     check_record(wanted, settings)
-    check_radio(wanted, settings, made, stack)
-    return Plan(settings, wires, wanted.shares)
+    ways = check_radio(wanted, settings, made, stack)
+    return Plan(settings, wires, wanted.shares, ways)
 
 
 def check_again(wanted: Wanted, before: Plan) -> Plan:
@@ -102,7 +115,9 @@ def check_again(wanted: Wanted, before: Plan) -> Plan:
         name = wanted.network_interface(place)
         if Interface(name).exists:
             raise Fault(f"{name}: there already, and not of this bridge")
-    check_abilities(wanted.phy, read_phy(machine.run("iw", "phy", wanted.phy, "info")), settings)
+    phy = machine.phy_of(wanted.phy)
+    ways_of(wanted.phy, phy, this_kernel(), len(settings.networks), before.way)
+    check_channel(phy, settings)
     return replace(before, settings=settings, wires=wires, shares=shares)
 
 
@@ -229,13 +244,16 @@ def check_wire(interface: Interface) -> None:
                     f"off by `ip link set {name} addrgenmode none` and `ip address flush dev {name}`, or give another")
 
 
-def check_radio(wanted: Wanted, settings: Settings, made: Changes, stack: ExitStack) -> None:
-    """The radio has to be there, to be free, and to be able to do what is asked."""
+def check_radio(wanted: Wanted, settings: Settings, made: Changes, stack: ExitStack) -> tuple[Way, ...]:
+    """The radio has to be there, to be free, and to be able to do what is asked; the ways in which it can."""
     if wanted.phy not in machine.radios():
         raise Fault(f"{wanted.phy}: there is no such radio; there are: {' '.join(machine.radios()) or 'none'}")
     check_names(wanted, len(settings.networks))
     check_left(wanted, made.left_interfaces())
-    if is_handed_on(wanted, settings, made):
+    ways = ways_of(wanted.phy, machine.phy_of(wanted.phy), this_kernel(), len(settings.networks), wanted.way)
+    handed_on = next((way for way in ways if is_handed_on(wanted, settings, way, made)), None)
+    if handed_on is not None:
+        ways = ways[ways.index(handed_on):]
         made.go_on()
         stack.callback(made.take_back_rest)
     else:
@@ -247,20 +265,21 @@ def check_radio(wanted: Wanted, settings: Settings, made: Changes, stack: ExitSt
                         f"`nmcli device set {interface.name} managed no` where that runs, and then `ip link set "
                         f"{interface.name} down`")
     set_country(wanted.country, made, stack)
-    check_abilities(wanted.phy, read_phy(machine.run("iw", "phy", wanted.phy, "info")), settings)
+    check_channel(machine.phy_of(wanted.phy), settings)
+    return ways
 
 
-def as_set_up(settings: Settings) -> str:
+def as_set_up(settings: Settings, way: Way) -> str:
     """How the radio is set up for these settings, in so far as its interfaces don't tell it themselves: a start that goes on
     with them compares this."""
-    return f"{SET_UP} {settings.frequency}\n"
+    return f"{SET_UP} {way.value} {settings.frequency}\n"
 
 
-def is_handed_on(wanted: Wanted, settings: Settings, made: Changes) -> bool:
+def is_handed_on(wanted: Wanted, settings: Settings, way: Way, made: Changes) -> bool:
     """Whether the start before has handed on just the interfaces that these settings take, each as it would be made."""
     names = {wanted.network_interface(place): network.bssid for place, network in enumerate(settings.networks)}
     left = {change.name for change in made.left if change.kind == changes.INTERFACE}
-    if made.handed_on != as_set_up(settings) or left != {wanted.monitor, *names}:
+    if made.handed_on != as_set_up(settings, way) or left != {wanted.monitor, *names}:
         return False
     if any(change.kind == changes.COUNTRY for change in made.left) and wanted.country != machine.country():
         return False
@@ -320,16 +339,8 @@ def check_port(port: int | None) -> None:
                 raise Fault(f"--status {port}: {fault.strerror}") from None
 
 
-def check_abilities(name: str, phy: Phy, settings: Settings) -> None:
-    """The radio's modes, how many interfaces it has, and the channel."""
-    for mode in (MONITOR, MANAGED):
-        if mode not in phy.modes:
-            raise Fault(f"{name}: this radio has no mode {mode} (`iw phy {name} info`)")
-    most, networks = phy.most_networks(), len(settings.networks)
-    if networks > most:
-        raise Fault(f"{name}: this radio allows {most} managed interfaces beside a monitor interface, and there are "
-                    f"{networks} networks, each of which takes one (`iw phy {name} info`, valid interface "
-                    "combinations)")
+def check_channel(phy: Phy, settings: Settings) -> None:
+    """The radio has to have the channel, and to be allowed to send there."""
     reason = phy.fault_of(settings.frequency)
     if reason:
         raise Fault(f"channel {settings.channel} ({settings.frequency} MHz): {reason}: nothing may be sent there; "

@@ -6,9 +6,12 @@ import subprocess
 from dataclasses import dataclass
 
 from live.faults import Fault
+from live.links import MONITOR
+from live.phys import Phy, read_phy
 
 PACKAGES = {"iw": "iw", "ip": "iproute2", "ethtool": "ethtool"}
 COUNTRY = re.compile(r"^country (\w\w):", re.MULTILINE)
+CHANNEL = re.compile(r"^\s*channel \d+ \((\d+)(?:\.\d+)? MHz\)", re.MULTILINE)
 RADIOS, INTERFACES = "/sys/class/ieee80211", "/sys/class/net"
 ETHERNET, IS_UP = 1, 1
 OFFLOAD = re.compile(r"^(?P<name>[a-z-]+): (?P<value>on|off)(?P<fixed> \[fixed\])?")
@@ -33,6 +36,11 @@ def missing_commands() -> list[str]:
 def radios() -> list[str]:
     """The names of this machine's radios."""
     return sorted(os.listdir(RADIOS)) if os.path.isdir(RADIOS) else []
+
+
+def phy_of(name: str) -> Phy:
+    """What a radio says that it can do."""
+    return read_phy(run("iw", "phy", name, "info"))
 
 
 def read_file(*path: str) -> str | None:
@@ -90,6 +98,17 @@ class Interface:
     def radio(self) -> str | None:
         """The radio that it is of, or None."""
         return read_file(self.folder, "phy80211", "name")
+
+    @property
+    def is_monitor(self) -> bool:
+        """Whether it is a monitor interface of a radio."""
+        return read_file(self.folder, "type") == str(MONITOR)
+
+    @property
+    def frequency(self) -> int | None:
+        """The frequency in MHz that the kernel names for an interface of a radio, or None."""
+        match = CHANNEL.search(run("iw", "dev", self.name, "info"))
+        return int(match[1]) if match else None
 
     @property
     def users(self) -> list[str]:

@@ -28,6 +28,10 @@ class Service:
         """Stations are served."""
         self.tell("READY=1", f"STATUS={status}")
 
+    def status(self, text: str) -> None:
+        """How it stands."""
+        self.tell(f"STATUS={text}")
+
     def reloading(self) -> None:
         """The configuration is read again."""
         self.tell("RELOADING=1", f"MONOTONIC_USEC={time.monotonic_ns() // 1000}")

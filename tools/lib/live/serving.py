@@ -6,6 +6,7 @@ import socket
 import subprocess
 import time
 from contextlib import ExitStack
+from dataclasses import replace
 
 from live import asking
 from live.bridge import STATE, TABLES, Bridge, Signals, words_of
@@ -20,6 +21,8 @@ from live.running import RunFile
 from live.service import Service
 from live.setting_up import SettingUp
 from live.telling import ERROR, WARNING, tell
+from live.watching import RadioWatch
+from live.ways import Way
 from live.wires import Wires
 
 TOOLS = os.path.dirname(os.path.dirname(os.path.dirname(os.path.realpath(__file__))))
@@ -51,8 +54,9 @@ class AccessPoint:
         self.wires = Wires(self.setting_up)
         stack.callback(self.wires.close)
         self.radio: list[socket.socket] = []
-        self.frequency: int | None = None  # of the sockets of the radio
+        self.of_radio: tuple[int, Way] | None = None  # how the radio was set up to which its sockets belong
         stack.callback(self.close_radio)
+        self.watch = RadioWatch(wanted, self.setting_up, self.service, stack)
         self.opened = 0.0  # when the last bridge was opened
         self.early = 0  # how many in a row ended soon after that
         self.page: subprocess.Popen[bytes] | None = None
@@ -93,26 +97,27 @@ class AccessPoint:
             stays = self.signals.is_ending and self.made.is_to_stay()
             self.bridge.end("all stays as it is set up, for the next start" if stays else "taking down what was set up")
         if stays:
-            self.made.hand_on(as_set_up(self.plan.settings))
+            self.made.hand_on(as_set_up(self.plan.settings, self.plan.way))
             self.state.leave()
 
     def open(self) -> None:
         """Sets up what the plan takes, and lets frames go. What a bridge before has left of stations, and the sockets that
         it had, are handed over; what came by these meanwhile waits there."""
         self.setting_up.follow(self.plan, missing_wires(self.plan))
-        if self.frequency != self.plan.settings.frequency:
+        if self.of_radio != (self.plan.settings.frequency, self.plan.way):
             self.close_radio()
             self.radio = open_radio(self.wanted.monitor)
-            self.frequency = self.plan.settings.frequency
+            self.of_radio = self.plan.settings.frequency, self.plan.way
         self.bridge.ask(STATE, self.state.descriptors)
         self.bridge.open(self.radio, self.wires.open(self.plan))
+        self.watch.begin(self.plan)
         self.opened = time.monotonic()
 
     def close_radio(self) -> None:
         """Closes the radio's sockets."""
         for opened in self.radio:
             opened.close()
-        self.radio, self.frequency = [], None
+        self.radio, self.of_radio = [], None
 
     def look_at_wires(self) -> None:
         """Hands over the wires that are there again."""
@@ -128,7 +133,9 @@ class AccessPoint:
         has_told = None
         alive = 0
         while self.bridge.has_to_go_on() or self.begin_anew():
-            self.bridge.wait(self.seconds_to(due if self.wanted.tables else None))
+            self.bridge.wait(self.seconds_to(due if self.wanted.tables else None), (self.watch.links,))
+            if self.bridge.has_to_go_on():
+                self.watch.look(self.bridge, self.plan)
             if self.bridge.down or self.wires.are_missing and time.monotonic() >= look:
                 look = time.monotonic() + LOOK_SECONDS
                 self.look_at_wires()
@@ -154,7 +161,7 @@ class AccessPoint:
         interfaces and their sockets stay meanwhile, and stations notice nothing. Whether that is so."""
         if self.signals.is_ending:
             return False
-        reason = self.bridge.reason_to_begin_anew()
+        reason = self.bridge.reason_to_begin_anew() or self.take_next_way()
         self.early = self.early + 1 if time.monotonic() < self.opened + EARLY_SECONDS else 0
         if reason is None or self.signals.is_ending or self.early >= MOST_EARLY:
             return False
@@ -173,24 +180,36 @@ class AccessPoint:
         self.open()
         return True
 
+    def take_next_way(self) -> str | None:
+        """Where the radio sends nothing in the way in which it was set up, it is set up in the next one; the reason, where
+        there is one."""
+        ways = self.plan.ways[1:]
+        if not self.bridge.sends_nothing or not ways:
+            return None
+        reason = f"by {self.plan.way.interfaces} this radio sends nothing, so it serves by {ways[0].interfaces}"
+        self.plan = replace(self.plan, ways=ways)
+        return reason
+
     def read_again(self) -> Plan:
         """The plan of the configuration as it is now."""
         self.stamp = stamp_of(self.wanted.config)
         return check_again(self.wanted, self.plan)
 
     def seconds_to(self, due: float | None) -> float | None:
-        """For how long one waits at most: for what is due, and for wires that are missing."""
+        """For how long one waits at most: for what is due, for wires that are missing, and for a radio that is to be set up
+        anew."""
         waits = [] if due is None else [max(0.0, due - time.monotonic())]
         if self.wires.are_missing:
             waits.append(LOOK_SECONDS)
+        if self.watch.seconds is not None:
+            waits.append(self.watch.seconds)
         return min(waits, default=None)
 
     def tell_of_networks(self) -> None:
         """The first beacon was seen as sent."""
-        number, channel = len(self.plan.settings.networks), self.plan.settings.channel
-        tell(f"{number} networks are on channel {channel}; Ctrl-C ends it, `kill -USR1 {os.getpid()}` shows the "
-             f"tables, `kill -HUP {os.getpid()}` reads {self.wanted.config} again")
-        self.service.ready(f"{number} networks are on channel {channel}")
+        tell(f"{self.plan.served}, by {self.plan.way.interfaces}; Ctrl-C ends it, `kill -USR1 {os.getpid()}` shows the tables, "
+             f"`kill -HUP {os.getpid()}` reads {self.wanted.config} again")
+        self.service.ready(self.watch.status(self.plan))
 
     def reload(self) -> None:
         """Reads the configuration again: where it has a fault, or the program doesn't take it, all stays as it is; else

@@ -1,7 +1,6 @@
 """What the bridge changes on this machine, part by part: when the configuration is read again, those parts alone are
 taken back that it has no more."""
 import os
-import shutil
 from contextlib import ExitStack
 from dataclasses import dataclass
 
@@ -9,13 +8,20 @@ from frames import address_text
 from live import changes, machine
 from live.changes import Change, Changes, reload_network_manager
 from live.checks import Plan, Wanted
+from live.drivers import meaning_of
+from live.faults import Fault
+from live.kernel_beacon import other_address, start_words
 from live.machine import Interface
-from live.telling import tell
+from live.telling import WARNING, tell
+from live.ways import Way
 
 MTU = 2304
 ADDRESS_MODE, NO_ADDRESS = "/proc/sys/net/ipv6/conf/{}/addr_gen_mode", "none"
 ADDRESS_MODES = {"0": "eui64", "1": "none", "2": "stable_secret", "3": "random"}
-RUNNING, UNMANAGED = "/run/NetworkManager", "/run/NetworkManager/conf.d/{}.conf"
+UNMANAGED = "/run/NetworkManager/conf.d/waltigon-{}.conf"
+# The words of `iw` for the interface of a network, which has this address; `flags` have to stand last.
+KINDS = {Way.ACTIVE_MONITORS: "monitor addr {} flags active", Way.MANAGED: "managed addr {}",
+         Way.ACCESS_POINTS: "__ap addr {}"}
 # What `ethtool -K` calls an offload, and `ethtool -k`.
 RECEIVING = {"gro": "generic-receive-offload", "lro": "large-receive-offload"}
 SENDING = {"tx": "tx-checksumming", "gso": "generic-segmentation-offload", "tso": "tcp-segmentation-offload"}
@@ -30,19 +36,22 @@ class WirePart:
 
 @dataclass(frozen=True)
 class RadioPart:
-    """The monitor interface, on the channel of this frequency."""
+    """The monitor interface, on the channel of this frequency, beside which networks have interfaces of a kind."""
 
     frequency: int
+    way: Way
 
 
 @dataclass(frozen=True)
 class NetworkPart:
     """The interface that stands for a network; one on another channel is another one, since the channel can only be set
-    while the monitor interface is alone."""
+    while the monitor interface is alone. The kernel's beacon of an access point interface has an address of its own."""
 
     interface: str
     bssid: bytes
     frequency: int
+    way: Way
+    beacon_from: bytes = b""
 
 
 Part = WirePart | RadioPart | NetworkPart
@@ -95,6 +104,26 @@ class SettingUp:
             case NetworkPart(name):
                 return {name}
 
+    def radio_interfaces(self) -> list[str]:
+        """The interfaces of the radio that were set up: the monitor interface, and then those of networks."""
+        networks = [part.interface for part in self.parts if isinstance(part, NetworkPart)]
+        return [self.wanted.monitor, *networks] if any(isinstance(part, RadioPart) for part in self.parts) else []
+
+    def set_up_radio_again(self) -> None:
+        """Takes all interfaces of the radio down, and up again in their order, which gives the radio its channel back: the
+        monitor interface is the first that is up."""
+        for name in reversed(self.radio_interfaces()):
+            if Interface(name).exists:
+                machine.run("ip", "link", "set", name, "down")
+        for part in self.parts:
+            match part:
+                case RadioPart(frequency):
+                    self.tune(frequency)
+                case NetworkPart(name):
+                    if not Interface(name).exists:
+                        machine.run(*self.adding(part))
+                    self.bring_network_up(part)
+
     def has_wire(self, interface: Interface) -> bool:
         """Whether this very interface was set up as a wire."""
         return WirePart(interface.name) in self.parts and interface.index == self.indices.get(interface.name)
@@ -117,10 +146,12 @@ class SettingUp:
 
     def parts_of(self, plan: Plan) -> list[Part]:
         """What a plan takes, in the order in which it is set up."""
-        frequency = plan.settings.frequency
-        networks = [NetworkPart(self.wanted.network_interface(place), network.bssid, frequency)
-                    for place, network in enumerate(plan.settings.networks)]
-        return [*(WirePart(name) for _, name in plan.wires), RadioPart(frequency), *networks]
+        settings, way = plan.settings, plan.way
+        frequency = settings.frequency
+        sender = other_address(self.wanted.phy, settings.bssids) if way is Way.ACCESS_POINTS else b""
+        networks = [NetworkPart(self.wanted.network_interface(place), network.bssid, frequency, way, sender)
+                    for place, network in enumerate(settings.networks)]
+        return [*(WirePart(name) for _, name in plan.wires), RadioPart(frequency, way), *networks]
 
     def take_down(self) -> None:
         """Takes all back."""
@@ -134,10 +165,8 @@ class SettingUp:
                 self.set_up_wire(Interface(name))
             case RadioPart(frequency):
                 self.set_up_radio(frequency)
-            case NetworkPart(name, bssid):
-                self.add(name, "type", "managed", "addr", address_text(bssid))
-                self.keep_without_address(name)
-                machine.run("ip", "link", "set", name, "up")
+            case NetworkPart():
+                self.set_up_network(part)
 
     def set_up_wire(self, interface: Interface) -> None:
         """Sets one wired port up: no frames are joined to larger ones."""
@@ -165,14 +194,45 @@ class SettingUp:
         radio acknowledges."""
         self.keep_network_manager_out()
         monitor = self.wanted.monitor
-        self.add(monitor, "type", "monitor", "flags", "control")
+        self.change(Change(changes.INTERFACE, monitor),
+                    "iw", "phy", self.wanted.phy, "interface", "add", monitor, "type", "monitor", "flags", "control")
         machine.run("ip", "link", "set", monitor, "mtu", str(MTU))
+        self.tune(frequency)
+
+    def tune(self, frequency: int) -> None:
+        """Brings the monitor interface up on the channel, while it is the only interface that is up. Before Linux 6.9 what
+        it sends is judged by the channel on which it came up, so it comes up there once more."""
+        monitor = self.wanted.monitor
         machine.run("ip", "link", "set", monitor, "up")
         machine.run("iw", "dev", monitor, "set", "freq", str(frequency))
+        machine.run("ip", "link", "set", monitor, "down")
+        machine.run("ip", "link", "set", monitor, "up")
+        found = Interface(monitor).frequency
+        if found != frequency:
+            place = "on no channel" if found is None else f"on {found} MHz"
+            raise Fault(f"{self.wanted.phy}: its channel was set to {frequency} MHz, and {monitor} is {place}: does "
+                        "something else use this radio?")
 
-    def add(self, name: str, *words: str) -> None:
-        """Adds an interface to the radio."""
-        self.change(Change(changes.INTERFACE, name), "iw", "phy", self.wanted.phy, "interface", "add", name, *words)
+    def set_up_network(self, part: NetworkPart) -> None:
+        """Adds the interface that stands for a network, and brings it up."""
+        self.change(Change(changes.INTERFACE, part.interface), *self.adding(part))
+        self.bring_network_up(part)
+
+    def adding(self, part: NetworkPart) -> list[str]:
+        """The command that adds it."""
+        kind = KINDS[part.way].format(address_text(part.bssid)).split()
+        return ["iw", "phy", self.wanted.phy, "interface", "add", part.interface, "type", *kind]
+
+    def bring_network_up(self, part: NetworkPart) -> None:
+        """Brings it up; a driver may take no more of them, or not with this address."""
+        self.keep_without_address(part.interface)
+        try:
+            machine.run("ip", "link", "set", part.interface, "up")
+        except Fault as fault:
+            meaning = meaning_of(str(fault), self.wanted.phy)
+            raise Fault(f"{fault}: {meaning}" if meaning else str(fault)) from None
+        if part.way is Way.ACCESS_POINTS:
+            machine.run("iw", "dev", part.interface, *start_words(part.frequency, part.beacon_from))
 
     def bring_up(self, name: str) -> None:
         """Sets an interface up, without an address of its own."""
@@ -198,14 +258,27 @@ class SettingUp:
         self.stack.callback(self.made.take_back, change)
 
     def keep_network_manager_out(self) -> None:
-        """Where NetworkManager runs it would scan by the new interfaces, and so move the channel."""
-        if shutil.which("nmcli") is None or not os.path.isdir(RUNNING):
-            return
+        """NetworkManager would scan by the new interfaces, and so move the channel: a file says that it leaves them alone,
+        and those that the radio has already. It is there whether NetworkManager runs or not, which may begin later."""
         path = UNMANAGED.format(self.wanted.monitor)
         change = Change(changes.UNMANAGED, path)
         self.made.add(change)
-        os.makedirs(os.path.dirname(path), exist_ok=True)
-        with open(path, "w", encoding="utf-8") as file:
-            file.write(f"[keyfile]\nunmanaged-devices+=interface-name:{self.wanted.monitor}*\n")
+        others = [interface.name for interface in machine.interfaces()
+                  if interface.radio == self.wanted.phy and not interface.name.startswith(self.wanted.monitor)]
+        try:
+            os.makedirs(os.path.dirname(path), exist_ok=True)
+            with open(path, "w", encoding="utf-8") as file:
+                file.write(leave_alone(self.wanted.monitor, others))
+        except OSError as fault:
+            self.made.forget(change)
+            tell(f"{path}: {fault.strerror}: NetworkManager may take the interfaces of this radio", WARNING)
+            return
         self.stack.callback(self.made.take_back, change)
         reload_network_manager()
+
+
+def leave_alone(monitor: str, others: list[str]) -> str:
+    """A file by which NetworkManager leaves alone what has a name of ours, and others (NetworkManager.conf(5)). A section of
+    its own holds beside an operator's list of unmanaged devices."""
+    devices = ",".join(f"interface-name:{name}" for name in (f"{monitor}*", *others))
+    return f"[device-waltigon-{monitor}]\nmatch-device={devices}\nmanaged=0\n"

@@ -36,8 +36,10 @@ def show_status(phy: str | None, is_watched: bool) -> None:
 def text_of(told: dict) -> str:
     """A status document as lines."""
     beacons = told["beacons"]
-    lines = [f"{told['phy']}, channel {told['channel']}, for {duration(told['since'])}, of {told['version']}; "
-             f"{beacons['sent']} beacons, {beacons['late_ms_worst']} ms late at worst, {beacons['missed']} missed"]
+    by = f" by {told['by'].replace('-', ' ')}" if told.get("by") else ""
+    lines = [f"{told['phy']}, channel {told['channel']}{by}, for {duration(told['since'])}, of {told['version']}; "
+             f"{beacons['sent']} beacons, {beacons['late_ms_worst']} ms late at worst, {beacons['missed']} missed",
+             *troubles_of(told.get("radio") or {})]
     for network in told["networks"]:
         lines += ["", head_of(network)]
         rows = [row_of(station) for station in network["stations"]]
@@ -46,6 +48,18 @@ def text_of(told: dict) -> str:
     for fault in told["faults"]:
         lines += ["", f"{duration(fault['seconds'])} ago: {fault['text']}"]
     return "\n".join(lines)
+
+
+def troubles_of(radio: dict) -> list[str]:
+    """What keeps stations from all networks, a line each."""
+    found = []
+    if radio.get("down") is not None:
+        found.append(f"the monitor interface is down for {duration(radio['down'])}")
+    if radio.get("unsent") is not None:
+        found.append(f"the radio has told no beacon as sent for {duration(radio['unsent'])}")
+    if radio.get("elsewhere") is not None:
+        found.append(f"the radio is on {radio['elsewhere']} MHz")
+    return found
 
 
 def head_of(network: dict) -> str:

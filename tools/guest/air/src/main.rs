@@ -6,8 +6,9 @@
 //! The module `medium` has how.
 //!
 //! What it leaves to others: which channel a radio is on (the kernel drops a frame of another one) and whether a radio
-//! sleeps or scans (it acknowledges as long as it has an interface with that address). There are no collisions and no
-//! hidden stations. The kernel takes no frame of fewer than 24 octets back, so a PS-Poll is heard by nobody.
+//! sleeps or scans (it acknowledges as long as it has an interface with that address, or sends beacons by it: the module
+//! `owners` has why). There are no collisions and no hidden stations. The kernel takes no frame of fewer than 24 octets
+//! back, so a PS-Poll is heard by nobody.
 //!
 //! Usage: `air RADIOS SEED`, as root, once the simulation is loaded and before its interfaces are set up, since the
 //! kernel tells a radio's addresses only then. It writes `ready`; then each line of its standard input is answered by
@@ -33,6 +34,7 @@ mod frame;
 mod hwsim;
 mod medium;
 mod netlink;
+mod owners;
 mod queues;
 mod rate;
 mod rules;

@@ -16,6 +16,7 @@ use crate::airtime::{Airtime, Airtimes, Flow};
 use crate::exchange::Exchange;
 use crate::frame::{Address, Kind};
 use crate::hwsim::{Attempt, Sent};
+use crate::owners::Owners;
 use crate::queues::{Discipline, Queue};
 use crate::rate::{Rate, DIFS, SLOT};
 use crate::rules::{Lost, Radio, Rules, Try};
@@ -92,9 +93,8 @@ pub struct Medium {
     pub rules: Rules,
     radios: u16,
     draws: Draws,
-    /// Who acknowledges what comes to an address, and how often that was said: the kernel says it of an interface, and
-    /// again of the address by which it scans, which may be the same.
-    owners: BTreeMap<Address, (Radio, u32)>,
+    /// Who acknowledges what comes to an address.
+    owners: Owners,
     queues: BTreeMap<Radio, Queue>,
     on_air: Option<OnAir>,
     last: Radio,
@@ -109,7 +109,7 @@ impl Medium {
             rules: Rules::default(),
             radios,
             draws: Draws { seed, drawn: HashMap::new() },
-            owners: BTreeMap::new(),
+            owners: Owners::default(),
             queues: BTreeMap::new(),
             on_air: None,
             last: Radio(0),
@@ -120,19 +120,12 @@ impl Medium {
 
     /// From now on this radio acknowledges what comes to the address.
     pub fn give_address(&mut self, radio: Radio, address: Address) {
-        let owner = self.owners.entry(address).or_insert((radio, 0));
-        *owner = if owner.0 == radio { (radio, owner.1 + 1) } else { (radio, 1) };
+        self.owners.give(radio, address);
     }
 
     /// It doesn't any more, where this was said as often as that it does.
     pub fn take_address(&mut self, radio: Radio, address: Address) {
-        match self.owners.get_mut(&address) {
-            Some((owner, times)) if *owner == radio && *times > 1 => *times -= 1,
-            Some((owner, _)) if *owner == radio => {
-                self.owners.remove(&address);
-            }
-            _ => {}
-        }
+        self.owners.take(radio, address);
     }
 
     /// From now on a radio keeps what waits by this discipline; what it drops for that is done with.
@@ -209,11 +202,14 @@ impl Medium {
 
     /// Ends the try that was on the air.
     fn end(&mut self, on_air: OnAir, effects: &mut Vec<Effect>) {
-        let OnAir { mut exchange, rate, spaces, sending, .. } = on_air;
+        let OnAir { mut exchange, rate, spaces, sending, ends } = on_air;
         let from = exchange.sent.from;
         self.last = from;
         exchange.count_try(rate);
-        let to = exchange.receiver.and_then(|address| self.owners.get(&address)).map(|owner| owner.0);
+        if let Some(address) = exchange.transmitter {
+            self.owners.learn(from, address, exchange.kind, ends);
+        }
+        let to = exchange.receiver.and_then(|address| self.owners.of(address, ends));
         let was_heard = self.deliver(&exchange, from, rate, to, effects);
         let kind = exchange.kind;
         let acknowledged = was_heard
@@ -266,6 +262,7 @@ mod tests {
 
     const STATION: Address = [2, 0, 0, 0, 2, 0];
     const FOREVER: u64 = u64::MAX / 2;
+    const SECOND: u64 = 1_000_000_000;
 
     fn rate(word: &str) -> Rate {
         word.parse().unwrap()
@@ -494,5 +491,47 @@ mod tests {
             medium.take(data(0, STATION, &[("54", 2)]), 0);
             assert_eq!(done(&medium.advance(FOREVER)), [(vec![("54".to_owned(), tries)], tries == 1)]);
         }
+    }
+
+    /// A beacon of a network, by a radio.
+    fn beacon(from: u16, network: Address) -> Sent {
+        let mut sent = data(from, [0xff; 6], &[("1", 1)]);
+        sent.frame[..2].copy_from_slice(&[0x80, 0]);
+        sent.frame[10..16].copy_from_slice(&network);
+        sent
+    }
+
+    /// Whether what a station sends to an address at this time is acknowledged, and by whom, if somebody has it.
+    fn asked(medium: &mut Medium, address: Address, now: u64) -> (bool, Option<Radio>) {
+        medium.clear_counts();
+        medium.take(data(2, address, &[("54", 1)]), now);
+        medium.advance(FOREVER);
+        let (way, count) = medium.counts().next().unwrap();
+        (count.acknowledged == 1, way.to)
+    }
+
+    #[test]
+    fn a_radio_acknowledges_for_the_address_of_which_it_sends_beacons() {
+        const NETWORK: Address = [2, 0, 0, 0, 1, 1];
+        let mut medium = medium(&[]);
+        assert_eq!(asked(&mut medium, NETWORK, 0), (false, None));
+        for radio in [0, 1] {
+            medium.take(beacon(radio, NETWORK), 0);
+            medium.advance(FOREVER);
+            assert_eq!(asked(&mut medium, NETWORK, SECOND), (true, Some(Radio(radio))));
+        }
+    }
+
+    #[test]
+    fn an_address_without_beacons_is_forgotten() {
+        const NETWORKS: [Address; 2] = [[2, 0, 0, 0, 1, 1], [2, 0, 0, 0, 1, 2]];
+        let mut medium = medium(&[]);
+        medium.take(beacon(0, NETWORKS[0]), 0);
+        for second in 0..10 {
+            medium.take(beacon(0, NETWORKS[1]), second * SECOND);
+            medium.advance(FOREVER);
+        }
+        assert_eq!(asked(&mut medium, NETWORKS[0], 10 * SECOND), (false, None));
+        assert_eq!(asked(&mut medium, NETWORKS[1], 10 * SECOND), (true, Some(Radio(0))));
     }
 }
