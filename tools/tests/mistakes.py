@@ -36,6 +36,17 @@ NETWORK = CONFIG[CONFIG.rindex("[[network]]"):]
 PROBE = "A 40000000 ffffffffffff 02aa00000001 ffffffffffff 0000 0000 010402040b16"
 TRACE = f"# a probe\n{PROBE}\nT\n"
 HOSTAPD = "interface=wlan0\ndriver=nl80211\nssid=lab\nhw_mode=g\nchannel=6\nwpa=2\nwpa_passphrase=secret\n"
+OPENWRT = """config wifi-device 'radio0'
+\toption type 'mac80211'
+\toption channel '6'
+
+config wifi-iface 'default_radio0'
+\toption device 'radio0'
+\toption network 'lan'
+\toption mode 'ap'
+\toption ssid 'OpenWrt'
+\toption encryption 'none'
+"""
 PCAP = b"\xd4\xc3\xb2\xa1\x02\0\x04\0" + bytes(16)
 PCAPNG = b"\x0a\x0d\x0d\x0a\x1c\0\0\0\x4d\x3c\x2b\x1a"
 
@@ -110,6 +121,19 @@ NO_TOML = [
     changed("fault C1", "aging = false", "aging = flase", "my.toml:16:9", "`true` or `false`", "write `aging = false`"),
     changed("fault C1", "channel = 6", "channel = six", "my.toml:2:11", "is a whole number", "write `channel = 6`"),
     changed("fault C1", "dtim = 1", "dtim = 1 2", "my.toml:10:8", "`1 2` is none"),
+    changed("fault C1", "channel = 6", "channel := 11", "my.toml:2:1", "`:` stands where", "write `channel = 11`"),
+    changed("fault C1", "channel = 6", "channel = 11;", "my.toml:2:11", "ends without `;`", "write `channel = 11`"),
+    changed("fault C1", "channel = 6", "channel = \uff111", "my.toml:2:11", "look like digits", "write `channel = 11`"),
+    changed("fault C1", '"lab"', "&quot;lab&quot;", "my.toml:8:8", "a page of HTML", 'write `ssid = "lab"`'),
+    changed("fault C1", "channel = 6", "<<<<<<< HEAD\nchannel = 6\n=======\nchannel = 11\n>>>>>>> theirs", "my.toml:2:1",
+            "a merge conflict of git", "keep one of them"),
+    changed("fault C1", "queue = 64", "=======\nqueue = 64\n>>>>>>> theirs", "my.toml:4:1", "a merge conflict of git"),
+    changed("fault C1", "queue = 64", 'queue = 64\nnetwork = "lan"', "my.toml:5:1", "has a value here", "in line 7;",
+            "leave that line out"),
+    Mistake("fault C1", OPENWRT, None, ("my.toml:1:1", "of OpenWrt", "/var/run/hostapd-phy0.conf",
+                                        "tools/config-from-hostapd")),
+    Mistake("fault C1", CONFIG + "\0" * 9, None, ("my.toml:29:1", "9 octets 0 (NUL) stand at the end")),
+    changed("fault C1", "channel = 6", "chan\0nel = 6", "my.toml:2:5", "1 octet 0 (NUL) stands in this text"),
     Mistake("fault C1", "version = 2\nnetwork = [\n  { dtim = 1 },\n", None, ("my.toml:2:11", "`]`")),
     Mistake("fault C1", "version = 2\nnetwork = [ { dtim = 1 ]\n", None,
             ("my.toml:2:24", "`,` between the parts of a table")),
@@ -193,7 +217,7 @@ RADIO = [
     Mistake("fault C7", networks(9, 1), None, ("9 networks", "at most 8", "version = 2")),
     Mistake("fault C7", networks(17), None, ("17 networks", "at most 16")),
     Mistake("fault C7", 'version = 2\nchannel = 6\ninterval = 100\nqueue = 64\nnetwork = "lab"\n', None,
-            ("my.toml:5:11", "an array of tables, and this is a text")),
+            ("my.toml:5:11", "an array of tables, and this is a text", "OpenWrt's `network`")),
     Mistake("fault C7", 'version = 2\nchannel = 6\ninterval = 100\nqueue = 64\nnetwork.ssid = "lab"\n', None,
             ("my.toml:5:1", "one table", "`[[network]]`")),
     Mistake("fault C7", "version = 2\nchannel = 6\ninterval = 100\nqueue = 64\nnetwork = [1]\n", None,
@@ -208,6 +232,10 @@ NETWORKS = [
     changed("fault C8 network 0", "02:00:00:00:00:01", "03:00:00:00:00:01", "my.toml:7:10", "group address",
             'write `bssid = "02:00:00:00:00:01"`'),
     changed("fault C8 network 1", "02:00:00:00:00:02", "02:00:00:00:00:01", "my.toml:19:9", "already, in line 7"),
+    changed("fault C8 network 0", "02:00:00:00:00:01", "02\u201300\u201300\u201300\u201300\u201311", "my.toml:7:12",
+            "isn't `-`", 'write `bssid = "02:00:00:00:00:11"`'),
+    changed("fault C8 network 0", "02:00:00:00:00:01", "\uff102:00:00:00:00:11", "my.toml:7:10", "isn't `0`",
+            'write `bssid = "02:00:00:00:00:11"`'),
     changed("fault C8 network 0", "02:00:00:00:00:01", "02:00:00:00:00:0g", "my.toml:7:26", "`g` is no hexadecimal"),
     changed("fault C8 network 0", "02:00:00:00:00:01", "O2:00:00:00:00:01", "my.toml:7:10",
             'write `bssid = "02:00:00:00:00:01"`'),
@@ -225,6 +253,8 @@ NETWORKS = [
     changed("fault C10 network 0", '"82840b16"', '"6,9,12,18,24,36,48,54"', "my.toml:9:10", "Mb/s",
             'write `rates = "8c129824b048606c"`'),
     changed("fault C10 network 0", '"82840b16"', "[1, 2, 5.5, 11]", "my.toml:9:9", 'write `rates = "82840b16"`'),
+    changed("fault C10 network 0", '"82840b16"', "[0x8c, 0x12, 0x98]", "my.toml:9:9", 'write `rates = "8c1298"`'),
+    changed("fault C10 network 0", '"82840b16"', "[140, 18, 152]", "my.toml:9:9", 'write `rates = "8c1298"`'),
     changed("fault C10 network 0", '"82840b16"', '"10 20 55 110"', "my.toml:9:10", 'write `rates = "82840b16"`'),
     changed("fault C10 network 0", '"82840b16"', '"82 84 0b 16"', "my.toml:9:12", 'write `rates = "82840b16"`'),
     changed("fault C10 network 0", '"82840b16"', '"0x82840b16"', "my.toml:9:11", 'write `rates = "82840b16"`'),
@@ -299,6 +329,23 @@ LINES = [
     traced("fault L1 line 1", "I\n", "my.trace:1:1", "live"),
     traced("fault L1 line 1", "T\rT\r", "my.trace:1:2", "CR alone"),
     traced("fault L1 line 1", f"R {PROBE[2:]}\n", "my.trace:1:1", "`R` is no word of a trace"),
+    traced("fault L1 line 2", f"{PROBE}\n\0\0\0", "my.trace:2:1", "3 octets 0 (NUL) stand at the end", "tr -d"),
+    traced("fault L1 line 1", f"<<<<<<< HEAD\n{PROBE}\n", "my.trace:1:1", "a merge conflict of git"),
+    traced("fault L1 line 2", f"{PROBE}\n=======\n{PROBE}\n", "my.trace:2:1", "a merge conflict of git"),
+    traced("fault L1 line 2", f"{PROBE[:40]}\n{PROBE[41:]}\n", "my.trace:2:1", "go on the frame of the line before"),
+    traced("fault L1 line 1", "12:00:00.000001 02:aa:00:00:00:01 > ff:ff:ff:ff:ff:ff\n\t0x0000:  4000\n", "tcpdump prints",
+           "tools/trace-from-capture makes a trace", "tcpdump -w"),
+    traced("fault L1 line 1", "\t0x0000:  4000 0000 ffff ffff ffff 02aa 0000 0001\n", "my.trace:1:1", "a hex dump"),
+    traced("fault L1 line 1", "ok 2\n", "my.trace:1:1", "an answer of `live`"),
+    traced("fault L1 line 2", f"{PROBE}\nair 02:00:00:00:00:01 b0000000\n", "my.trace:2:1", "an answer of `live`",
+           "leave the lines"),
+    traced("fault L1 line 2", "T\nfault L2 line 6\n", "my.trace:2:1", "an answer of `live`"),
+    traced("fault L2 line 1", "A 02:00:00:00:00:01 b0000000 020000000001\n", "my.trace:1:3", "the frame follows at once",
+           "write `A b0000000 020000000001`"),
+    traced("fault L2 line 1", f"{PROBE}\rT\r{PROBE}\r", f"my.trace:1:{len(PROBE) + 1}", "CR alone"),
+    traced("fault L2 line 1", f"{PROBE}\r", f"my.trace:1:{len(PROBE) + 1}", "the last line ends with CR", "sed"),
+    traced("fault L2 line 1", f"{PROBE}\r\r\n", f"my.trace:1:{len(PROBE) + 1}", "at most one CR"),
+    traced("fault L2 line 1", "A 4\uff1000\n", "my.trace:1:4", "no hexadecimal digit", "write 0"),
     traced("fault L2 line 1", "A 4\n", "my.trace:1:3", "an odd number of digits, 1"),
     traced("fault L2 line 1", PROBE.replace("0000 0000", "000 0000"), "my.trace:1:", "this group has 3"),
     traced("fault L2 line 1", "A 40:00:00:00\n", "my.trace:1:5", "without `:`"),

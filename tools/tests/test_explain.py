@@ -41,11 +41,17 @@ WORDS = [
     (["run", "my.toml", "my.trace", "my.trace"], "fault words", ["two words", "play CONFIG TRACE..."]),
     (["check", "my.toml", "my.trace"], "fault words", ["one word", "run CONFIG TRACE"]),
     (["chekc", "my.toml"], "fault words", ["no word `chekc`", "check CONFIG"]),
-    (["--", "my.toml", "my.trace"], "fault words", ["is no first word", "run my.toml TRACE"]),
+    (["--", "my.toml", "my.trace"], "fault words", ["is no first word", "write `run my.toml my.trace`"]),
+    (["--", "my.toml"], "fault words", ["is no first word", "write `check my.toml`"]),
+    (["--", "new.toml", "new.trace"], "fault words", ["is no first word", "write `run new.toml new.trace`"]),
+    (["--", "--config", "my.toml"], "fault words", ["no word `--config`", "write `check my.toml`"]),
+    (["--", "-c", "my.toml", "my.trace"], "fault words", ["no word `-c`", "write `run my.toml my.trace`"]),
+    (["run", "--verbose", "my.toml", "my.trace"], "fault words", ["`run` has no options", "write `run my.toml my.trace`"]),
     (["check", "-v"], "fault words", ["begins with `-`", "check -- -v"]),
     (["play", "my.toml"], "fault words", ["TRACE is missing"]),
     (["live", "--octets"], "fault words", ["CONFIG is missing", "live --octets CONFIG"]),
-    (["live", "--octet", "my.toml"], "fault words", ["no option but `--octets`", "live -- --octet my.toml"]),
+    (["live", "--octet", "my.toml"], "fault words", ["no option but `--octets`", "write `live --octets my.toml`",
+                                                              "live -- --octet my.toml"]),
     (["--", "explode"], "fault words", ["no word `explode`"]),
     (["check", b"\xff.toml"], "fault words", ["isn't UTF-8"]),
 ]
@@ -452,6 +458,29 @@ class OddConfigs(ToolTest):
         for words in ("ok 2\n", "my.toml:20:8", "the networks 0, 1 have one SSID, `lab`", "an SSID of its own"):
             self.assertIn(words, found)
         self.assertEqual(self.explained(CONFIG), "ok 2")
+
+    def test_names_that_end_with_a_blank(self):
+        """A blank at an end of a name is a part of it, and nobody sees it."""
+        for name, says in (("lab ", "ends with a blank"), ("\u00a0lab", "begins with a blank")):
+            found = self.explained(CONFIG.replace('"lab"', f'"{name}"'))
+            for words in ("my.toml:8:8", f"the SSID of the network 0 {says}", 'write `ssid = "lab"`'):
+                self.assertIn(words, found)
+
+    def test_channel_14(self):
+        """It is there in Japan alone."""
+        found = self.explained(CONFIG.replace("channel = 6", "channel = 14"))
+        for words in ("my.toml:2:11", "in Japan alone", "`channel = 6`"):
+            self.assertIn(words, found)
+
+    def test_beacon_intervals_that_no_station_expects(self):
+        """Beacons that fill the air, or that come too seldom to be found."""
+        for interval, says in (("1", "a beacon each 1.024 ms: beacons fill the air"), ("14", "14.34 ms"),
+                               ("5000", "a beacon each 5,120 ms: stations that look")):
+            found = self.explained(CONFIG.replace("interval = 100", f"interval = {interval}"))
+            for words in ("my.toml:3:12", says, "`interval = 100`"):
+                self.assertIn(words, found)
+        for interval in ("15", "1000"):
+            self.assertEqual(self.explained(CONFIG.replace("interval = 100", f"interval = {interval}")), "ok 2")
 
     def test_networks_without_a_basic_rate(self):
         """Rates of which none is basic are shown, and what to write."""

@@ -243,6 +243,10 @@ def network_findings(config: Config) -> list[Finding]:
     if entry and len(entry.key) > 1:
         return [Finding("this makes `network` one table, and networks are an array of tables", config.place(entry),
                         f"write a line `[[network]]`, and below it `{'.'.join(entry.key[1:])}`")]
+    if entry and entry.value.kind == "text":
+        return [Finding("`network` is an array of tables, and this is a text; OpenWrt's `network` names the interface of a "
+                        "wire", config.place(entry.value), "leave this line out: the wire is named by `--wire` of "
+                        f"{called.fellow('live')}; a network begins with a line `[[network]]`")]
     if entry and entry.value.kind != "array":
         return [Finding(f"`network` is an array of tables, and this is {values.KINDS[entry.value.kind]}",
                         config.place(entry.value), "write a line `[[network]]`, and the network's keys below it")]
@@ -325,6 +329,9 @@ def rates_findings(config: Config, network: NetworkTable) -> list[Finding]:
         listed = entry.value.items if entry.value.kind == "array" else [entry.value]
         written = " ".join(str(item.worth).strip() for item in listed)
         meant_rates = values.rates_of_megabits(values.megabits_among(written))
+        numbers = [item.integer for item in listed if item.integer is not None]
+        if not meant_rates and len(numbers) == len(listed):
+            meant_rates = values.rates_of_octets(numbers)
         is_digits = entry.value.kind == "integer" and not values.rates_fault(written)
         return [wrong_kind(config, entry, "rates", "a text of hexadecimal digits, two for each rate in units of 500 "
                            "kb/s", f'"{written if is_digits else meant_rates or "82840b16"}"')]

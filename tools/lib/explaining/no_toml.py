@@ -8,7 +8,8 @@ import called
 from explaining import values
 from explaining.keys import (HOSTAPD, NETWORK_KEYS, NETWORK_LIMITS, OPTIONS, RADIO_KEYS, RADIO_LIMITS, SAMPLES,
                              TEXT_KEYS)
-from explaining.source import Finding, Place, Source, odd_blank, quoted
+from explaining.pasted import entity, foreign
+from explaining.source import Finding, Place, Source, odd_blank, plain_text, quoted
 from explaining.toml_scan import NoToml, scan
 from hostapd import line_for
 
@@ -107,7 +108,7 @@ def of_line(source: Source, fault: NoToml, wants_trace: bool) -> Finding:
     """Why the text stops being TOML in this line."""
     place = source.at(fault.begin, fault.end)
     line = source.line(place.line)
-    finding = of_trace(source, place, line, wants_trace)
+    finding = foreign(source, place.line) or of_trace(source, place, line, wants_trace) or of_entity(place, line)
     if finding:
         return finding
     by_expected = {"`=` after a key": of_key, "a key": of_key, "a value": of_value, "the line's end": of_rest,
@@ -129,6 +130,13 @@ def of_line(source: Source, fault: NoToml, wants_trace: bool) -> Finding:
                        else f"{fault.expected} is missing", place,
                        "write `[[network]]`" if "network" in line else None)
     return Finding(f"expected: {fault.expected}", place)
+
+
+def of_entity(place: Place, line: str) -> Finding | None:
+    """A line that was copied out of the source of a page."""
+    meant = entity(line)
+    return None if meant is None else Finding("this line was copied out of a page of HTML, which writes `&quot;` for `\"`",
+                                              place, f"write `{meant.strip()}`")
 
 
 def of_trace(source: Source, place: Place, line: str, wants_trace: bool) -> Finding | None:
@@ -159,7 +167,7 @@ def of_key(place: Place, line: str, fault: NoToml, source: Source) -> Finding:
     words = WORD.match(text)
     if words and re.match(r"\s*:", text[words.end():]):
         return Finding("`:` stands where TOML has `=`", place,
-                       f"write `{words[0]} = {text[words.end():].lstrip(': ').rstrip(',')}`")
+                       f"write `{words[0]} = {text[words.end():].lstrip(':= ').rstrip(',')}`")
     if words and words[0] in RADIO_KEYS + NETWORK_KEYS:
         rest = text[words.end():].strip()
         if not rest:
@@ -186,6 +194,8 @@ def of_value(place: Place, line: str, fault: NoToml, source: Source) -> Finding:
     if QUOTES.search(text):
         plain = QUOTES.sub('"', text)
         return Finding("these quotes are of print, and TOML's are `\"` and `'`", place, f"write `{name} = {plain}`")
+    if re.fullmatch(r"[^;]+;\s*", text):
+        return Finding("a line ends without `;`", place, f"write `{name} = {text.rstrip('; ')}`")
     remark = re.search(r"\s*(?:;|//|--).*", text)
     if remark and remark.start() > 0:
         return with_more(place, text[:remark.start()], text[remark.start():].strip(), name)
@@ -208,6 +218,9 @@ def of_value(place: Place, line: str, fault: NoToml, source: Source) -> Finding:
 
 def of_number(place: Place, text: str, name: str) -> Finding:
     """What should be a number and is none."""
+    if plain_text(text) != text:
+        return Finding(f"{quoted(text)} has characters that look like digits and are others", place,
+                       f"write `{name} = {plain_text(text)}`")
     if re.fullmatch(r"[+-]?0\d+", text):
         return Finding("a number doesn't begin with a zero", place, f"write `{name} = {int(text)}`")
     if re.fullmatch(r"[+-]?\d+", text):
@@ -265,6 +278,13 @@ def of_key_twice(place: Place, line: str, fault: NoToml, source: Source) -> Find
 
 def of_table_twice(place: Place, line: str, fault: NoToml, source: Source) -> Finding:
     """A table that is there already."""
+    value = re.compile(rf"^[ \t]*{re.escape(fault.key)}\s*=.*", re.MULTILINE).search(source.text)
+    if value and value.start() < fault.begin:
+        number = source.text.count("\n", 0, value.start()) + 1
+        return Finding(f"`{fault.key}` has a value here, so it can't be an array of tables in line "
+                       f"{place.line + source.first - 1}; in OpenWrt that key names the interface of a wire",
+                       source.place(number, 1, len(value[0])), "leave that line out: the wire is named by `--wire` of "
+                       f"{called.fellow('live')}")
     earlier = re.compile(rf"^[ \t]*\[{{1,2}}\s*{re.escape(fault.key)}\s*\]", re.MULTILINE).search(source.text)
     line_text = ""
     if earlier and earlier.start() < fault.begin:

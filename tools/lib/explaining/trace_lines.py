@@ -6,12 +6,13 @@ import called
 from explaining import values
 from explaining.answers import Fault
 from explaining.no_toml import MAGICS, REPORT_LINE, UTF_16
-from explaining.source import Finding, Source, odd_blank, quoted
+from explaining.pasted import foreign, foreign_to_trace
+from explaining.source import Finding, Place, Source, odd_blank, plain_letter, quoted
 
 MOST_OCTETS, MOST_LINES, MOST_NAMED = 4096, 1_000_000, 4
-HEX_DUMP = re.compile(r"(?:0x)?[0-9A-Fa-f]{4,8}:? +(?:(?:[0-9A-Fa-f]{2}|[0-9A-Fa-f]{4})(?: +|$)){4,}")
 BETWEEN_DIGITS, MOST_AROUND = ":-,.;|", 20
 DIGITS = re.compile("[0-9A-Fa-f]{12,}")
+BEFORE_FRAME = re.compile("A +([0-9A-Fa-f]{2}(?::[0-9A-Fa-f]{2}){5}) +(?=[0-9A-Fa-f])")
 
 
 def explain(source: Source, fault: Fault, bssids: list[str], is_live: bool = False) -> list[Finding]:
@@ -28,6 +29,9 @@ def explain(source: Source, fault: Fault, bssids: list[str], is_live: bool = Fal
         return []
     line = source.lines[number - 1]
     line = (line.removesuffix("\r") if number < len(source.lines) else line).rstrip(" ")
+    strange = foreign(source, number) or (foreign_to_trace(source, number) if fault.code == "L1" else None)
+    if strange:
+        return [strange]
     odd = odd_blank(source, number)
     if odd and fault.code in ("L1", "L2", "L3", "L4"):
         return [odd]
@@ -109,10 +113,6 @@ def of_other_text(source: Source, number: int, line: str) -> Finding | None:
     if re.match(r"[a-z_]+ *= *\S|\[\[?network", line):
         return Finding("this is a line of a configuration, and no trace", place,
                        "a configuration stands before the line `---`, or in a file of its own: `run CONFIG TRACE`")
-    if HEX_DUMP.match(line):
-        return Finding("this is a line of a hex dump, and a trace has one line for each frame", place,
-                       f"{called.fellow('trace-from-capture')} makes a trace of a capture; else write `A` and the "
-                       "frame's digits")
     if re.fullmatch(r"[0-9A-Fa-f ]{8,}", line):
         return Finding("a line begins with its word: `A` for a frame on the air, `W` for one on the wire", place,
                        f"write {quoted('A ' + line)}")
@@ -134,6 +134,11 @@ def of_digits(source: Source, number: int, line: str, bssids: list[str]) -> Find
     stray = re.search("[^0-9A-Fa-f ]", digits)
     if stray is None:
         return of_odd_digits(source, number, line, begin)
+    named = BEFORE_FRAME.match(line)
+    if named:
+        return Finding("behind `A` the frame follows at once: an address stands there in what `live` answers, and behind "
+                       "`W`", source.place(number, named.start(1) + 1, len(named[1])),
+                       f"write {quoted(f'A {line[named.end():].strip()}')}")
     at = begin + stray.start()
     place = source.place(number, at + 1)
     letter = stray[0]
@@ -150,9 +155,19 @@ def of_digits(source: Source, number: int, line: str, bssids: list[str]) -> Find
     if letter == "\t":
         return Finding("a TAB among the digits; spaces alone may stand there", place, "write a space")
     if letter == "\r":
-        return Finding("a CR that isn't the last character before LF", place, "`sed 's/\\r*$//'` takes the CRs off")
-    like = {"O": "0", "o": "0", "l": "1", "I": "1"}.get(letter)
+        return of_return(source, number, line, place)
+    like = {"O": "0", "o": "0", "l": "1", "I": "1"}.get(letter) or plain_letter(letter)
     return Finding(f"{quoted(letter)} is no hexadecimal digit", place, f"write {like}" if like else None)
+
+
+def of_return(source: Source, number: int, line: str, place: Place) -> Finding:
+    """A CR behind a frame."""
+    if line.rstrip("\r").count("\r"):
+        return with_returns(source, number, line)
+    if number == len(source.lines):
+        return Finding("the last line ends with CR, and no LF follows: a CR is dropped before an LF alone", place,
+                       "`sed 's/\\r*$//'` takes the CRs off")
+    return Finding("a line ends with at most one CR", place, "`sed 's/\\r*$//'` takes the CRs off")
 
 
 def word_around(text: str, at: int) -> str:

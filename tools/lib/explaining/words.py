@@ -1,6 +1,7 @@
 """What a fault of the program's words, files, memory or streams comes of."""
 import difflib
 import os
+import shlex
 import stat
 from collections.abc import Callable
 
@@ -43,12 +44,24 @@ def of_words(fault: Fault, words: list[str]) -> list[Finding]:
     if close:
         return [Finding(f"the program has no word {quoted(first)}", None, f"write `{SUBCOMMANDS[close[0]]}`")]
     if first.startswith("-"):
-        return [Finding(f"the program has no word {quoted(first)}", None, f"its words are {FORMS}")]
-    if os.path.exists(first):
-        form = f"run {first} TRACE" if rest else f"check {first}"
-        return [Finding(f"a file's name, {quoted(first)}, is no first word", None,
-                        f"write `{form}`, or `{called.program()} < {first}` where it is a configuration and a trace")]
+        files = [word for word in rest if not word.startswith("-")]
+        more = f"write `{form_for(files)}`; " if files else ""
+        return [Finding(f"the program has no word {quoted(first)}, and no options", None, f"{more}its words are {FORMS}")]
+    if is_like_file(first):
+        return [Finding(f"a file's name, {quoted(first)}, is no first word", None, f"write `{form_for(words)}`, or "
+                        f"`{called.program()} < {first}` where it is a configuration and a trace")]
     return [Finding(f"the program has no word {quoted(first)}", None, f"its words are {FORMS}")]
+
+
+def is_like_file(word: str) -> bool:
+    """Whether a word names a file, or is written as a file's name."""
+    return os.path.exists(word) or bool(os.path.splitext(word)[1]) or "/" in word
+
+
+def form_for(files: list[str]) -> str:
+    """The program's words for these files."""
+    command = {1: "check", 2: "run"}.get(len(files), "play")
+    return f"{command} {shlex.join(files)}"
 
 
 def utf8_of(word: str) -> bytes | None:
@@ -68,8 +81,12 @@ def of_subcommand(first: str, rest: list[str]) -> Finding:
     if dashed and "--" not in rest:
         more = " ".join(rest)
         options = f"no option but `{OCTETS}` before CONFIG" if first == "live" else "no options"
+        others = [word for word in rest if word != dashed]
+        is_octets = first == "live" and difflib.SequenceMatcher(None, dashed, OCTETS).ratio() > LIKE
+        meant = [first] + [OCTETS] * is_octets + others
+        write = f"write `{shlex.join(meant)}`; " if others else ""
         return Finding(f"{quoted(dashed)} begins with `-`, and `{first}` has {options}", None,
-                       f"for a file of this name write `{first} -- {more}`")
+                       f"{write}for a file of this name write `{first} -- {more}`")
     least = {"check": 1, "run": 2, "play": 2, "live": 1}[first]
     count = len([word for word in rest if word != "--"])
     if count < least:
