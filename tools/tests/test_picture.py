@@ -12,7 +12,7 @@ from PIL import Image, ImageFont
 from common import (CASES, DEVICES, GUEST, OFFICE, PROGRAM, ROOT, THREE, ToolTest, heard, input_of, needs_program,
                     report_of, run_program, tool, with_report)
 from drawing.columns import Clock
-from drawing.fields import fields_on_air, fields_on_wire
+from fields import fields_on_air, fields_on_wire
 from drawing.overview import stretches_of
 from story import stories
 from texts import Line, Origin, read_config, read_report, read_text, read_trace

@@ -2,7 +2,7 @@
 the trace that it is of, and the frames that came and went with them, field by field."""
 import json
 
-from drawing.fields import fields_on_air, fields_on_wire, kind_of
+from fields import fields_on_air, fields_on_wire, kind_of
 
 PAGE = """<!DOCTYPE html>
 <html lang="en"><head><meta charset="utf-8">

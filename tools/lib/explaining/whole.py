@@ -18,7 +18,7 @@ NOTHING_FOUND = f"no reason was found: {called.document('FAULTS.md')} says of ea
 @dataclass
 class Texts:
     """What the program was given: its words, a configuration and traces; None for what can't be read. `records` is what
-    `live --octets` reads, None elsewhere."""
+    `live --octets` reads, None elsewhere. `program` answers the lines once more, where it may be asked."""
 
     words: list[str]
     config: Source | None = None
@@ -26,6 +26,7 @@ class Texts:
     is_joined: bool = False
     has_separator: bool = True
     records: bytes | None = None
+    program: str | None = None
 
 
 def split_joined(octets: bytes) -> tuple[bytes, bytes | None, int]:
