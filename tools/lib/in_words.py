@@ -17,6 +17,11 @@ def address_word(octets: bytes) -> str:
     return "all" if octets == BROADCAST else address_text(octets)
 
 
+def octets_text(count: int) -> str:
+    """So many octets."""
+    return "1 octet" if count == 1 else f"{count:,} octets"
+
+
 def name_text(ssid: bytes | None) -> str:
     """What a request says of a network's name."""
     if ssid is None:

@@ -103,7 +103,7 @@ class LineByLine(ToolTest):
     @needs_program
     def test_more_than_is_looked_at(self):
         """Where the answers are too many, the first of them are shown, and how many lines aren't."""
-        most, line_by_line.MOST_OCTETS = line_by_line.MOST_OCTETS, 3000
+        most, line_by_line.MOST_OCTETS = line_by_line.MOST_OCTETS, 1000
         self.addCleanup(setattr, line_by_line, "MOST_OCTETS", most)
         text, lines = input_of(CASES["first_trace"])
         found = list(steps(PROGRAM, text.split(f"\n{SEPARATOR}\n")[0].encode(), lines))

@@ -71,6 +71,16 @@ def keys_of(entries: list[Entry]) -> dict[str, Entry]:
     return {entry.key[0]: entry for entry in entries}
 
 
+def networks_of(config: Source) -> dict[bytes, NetworkTable]:
+    """The tables of a configuration by their addresses."""
+    try:
+        networks = Config(config).networks
+        return {bytes.fromhex(str(network.entries["bssid"].value.worth).replace(":", "")): network
+                for network in networks}
+    except (NoToml, KeyError, ValueError, RecursionError):
+        return {}
+
+
 def number_of(entry: Entry | None) -> int | None:
     """The whole number that a key has, where it has one."""
     return entry.value.integer if entry else None

@@ -7,7 +7,6 @@ from explaining.repairs import repaired
 from frames import Frame, address_text
 from in_words import address_word
 
-MOST_DIFFERENT = 2  # digits
 
 
 def unheard(octets: bytes, networks: dict[bytes, str]) -> Reason | None:
@@ -31,13 +30,14 @@ def unheard(octets: bytes, networks: dict[bytes, str]) -> Reason | None:
 
 
 def nearest(address: bytes, others: Iterable[bytes]) -> bytes | None:
-    """The address that differs in the fewest digits, and in a few only, or has the same octets the other way round."""
-    found = [(differing(address, other), other) for other in others if other != address]
-    turned = next((other for _, other in found if other == address[::-1]), None)
-    least = min(found, default=(MOST_DIFFERENT + 1, b""))
-    return turned or (least[1] if least[0] <= MOST_DIFFERENT else None)
+    """The address that differs in one digit, or has two digits swapped, or its octets the other way round."""
+    return next((other for other in others if other != address and
+                 (other == address[::-1] or is_slip(address.hex(), other.hex()))), None)
 
 
-def differing(one: bytes, other: bytes) -> int:
-    """In how many digits two addresses differ."""
-    return sum(mine != theirs for mine, theirs in zip(one.hex(), other.hex()))
+def is_slip(one: str, other: str) -> bool:
+    """Whether two strings of digits differ in one digit, or in two that stand side by side and are swapped."""
+    places = [place for place, (mine, theirs) in enumerate(zip(one, other)) if mine != theirs]
+    if len(places) == 2 and places[1] == places[0] + 1:
+        return one[places[0]:places[1] + 1] == other[places[0]:places[1] + 1][::-1]
+    return len(places) == 1

@@ -5,6 +5,7 @@ from dataclasses import dataclass, field
 import called
 from explaining import config, no_toml, octet_records, odd_config, runs, trace_lines, words
 from explaining.answers import Answer, Fault, read_fault
+from explaining.line_by_line import Unanswered
 from explaining.source import Finding, Source
 from explaining.toml_scan import NoToml
 from texts import TextError
@@ -136,8 +137,8 @@ def odd_in(texts: Texts, output: str) -> list[Finding]:
     if texts.config is None or len(traces) < len(texts.traces):
         return [Finding("a text of this run can't be read a second time, so what is odd in it wasn't looked for")]
     try:
-        odd = runs.odd(texts.config, traces, output, texts.has_separator)
-    except TextError as fault:
+        odd = runs.odd(texts.config, traces, output, texts.has_separator, texts.program)
+    except (TextError, Unanswered) as fault:
         return [Finding(f"what is odd in this run wasn't looked for: {fault}")]
     return odd or [Finding("nothing odd was found in this run")]
 
