@@ -23,6 +23,12 @@ body {{ margin: 0; font: 14px "DejaVu Sans", Verdana, sans-serif; color: #222; d
   #told {{ flex: 2; height: auto; min-height: 0; min-width: 0; border-left: none; border-top: 1px solid #c9ced6; }}
 }}
 #ask {{ width: 100%; box-sizing: border-box; font: inherit; margin-top: 12px; padding: 4px; }}
+@media (prefers-color-scheme: dark) {{
+  :root {{ color-scheme: dark; }}
+  body {{ background: #15181d; color: #e4e6ea; }}
+  #told, #told td {{ border-color: #3c434d; }}
+  #told h3 {{ color: #9aa0a8; }}
+}}
 g[data-lines], g[data-span] {{ cursor: pointer; }}
 g.asked > circle, g.asked > rect, g.asked > path {{ stroke: #c8202d; stroke-width: 3; }}
 </style></head><body><div id="picture">{picture}</div><div id="told">
