@@ -40,7 +40,8 @@ def ssid_text(ssid: bytes) -> str:
 
 def kind_text(octets: bytes) -> str:
     """What a frame on the air is called, with `a` or `an`."""
-    kind = kind_of(octets) + " frame" * (len(octets) > 1 and Frame(octets).type == DATA)
+    kind = kind_of(octets)
+    kind += " frame" * (len(octets) > 1 and Frame(octets).type == DATA and not kind.startswith("frame"))
     return f"{'an' if kind[0] in 'aeioAR' else 'a'} {kind}"
 
 

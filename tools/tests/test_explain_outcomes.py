@@ -107,6 +107,9 @@ CASES = [
     ([probe("attic ")], ["no network is called `attic `; `attic` is the same but for blanks"]),
     ([probe("attik")], ["no network is called `attik`; `attic` is"]),
     ([probe("garden")], ["no network is called `garden`; there are `attic`, `cellar`"]),
+    ([probe("6174746963")], ["these are the digits of `attic`, written as letters once more", "`00056174746963`"]),
+    ([null(), wire(), f"A a400 0000 {ATTIC} {STATION} {ATTIC} 0000"], ["my.trace:7:8", "the identifier 0, and the station has 1: "
+                                                                      "it stands where other frames have Duration"]),
     ([probe("x" * 33)], ["its SSID has 33 octets"]),
     ([probe("cellar", ATTIC)], ["it names `cellar`, the network 02:00:00:00:00:02, and is to 02:00:00:00:00:01, `attic`"]),
     ([f"A 4000 0000 ffffffffffff {STATION} ffffffffffff 0000 {RATES}"], ["it has no SSID element"]),
@@ -126,6 +129,19 @@ CASES = [
     ([f"A b000 0000 {STATION} {ATTIC} {ATTIC} 0000 0000 0200 0000"], ["no network takes it: it is to 02:aa:00:00:00:01 and "
                                                                       "from attic"]),
     ([wire(rest="0008 05")], ["my.trace:5:47", "attic can't read it (U7): `0008` is the type", "write `0800`"]),
+    ([f"A b000 0000 0200000001 {STATION} {ATTIC} 0000 0000 0100 0000"], ["no network takes it: Address 1 has 5 octets",
+                                                                         f"write `{ATTIC}`"]),
+    ([f"A b000 0000 {ATTIC} 02aa000001 {ATTIC} 0000 0000 0100 0000"], ["Address 2 has 5 octets, and an address has six"]),
+    ([managed("0000", f"0a00 00056174746963 {RATES}")], ["two octets are missing before the elements", "`0100 0a00`"]),
+    ([managed("2000", f"0100 0a00 00056174746963 {RATES}")], ["Current AP Address 6", "here the address is missing"]),
+    ([managed("c000")], ["the body of a deauthentication has at least 2 octets (Reason Code 2), and here 0"]),
+    ([managed("1000", f"0100 0a00 00056174746963 {RATES}")], ["an association response, which access points send"]),
+    ([f"A 5801 0000 {ATTIC} {STATION} {ATTIC} 0000"], ["a frame of type 2, subtype 5, and that kind", "docs/FIRST_TRACE.md"]),
+    ([data(station="ffffffffffff", to=STATION)], ["Address 2 is the group address all", f"`{STATION}`, then `ffffffffffff`"]),
+    # frames of a wire that are passed on, and say something else than was meant
+    ([wire(rest="aaaa030000000800 01")], ["my.trace:5:1", "LLC and SNAP (`aaaa03000000`) stand where the type does"]),
+    ([wire(rest="0608 01")], ["a type with its octets the wrong way round stands where the type does"]),
+    ([wire(rest="4500 0014")], ["an IPv4 packet (`4500`) stands where the type does in 1 frame"]),
     # requests that were refused, and notices
     ([auth(THIRD, body="0100 0100 0000")], ["my.trace:5:57", "attic: an authentication is refused with status 13, of "
                                             "02:aa:00:00:00:03: its algorithm is 1 (Shared Key)"]),
@@ -141,6 +157,9 @@ CASES = [
                                                                                 "02:aa:00:00:00:07: `max_stations = 2`"]),
     ([data(station=OTHER)], ["my.trace:5:26", "attic: a frame is answered by a deauthentication, reason 7, of "
                              "02:aa:00:00:00:11", "is a station of cellar"]),
+    ([data(station=HOST, to=STATION)], ["Address 3, 02:aa:00:00:00:01, is one that is associated: the sender comes first",
+                                        f"write `{STATION} {HOST}`"]),
+    ([join(name="attic\0")], ["with status 1", "the octets 617474696300; `attic` is the same but for blanks or zeros"]),
     ([join("02cc00000001")], ["reason 6, of 02:cc:00:00:00:01: the station is unknown: it joined before the trace begins"]),
     ([auth(), data()], ["a disassociation, reason 7, of 02:aa:00:00:00:01: the station isn't associated: it authenticated "
                         "again in line 5"]),

@@ -148,6 +148,9 @@ def number_findings(config: Config, entries: dict[str, Entry], key: str, limits:
     if number is None:
         digits = str(value.worth).strip() if value.kind in ("text", "number") else ""
         digits = digits.removesuffix(".0")
+        if key == "channel" and digits.lower() in ("auto", "acs", "acs_survey"):
+            return [Finding("no channel is chosen by itself: `channel` is a number of 1 to 14", config.place(value),
+                            "`iw dev wlan0 scan` shows which are in use; write one of 1, 6 or 11, as `channel = 6`")]
         is_number = digits.isascii() and digits.isdigit() and least <= int(digits) <= most
         return [wrong_kind(config, entry, key, f"a whole number of {least} to {most}",
                            str(int(digits)) if is_number else SAMPLES[key])]
@@ -342,6 +345,9 @@ def rates_findings(config: Config, network: NetworkTable) -> list[Finding]:
         numbers = [item.integer for item in listed if item.integer is not None]
         if not meant_rates and len(numbers) == len(listed):
             meant_rates = values.rates_of_octets(numbers)
+        digits = "".join(str(item.text) for item in listed)
+        if not meant_rates and digits and values.rates_fault(digits) is None:
+            meant_rates = digits
         is_digits = entry.value.kind == "integer" and not values.rates_fault(written)
         return [wrong_kind(config, entry, "rates", "a text of hexadecimal digits, two for each rate in units of 500 "
                            "kb/s", f'"{written if is_digits else meant_rates or "82840b16"}"')]

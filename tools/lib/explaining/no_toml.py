@@ -26,6 +26,9 @@ TRUTHS = {"yes": "true", "on": "true", "y": "true", "true": "true", "no": "false
 QUOTES = re.compile("[\u2018-\u201f\u00ab\u00bb\u2039\u203a`\u00b4]")
 REMARK = re.compile(r"\s*(?:;|//|--|/\*|!|%|REM\b)")
 WORD = re.compile(r"[A-Za-z_][A-Za-z0-9_-]*")
+WORD_BEFORE_KEY = re.compile(r"(export|set|let|var|local|const|uci set)\s+([\w-]+)\s*=\s*(.+)")
+# What stands for a value in a template, or for a variable of a shell.
+UNFILLED = re.compile(r"\{\{.*|\$\{?\w+\}?|%\w+%|@\w+@|<[\w -]+>")
 
 
 def explain(source: Source, wants_trace: bool) -> list[Finding]:
@@ -108,7 +111,8 @@ def of_line(source: Source, fault: NoToml, wants_trace: bool) -> Finding:
     """Why the text stops being TOML in this line."""
     place = source.at(fault.begin, fault.end)
     line = source.line(place.line)
-    finding = foreign(source, place.line) or of_trace(source, place, line, wants_trace) or of_entity(place, line)
+    finding = foreign(source, place.line) or of_trace(source, place, line, wants_trace) or of_entity(place, line) or \
+        of_template(source, place.line)
     if finding:
         return finding
     by_expected = {"`=` after a key": of_key, "a key": of_key, "a value": of_value, "the line's end": of_rest,
@@ -139,6 +143,15 @@ def of_entity(place: Place, line: str) -> Finding | None:
                                               place, f"write `{meant.strip()}`")
 
 
+def of_template(source: Source, number: int) -> Finding | None:
+    """A key whose value is a place of a template, in braces, which TOML takes for a table."""
+    match = re.match(r"\s*([\w-]+)\s*=\s*(\{\{.*)", source.line(number))
+    return None if match is None else Finding(
+        f"{quoted(match[2])} stands for a value that nothing has put here: this text is a template",
+        source.place(number, match.start(2) + 1, len(match[2].rstrip())), f"write a value, as `{match[1]} = "
+        f"{SAMPLES.get(match[1], '..')}`")
+
+
 def of_trace(source: Source, place: Place, line: str, wants_trace: bool) -> Finding | None:
     """A line of a trace, or what was meant as the line between the parts."""
     where = source.place(place.line, 1, len(line) or 1)
@@ -165,6 +178,13 @@ def of_key(place: Place, line: str, fault: NoToml, source: Source) -> Finding:
     if REMARK.match(line):
         return Finding(f"{quoted(text, 12)}: a remark begins with `#`", place, f"write `# {text.lstrip(';/-*!% ')}`")
     words = WORD.match(text)
+    behind = WORD_BEFORE_KEY.match(text)
+    if behind and behind[2] in RADIO_KEYS + NETWORK_KEYS + OPTIONS:
+        return Finding(f"`{behind[1]}` stands before the key, and a line begins with its key", place,
+                       f"write `{behind[2]} = {behind[3]}`")
+    if is_yaml(source, place.line):
+        return Finding("this is YAML, and a configuration is TOML", place, "write `channel = 6`, a line for each key, and a "
+                       "line `[[network]]` before the keys of each network")
     if words and re.match(r"\s*:", text[words.end():]):
         return Finding("`:` stands where TOML has `=`", place,
                        f"write `{words[0]} = {text[words.end():].lstrip(':= ').rstrip(',')}`")
@@ -182,6 +202,12 @@ def of_key(place: Place, line: str, fault: NoToml, source: Source) -> Finding:
     return Finding("a line is a key, `=` and a value, or a table's header", place, "a remark begins with `#`")
 
 
+def is_yaml(source: Source, number: int) -> bool:
+    """Whether a line is a name and `:` alone, and what follows it is indented or begins with `-`."""
+    line, behind = source.line(number).rstrip(), source.line(number + 1)
+    return bool(re.fullmatch(r"\s*[\w-]+:", line) and re.match(r"\s+\S|- ", behind))
+
+
 def of_value(place: Place, line: str, fault: NoToml, source: Source) -> Finding:
     """A value that is none."""
     text, key = source.text[fault.begin:fault.end].strip(), fault.key
@@ -191,6 +217,11 @@ def of_value(place: Place, line: str, fault: NoToml, source: Source) -> Finding:
     name = key or "the key"
     if not text:
         return Finding(f"`{name}` has no value", place, f"write `{key} = {SAMPLES[key]}`" if key in SAMPLES else None)
+    if text.startswith("="):
+        return Finding("`=` stands twice", place, f"write `{name} = {text.lstrip('= ')}`")
+    if UNFILLED.search(text):
+        return Finding(f"{quoted(text)} stands for a value that nothing has put here: this text is a template", place,
+                       f"write a value, as `{name} = {SAMPLES[name]}`" if name in SAMPLES else None)
     if QUOTES.search(text):
         plain = QUOTES.sub('"', text)
         return Finding("these quotes are of print, and TOML's are `\"` and `'`", place, f"write `{name} = {plain}`")
@@ -258,6 +289,8 @@ def of_rest(place: Place, line: str, fault: NoToml, source: Source) -> Finding:
         return Finding(f"{quoted(text, 12)}: a remark begins with `#`", place, f"write `# {text.lstrip(';/-*!% ')}`")
     if re.match(r"[A-Za-z_]+\s*=", text):
         return Finding("two keys stand in one line", place, "write each in a line of its own")
+    if re.fullmatch(r"[,;]\s*", text):
+        return Finding(f"a line ends without `{text[0]}`", place, f"write `{line.rstrip(',; ')}`")
     if text.startswith("\r"):
         return Finding("a CR that isn't followed by LF ends no line", place, "`tr '\\r' '\\n'` writes line ends anew")
     return Finding(f"nothing stands after a value, and here {quoted(text)} does", place,

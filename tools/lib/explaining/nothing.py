@@ -110,7 +110,8 @@ def poll(looked: Looked, frame: Frame) -> Reason | None:
     own = (station.aid | 0xC000).to_bytes(2, "little").hex()
     if aid != station.aid:
         turned = int.from_bytes(frame.octets[2:4], "big") & IDENTIFIER == station.aid
-        why = ": its octets stand the wrong way round" if turned else ""
+        why = ": its octets stand the wrong way round" if turned else \
+            ": it stands where other frames have Duration" if aid == 0 else ""
         return Reason(f"the poll names the identifier {aid}, and the station has {station.aid}{why}", (2, 4),
                       f"write `{own}`")
     if not station.doze:

@@ -17,7 +17,7 @@ from explaining.source import Finding, Place, Source
 from explaining.spans import place_of_octets
 from explaining.unheard import unheard
 from explaining.unread import unread, wired_unread
-from frames import DEAUTHENTICATION, Frame, address_text
+from frames import DATA, DEAUTHENTICATION, Frame, address_text
 from reading import unread_kind, wired_unread_kind
 from texts import Line
 
@@ -176,4 +176,8 @@ def notice(refusal: Refusal, looked: Looked, station: bytes) -> Reason:
     state = "unknown" if refusal.kind == DEAUTHENTICATION else "authenticated"
     said = "the station is unknown" if state == "unknown" else "the station isn't associated"
     what = "it has to authenticate and associate before" if state == "unknown" else "it has to associate before"
+    frame = Frame(looked.step.line.octets)
+    if frame.type == DATA and frame.third in looked.associated():
+        return Reason(f"{said}; Address 3, {address_text(frame.third)}, is one that is associated: the sender comes first, "
+                      "then the destination", (10, 22), f"write `{frame.third.hex()} {station.hex()}`")
     return Reason(f"{said}: {looked.why_not_there(station, state)}", (10, 16), what)

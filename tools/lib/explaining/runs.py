@@ -15,7 +15,7 @@ from frames import (ASSOCIATION_REQUEST, ASSOCIATION_RESPONSE, AUTHENTICATION, B
                     DISASSOCIATION, HEADER_LEN, MANAGEMENT, REASSOCIATION_REQUEST, REASSOCIATION_RESPONSE, SSID,
                     Frame, address_text, elements, first_of, is_group, number)
 from progress import Progress
-from reading import hears, unread_kind, wired_unread_kind
+from reading import SNAP, hears, unread_kind, wired_unread_kind
 from texts import Line, Section, frames_text, read_report, trace_line
 
 MOST_NAMED = 3
@@ -145,7 +145,7 @@ def of_trace(lines: list[Line], hearings: list[Hearing], has_separator: bool, tr
                                 "without it", place_of(traces, front), f"{MAKES_TRACES} takes it off"))
     else:
         findings += of_receivers(frames, hearings, traces, told) + of_ethernet(frames, hearings, traces)
-    findings += of_check_sequences(lines, traces)
+    findings += of_check_sequences(lines, traces) + of_wired_types(lines, traces)
     if not any(line.kind == "T" for line in lines):
         findings.append(Finding("no line `T` begins a beacon interval: no beacon is sent, and units for the group that "
                                 "are kept stay so"))
@@ -210,6 +210,22 @@ def of_ethernet(frames: list[Line], hearings: list[Hearing], traces: list[Source
     return [Finding(f"{frames_text(len(wired))} behind `A`, for what was heard on the air, begin as Ethernet's do: "
                     "with two addresses and a type", place_of(traces, wired[0]),
                     f"a frame that came over the wire of a network stands behind `W` and its BSSID, as `W {bssid}`")]
+
+
+def of_wired_types(lines: list[Line], traces: list[Source]) -> list[Finding]:
+    """Frames of a wire with something else where their type stands, which are passed on all the same."""
+    parts = ((lambda octets: octets[12:18] == SNAP, "LLC and SNAP (`aaaa03000000`) stand", "on a wire the type follows the "
+              "addresses at once: leave them out"),
+             (lambda octets: octets[13:11:-1] in TYPES and octets[12:14] not in TYPES, "a type with its octets the wrong way "
+              "round stands", "IPv4 is `0800`, and ARP `0806`"),
+             (lambda octets: octets[12:14] == b"\x45\0", "an IPv4 packet (`4500`) stands", "write the type `0800` before it"))
+    findings = []
+    for is_it, what, advice in parts:
+        found = [line for line in lines if line.kind == "W" and is_it(line.octets)]
+        if found:
+            findings.append(Finding(f"{what} where the type does in {frames_text(len(found))} of a wire: these octets are "
+                                    "passed on as a type", place_of(traces, found[0]), advice))
+    return findings
 
 
 def of_check_sequences(lines: list[Line], traces: list[Source]) -> list[Finding]:

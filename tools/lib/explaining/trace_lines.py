@@ -12,6 +12,11 @@ from explaining.source import Finding, Place, Source, odd_blank, plain_letter, q
 MOST_OCTETS, MOST_LINES, MOST_NAMED = 4096, 1_000_000, 4
 BETWEEN_DIGITS, MOST_AROUND = ":-,.;|", 20
 DIGITS = re.compile("[0-9A-Fa-f]{12,}")
+OTHER_WORDS = {"A": "A", "AIR": "A", "RX": "A", "HEARD": "A", "W": "W", "WIRE": "W", "ETH": "W", "T": "T", "TICK": "T",
+               "TBTT": "T", "BEACON": "T"}
+BEFORE_WORD = re.compile(r"((?:[>+$|-] ?|[\d.,:TZ/-]*\d[\d.,:TZ/-]*[:,]? +))(?=[AW] +[0-9A-Fa-f]|T$)")
+ARRAY = re.compile(r"\s*\{?\s*(?:0x[0-9A-Fa-f]{1,2}\s*,?\s*)+\}?;?|(?:\\x[0-9A-Fa-f]{2})+")
+NO_QUOTES = str.maketrans("", "", "\"'`")
 BEFORE_FRAME = re.compile("A +([0-9A-Fa-f]{2}(?::[0-9A-Fa-f]{2}){5}) +(?=[0-9A-Fa-f])")
 
 
@@ -73,6 +78,15 @@ def of_word(source: Source, number: int, line: str, bssids: list[str]) -> Findin
     if "\t" in first:
         return Finding("words are separated by spaces, and this is a TAB", source.place(number, line.index("\t") + 1),
                        "write spaces instead")
+    behind = BEFORE_WORD.match(line)
+    if behind:
+        return Finding(f"{quoted(behind[1].strip())} stands before the word, and a line begins with its word",
+                       source.place(number, 1, len(behind[1].rstrip())), f"write {quoted(line[behind.end(1):])}; a remark has a "
+                       "line of its own, before")
+    if first.rstrip(":,").upper() in OTHER_WORDS and first.upper() not in OTHER_WORDS.values() and not REPORT_LINE.fullmatch(line):
+        word = OTHER_WORDS[first.rstrip(":,").upper()]
+        return Finding(f"{quoted(first)} is no word of a trace; `{word}` is: `A` for a frame on the air, `W` for one on a "
+                       "wire, `T` for a beacon interval", place, f"write {quoted((word + ' ' + rest.strip()).strip())}")
     if first == "I":
         return Finding("`I` asks `live` for its tables, and is no line of a trace", place, "leave it out")
     if first.upper() in ("A", "W", "T"):
@@ -85,6 +99,13 @@ def with_returns(source: Source, number: int, line: str) -> Finding:
     """A CR within a line."""
     return Finding("lines end with CR alone, and a trace's end with LF", source.place(number, line.index("\r") + 1),
                    "`tr '\\r' '\\n'` writes such a text anew")
+
+
+def of_array(source: Source, number: int, line: str) -> Finding:
+    """Octets as a program's array has them."""
+    digits = "".join(re.findall(r"(?:0x|\\x)([0-9A-Fa-f]{2})", line))
+    return Finding("these are octets as a program's source has them", source.place(number, 1, len(line)),
+                   f"write {quoted('A ' + digits)}, all of a frame in one line")
 
 
 def of_tick(source: Source, number: int, line: str) -> Finding:
@@ -108,6 +129,10 @@ def of_other_text(source: Source, number: int, line: str) -> Finding | None:
     if re.match(r";|//|--|!|%", line):
         return Finding("a remark begins with `#`", source.place(number, 1, 2),
                        f"write {quoted('# ' + line.strip(';/-!% '))}")
+    if ARRAY.fullmatch(line):
+        return of_array(source, number, line)
+    if re.match(r"```|~~~", line):
+        return Finding("this marks a piece of code in Markdown, and belongs to no trace", place, "leave the line out")
     if REPORT_LINE.fullmatch(line) or re.match(r"station [0-9a-f:]{17} |end$", line):
         return Finding("this is a line of a report, and no trace", place)
     if re.match(r"[a-z_]+ *= *\S|\[\[?network", line):
@@ -142,6 +167,11 @@ def of_digits(source: Source, number: int, line: str, bssids: list[str]) -> Find
     at = begin + stray.start()
     place = source.place(number, at + 1)
     letter = stray[0]
+    if digits.startswith(("...", "\u2026"), stray.start()):
+        return Finding("`...` stands for octets that were left out, and a line has all octets of its frame", source.place(
+            number, at + 1, 3 if letter == "." else 1), "write them there")
+    if letter in "\"'`":
+        return Finding("digits stand without quotes", place, f"write {quoted(line.translate(NO_QUOTES))}")
     if letter == "#":
         return Finding("a remark has a line of its own, and here one stands behind a frame", source.place(
             number, at + 1, len(line) - at), "move it to a line before this one")
@@ -201,6 +231,9 @@ def of_address(source: Source, number: int, line: str, bssids: list[str]) -> Fin
     fault = values.address_fault(word)
     if not fault:
         return None
+    if not re.search("[:.-]", word) and re.search("[^0-9A-Fa-f]", word):
+        return Finding(f"after `W` a network is named by its address, and {quoted(word)} is none",
+                       source.place(number, match.start(1) + 1, len(word)), having(bssids) if bssids else None)
     text, span, mended = fault
     some = bssids[0] if bssids else "02:00:00:00:00:01"
     place = source.place(number, match.start(1) + 1 + span[0], span[1] - span[0])

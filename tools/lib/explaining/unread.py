@@ -2,6 +2,7 @@
 frame breaks it, and what to write there."""
 from collections.abc import Callable
 
+import called
 from explaining.elements_cut import wrong_length
 from explaining.reason import Reason
 from explaining.repairs import repaired
@@ -48,7 +49,8 @@ def kind(bssid: bytes, octets: bytes) -> Reason:
     if frame.is_qos:
         return Reason(f"{said}, and the program has no QoS (WMM)", (0, 2),
                       "without QoS Data begins with `0801`, and Null with `4801`")
-    return Reason(f"{said}, and that kind isn't read", (0, 2))
+    return Reason(f"{said}, and that kind isn't read", (0, 2), f"{called.document('FIRST_TRACE.md')} has the two octets with "
+                  "which the frames begin that are read")
 
 
 def flags(_: bytes, octets: bytes) -> Reason:
@@ -79,8 +81,10 @@ def addresses(bssid: bytes, octets: bytes) -> Reason:
     if frame.transmitter == bssid:
         return Reason("Address 2 is the network's own: it sent this frame itself, and a trace has what it hears", (10, 16))
     if is_group(frame.transmitter):
+        is_turned = frame.type == DATA and not is_group(frame.third)
         return Reason(f"Address 2 is the group address {address_word(frame.transmitter)}, and the sender is one station",
-                      (10, 16))
+                      (10, 16), f"the sender comes first, then the destination: write `{frame.third.hex()}`, then "
+                      f"`{frame.transmitter.hex()}`" if is_turned else None)
     is_probe = frame.is_management(PROBE_REQUEST)
     if frame.receiver != bssid and not is_probe:
         return Reason(f"{kind_text(octets)} to all, and it has to be to the network", (4, 10),

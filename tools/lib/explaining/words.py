@@ -14,6 +14,11 @@ SUBCOMMANDS = {"check": "check CONFIG", "run": "run CONFIG TRACE", "play": "play
 FORMS = ("check CONFIG, run CONFIG TRACE, play CONFIG TRACE..., live CONFIG and live --octets CONFIG; without words it "
          "reads standard input")
 OCTETS = "--octets"
+# How many words follow each at least.
+LEAST = {"check": 1, "run": 2, "play": 2, "live": 1}
+# The options of the tool that starts the program on a radio.
+OF_BRIDGE = ("--phy", "--wire", "--wires", "--share", "--monitor", "--country", "--idle", "--record", "--tables", "--status",
+             "--bridge", "--json", "--watch")
 MOST_TRACES, MOST_FILES = 64, 4
 # How much a file's name has to be like the one that was given, for it to be meant: all of it, and what stands before its
 # ending.
@@ -42,11 +47,17 @@ def of_words(fault: Fault, words: list[str]) -> list[Finding]:
         return [of_subcommand(first, rest)]
     close = difflib.get_close_matches(first.lower(), list(SUBCOMMANDS), 1, 0.6)
     if close:
-        return [Finding(f"the program has no word {quoted(first)}", None, f"write `{SUBCOMMANDS[close[0]]}`")]
+        write = shlex.join([close[0], *rest]) if len(rest) >= LEAST[close[0]] else SUBCOMMANDS[close[0]]
+        return [Finding(f"the program has no word {quoted(first)}", None, f"write `{write}`")]
     if first.startswith("-"):
         files = [word for word in rest if not word.startswith("-")]
         more = f"write `{form_for(files)}`; " if files else ""
         return [Finding(f"the program has no word {quoted(first)}, and no options", None, f"{more}its words are {FORMS}")]
+    command = next((word for word in rest if word in SUBCOMMANDS), None)
+    if command is not None:
+        files = [word for word in words if word != command and not word.startswith("-")]
+        return [Finding(f"the command comes first, and here {quoted(first)} does", None,
+                        f"write `{shlex.join([command, *files])}`")]
     if is_like_file(first):
         return [Finding(f"a file's name, {quoted(first)}, is no first word", None, f"write `{form_for(words)}`, or "
                         f"`{called.program()} < {first}` where it is a configuration and a trace")]
@@ -81,17 +92,24 @@ def of_subcommand(first: str, rest: list[str]) -> Finding:
     if dashed and "--" not in rest:
         more = " ".join(rest)
         options = f"no option but `{OCTETS}` before CONFIG" if first == "live" else "no options"
-        others = [word for word in rest if word != dashed]
+        if first == "live" and dashed.partition("=")[0] in OF_BRIDGE:
+            return Finding(f"{quoted(dashed)} is an option of {called.fellow('live')}, which starts the program and the "
+                           "bridge", None, f"`{called.fellow('live')} --help` shows how it is used")
+        others = [word for word in rest if not word.startswith("-")]
         is_octets = first == "live" and difflib.SequenceMatcher(None, dashed, OCTETS).ratio() > LIKE
         meant = [first] + [OCTETS] * is_octets + others
-        write = f"write `{shlex.join(meant)}`; " if others else ""
+        write = f"write `{shlex.join(meant)}`; " if len(others) == LEAST[first] else ""
         return Finding(f"{quoted(dashed)} begins with `-`, and `{first}` has {options}", None,
                        f"{write}for a file of this name write `{first} -- {more}`")
-    least = {"check": 1, "run": 2, "play": 2, "live": 1}[first]
+    least = LEAST[first]
     count = len([word for word in rest if word != "--"])
     if count < least:
         what = "CONFIG" if count == 0 else "TRACE"
         return Finding(f"after `{first}` the word {what} is missing", None, f"write `{form}`")
+    if first == "live":
+        files = [word for word in rest if word != "--"]
+        return Finding("`live` reads its lines from standard input, and takes one word and no more", None,
+                       f"write `live {files[0]} < {files[1]}`")
     return Finding(f"`{first}` takes {'one word' if least == 1 else 'two words'} and no more, and there are {count}",
                    None, f"write `{form}`" + (", or `play CONFIG TRACE...` for several traces" if first == "run"
                                               else ", and `run CONFIG TRACE` for a trace" if first == "check" else ""))
