@@ -2,7 +2,8 @@
 from collections.abc import Callable
 
 from fields import REASONS, STATUSES, kind_of, type_name
-from frames import (ASSOCIATION_REQUEST, ASSOCIATION_RESPONSE, AUTHENTICATION, BEACON, BEACON_FIXED_LEN, BROADCAST, DATA,
+from frames import (ASSOCIATION_REQUEST, ASSOCIATION_RESPONSE, AUTHENTICATION, BEACON, BEACON_FIXED_LEN, BROADCAST,
+                    DATA,
                     DEAUTHENTICATION, DISASSOCIATION, MANAGEMENT, NULL, PROBE_REQUEST, REASSOCIATION_REQUEST,
                     REASSOCIATION_RESPONSE, SSID, TIM, Frame, address_text, elements, first_of, number, tim_bits)
 from reading import FIXED_LEN, LEAST_TYPE, is_poll

@@ -20,8 +20,8 @@ LEAVES = 3  # the reason of a station that leaves (9.4.1.7)
 
 @dataclass(frozen=True)
 class Wanted:
-    """What a frame is to say. `bssid` is Address 1, or the BSSID of a PS-Poll, `third` Address 3, and `rest` what follows
-    the header, where that is said by octets."""
+    """What a frame is to say. `bssid` is Address 1, or the BSSID of a PS-Poll, `third` Address 3, and `rest` what
+    follows the header, where that is said by octets."""
 
     kind: str
     station: bytes
@@ -81,7 +81,8 @@ def element(identifier: int, octets: bytes) -> bytes:
 
 
 def elements_of(ssid: bytes | None, rates: bytes) -> bytes:
-    """The elements of a request: a name where there is one, and rates, of which the first eight stand in one element."""
+    """The elements of a request: a name where there is one, and rates, of which the first eight stand in one
+    element."""
     more = rates[MOST_IN_ONE:]
     return (b"" if ssid is None else element(SSID, ssid)) + element(SUPPORTED_RATES, rates[:MOST_IN_ONE]) + \
         (element(EXTENDED_SUPPORTED_RATES, more) if more else b"")

@@ -19,7 +19,8 @@ SAID = {
          "02:aa:00:00:00:01 is authenticated"],
     20: ["an association request of 02:aa:00:00:00:01 for `lab`", "association response", "identifier 1",
          "is associated, identifier 1"],
-    21: ["a Data frame of 02:aa:00:00:00:01 to 02:bb:00:00:00:01, says that it is awake", "lab puts on its wire: a unit to",
+    21: ["a Data frame of 02:aa:00:00:00:01 to 02:bb:00:00:00:01, says that it is awake",
+         "lab puts on its wire: a unit to",
          "wire 02bb0000000102aa00000001080001"],
     22: ["a Null frame of 02:aa:00:00:00:01, says that it dozes", "lab: 02:aa:00:00:00:01 dozes"],
     23: ["a unit to 02:aa:00:00:00:01 from 02:bb:00:00:00:01, IPv4, came over the wire of lab",
@@ -50,10 +51,12 @@ class Changes(unittest.TestCase):
         none, known = self.section(), self.section(Station(address, None, 0, False, 0))
         joined, dozing = (self.section(Station(address, 3, 10, doze, 0)) for doze in (False, True))
         keeps = self.section(Station(address, 3, 10, True, 2), kept=3)
-        for before, after, said in ((none, known, ["is authenticated"]), (known, joined, ["is associated, identifier 3"]),
+        for before, after, said in ((none, known, ["is authenticated"]),
+                                    (known, joined, ["is associated, identifier 3"]),
                                     (joined, dozing, ["dozes"]), (dozing, joined, ["is awake"]),
                                     (joined, known, ["is authenticated only"]), (known, none, ["is unknown"]),
-                                    (dozing, keeps, ["units kept for 02:aa:00:00:00:01: 2", "units kept for the group: 1"]),
+                                    (dozing, keeps, ["units kept for 02:aa:00:00:00:01: 2",
+                                                     "units kept for the group: 1"]),
                                     (none, self.section(lost=2), ["units lost: 2"]), (none, none, [])):
             found = changes(before, after)
             self.assertEqual(len(found), len(said), found)
@@ -148,8 +151,10 @@ class Shown(ToolTest):
         status, stdout, _ = tool("explain", "--lines", config, trace)
         self.assertEqual((status, stdout.split("\n")[0]), (1, "fault L2 line 2"))
         self.write(CONFIG, "T\n")
-        self.refused("explain", "--lines", "play", config, trace, trace, says="--lines takes a configuration and one trace")
+        self.refused("explain", "--lines", "play", config, trace, trace, says="--lines takes a configuration and one "
+                     "trace")
         self.refused("explain", "--lines", "check", config, says="--lines takes a configuration and one trace")
-        done = subprocess.run([os.path.join(ROOT, "tools", "explain"), "--lines", "--said", "fault C1", "check", config],
+        done = subprocess.run([os.path.join(ROOT, "tools", "explain"), "--lines", "--said", "fault C1", "check",
+                               config],
                               capture_output=True, text=True, check=False)
         self.assertEqual((done.returncode, done.stdout), (2, ""))

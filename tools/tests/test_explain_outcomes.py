@@ -85,11 +85,13 @@ def wire(to=STATION, source=HOST, bssid=ATTICS, rest="0800 05"):
 JOINED = [auth(), join(), auth(OTHER, CELLAR), join(OTHER, CELLAR, "cellar")]
 CASES = [
     # lines that did nothing
-    ([wire("02aa00000099")], ["my.trace:5:21", "it changes nothing in attic", "02:aa:00:00:00:99", "02:aa:00:00:00:01 is"]),
+    ([wire("02aa00000099")], ["my.trace:5:21", "it changes nothing in attic", "02:aa:00:00:00:99",
+                              "02:aa:00:00:00:01 is"]),
     ([wire("02aa00000010")], ["no station of attic that is associated; 02:aa:00:00:00:01 is, and", "`02aa00000001`"]),
     ([wire("02aa00000010"[:-2] + "02")], ["nearly the same", "write `02aa00000001`"]),
     ([wire(OTHER)], ["is a station of cellar", f"`W {CELLARS}`"]),
-    ([wire(HOST, STATION)], ["its source 02:aa:00:00:00:01 is one", "begins with its destination", f"`{STATION} {HOST}`"]),
+    ([wire(HOST, STATION)], ["its source 02:aa:00:00:00:01 is one", "begins with its destination",
+                             f"`{STATION} {HOST}`"]),
     ([auth(), wire()], ["my.trace:6:21", "it authenticated again in line 5"]),
     ([managed("c000", "0300"), wire()], ["my.trace:6:21", "it left in line 5, by a deauthentication"]),
     ([managed("a000", "0300"), wire()], ["my.trace:6:21", "it left in line 5, by a disassociation"]),
@@ -102,42 +104,47 @@ CASES = [
     ([null(), poll()], ["my.trace:6:8", "no unit is kept for the station"]),
     ([null(), null()], ["my.trace:6:5", "says that it dozes, and it dozed before", "`4801`"]),
     ([null("4801")], ["my.trace:5:5", "is awake, and it was awake before", "`4811`"]),
-    ([probe("Attic")], ["my.trace:5:57", "in any of 2 networks: no network is called `Attic`; `attic` is the same but for "
-                        "capital letters", "write `00056174746963`"]),
+    ([probe("Attic")], ["my.trace:5:57", "in any of 2 networks: no network is called `Attic`; `attic` is the same but "
+                        "for capital letters", "write `00056174746963`"]),
     ([probe("attic ")], ["no network is called `attic `; `attic` is the same but for blanks"]),
     ([probe("attik")], ["no network is called `attik`; `attic` is"]),
     ([probe("garden")], ["no network is called `garden`; there are `attic`, `cellar`"]),
     ([probe("6174746963")], ["these are the digits of `attic`, written as letters once more", "`00056174746963`"]),
-    ([null(), wire(), f"A a400 0000 {ATTIC} {STATION} {ATTIC} 0000"], ["my.trace:7:8", "the identifier 0, and the station has 1: "
+    ([null(), wire(), f"A a400 0000 {ATTIC} {STATION} {ATTIC} 0000"], ["my.trace:7:8",
+                                                                       "the identifier 0, and the station has 1: "
                                                                       "it stands where other frames have Duration"]),
     ([probe("x" * 33)], ["its SSID has 33 octets"]),
-    ([probe("cellar", ATTIC)], ["it names `cellar`, the network 02:00:00:00:00:02, and is to 02:00:00:00:00:01, `attic`"]),
+    ([probe("cellar", ATTIC)], ["it names `cellar`, the network 02:00:00:00:00:02, and is to 02:00:00:00:00:01"]),
     ([f"A 4000 0000 ffffffffffff {STATION} ffffffffffff 0000 {RATES}"], ["it has no SSID element"]),
     ([managed("c000", "0300", THIRD)], ["my.trace:5:26", "02:aa:00:00:00:03 is unknown: 02:aa:00:00:00:01 is one of"]),
-    ([auth(THIRD), managed("a000", "0300", THIRD)], ["02:aa:00:00:00:03 isn't associated: it never asked to associate"]),
-    ([managed("a000", "0300")] * 2, ["my.trace:6:26", "02:aa:00:00:00:01 isn't associated: it left in line 5, by a dis"]),
+    ([auth(THIRD), managed("a000", "0300", THIRD)], ["02:aa:00:00:00:03 isn't associated: it never asked to"]),
+    ([managed("a000", "0300")] * 2, ["my.trace:6:26", "02:aa:00:00:00:01 isn't associated: it left in line 5, by"]),
     ([f"W {ATTICS}{data()[1:]}"], ["my.trace:5:21", "a Data frame of the air (802.11) stands behind `W`", "write `A`"]),
     # lines that no network took or could read
-    ([f"A 0040 0000 ffffffffffff {STATION} ffffffffffff 0000 0000 {RATES}"], ["my.trace:5:3", "attic can't read it (U4), nor "
+    ([f"A 0040 0000 ffffffffffff {STATION} ffffffffffff 0000 0000 {RATES}"],
+     ["my.trace:5:3", "attic can't read it (U4), nor "
                                                                                "can 1 more", "write `4000`"]),
     ([f"A 00b0 0000 {ATTIC} {STATION} {ATTIC} 0000 0000 0100 0000"], ["my.trace:5:3", "write `b000`"]),
-    ([managed("0000", f"0100 0a00 00046174746963 {RATES}")], ["my.trace:5:69", "the element SSID", "`04` has to be `05`"]),
+    ([managed("0000", f"0100 0a00 00046174746963 {RATES}")], ["my.trace:5:69", "the element SSID",
+                                                              "`04` has to be `05`"]),
     ([data(control="0800")], ["my.trace:5:5", "To DS is 0", "write `0801`"]),
-    ([auth(network="020000000010")], ["my.trace:5:13", "no network takes it: Address 1 is 02:00:00:00:00:10, and attic has "
-                                      "02:00:00:00:00:01", f"write `{ATTIC}`"]),
+    ([auth(network="020000000010")], ["my.trace:5:13", "no network takes it: Address 1 is 02:00:00:00:00:10, and "
+                                      "attic has 02:00:00:00:00:01", f"write `{ATTIC}`"]),
     ([f"A b000 {ATTIC} {STATION} {ATTIC} 0000 0000 0100 0000"], ["no network takes it: the two octets of Duration"]),
-    ([f"A b000 0000 {STATION} {ATTIC} {ATTIC} 0000 0000 0200 0000"], ["no network takes it: it is to 02:aa:00:00:00:01 and "
-                                                                      "from attic"]),
+    ([f"A b000 0000 {STATION} {ATTIC} {ATTIC} 0000 0000 0200 0000"], ["no network takes it: it is to "
+                                                                      "02:aa:00:00:00:01 and from attic"]),
     ([wire(rest="0008 05")], ["my.trace:5:47", "attic can't read it (U7): `0008` is the type", "write `0800`"]),
     ([f"A b000 0000 0200000001 {STATION} {ATTIC} 0000 0000 0100 0000"], ["no network takes it: Address 1 has 5 octets",
                                                                          f"write `{ATTIC}`"]),
-    ([f"A b000 0000 {ATTIC} 02aa000001 {ATTIC} 0000 0000 0100 0000"], ["Address 2 has 5 octets, and an address has six"]),
+    ([f"A b000 0000 {ATTIC} 02aa000001 {ATTIC} 0000 0000 0100 0000"], ["Address 2 has 5 octets, and an address has"]),
     ([managed("0000", f"0a00 00056174746963 {RATES}")], ["two octets are missing before the elements", "`0100 0a00`"]),
     ([managed("2000", f"0100 0a00 00056174746963 {RATES}")], ["Current AP Address 6", "here the address is missing"]),
     ([managed("c000")], ["the body of a deauthentication has at least 2 octets (Reason Code 2), and here 0"]),
     ([managed("1000", f"0100 0a00 00056174746963 {RATES}")], ["an association response, which access points send"]),
-    ([f"A 5801 0000 {ATTIC} {STATION} {ATTIC} 0000"], ["a frame of type 2, subtype 5, and that kind", "docs/FIRST_TRACE.md"]),
-    ([data(station="ffffffffffff", to=STATION)], ["Address 2 is the group address all", f"`{STATION}`, then `ffffffffffff`"]),
+    ([f"A 5801 0000 {ATTIC} {STATION} {ATTIC} 0000"], ["a frame of type 2, subtype 5, and that kind",
+                                                       "docs/FIRST_TRACE.md"]),
+    ([data(station="ffffffffffff", to=STATION)], ["Address 2 is the group address all",
+                                                  f"`{STATION}`, then `ffffffffffff`"]),
     # frames of a wire that are passed on, and say something else than was meant
     ([wire(rest="aaaa030000000800 01")], ["my.trace:5:1", "LLC and SNAP (`aaaa03000000`) stand where the type does"]),
     ([wire(rest="0608 01")], ["a type with its octets the wrong way round stands where the type does"]),
@@ -151,30 +158,34 @@ CASES = [
                                                                 "`max_known = 4` is reached"]),
     ([join(name="cellar")], ["with status 1, of 02:aa:00:00:00:01: it names `cellar`"]),
     ([join(name="")], ["with status 1", "its SSID is empty", "`00056174746963`"]),
-    ([join(rates="0103020416")], ["with status 18, of 02:aa:00:00:00:01: it lacks the basic rate 5.5 Mb/s", "add `0b`"]),
+    ([join(rates="0103020416")], ["with status 18, of 02:aa:00:00:00:01: it lacks the basic rate 5.5 Mb/s",
+                                  "add `0b`"]),
     ([join(rates="")], ["with status 18", "it has no element Supported Rates", "write `010402040b16` at its end"]),
-    ([auth(THIRD), join(THIRD), auth(f"{THIRD[:-1]}7"), join(f"{THIRD[:-1]}7")], ["my.trace:8:1", "with status 17, of "
-                                                                                "02:aa:00:00:00:07: `max_stations = 2`"]),
+    ([auth(THIRD), join(THIRD), auth(f"{THIRD[:-1]}7"), join(f"{THIRD[:-1]}7")],
+     ["my.trace:8:1", "with status 17, of 02:aa:00:00:00:07: `max_stations = 2`"]),
     ([data(station=OTHER)], ["my.trace:5:26", "attic: a frame is answered by a deauthentication, reason 7, of "
                              "02:aa:00:00:00:11", "is a station of cellar"]),
-    ([data(station=HOST, to=STATION)], ["Address 3, 02:aa:00:00:00:01, is one that is associated: the sender comes first",
+    ([data(station=HOST, to=STATION)], ["Address 3, 02:aa:00:00:00:01, is one that is associated: the sender",
                                         f"write `{STATION} {HOST}`"]),
     ([join(name="attic\0")], ["with status 1", "the octets 617474696300; `attic` is the same but for blanks or zeros"]),
-    ([join("02cc00000001")], ["reason 6, of 02:cc:00:00:00:01: the station is unknown: it joined before the trace begins"]),
-    ([auth(), data()], ["a disassociation, reason 7, of 02:aa:00:00:00:01: the station isn't associated: it authenticated "
-                        "again in line 5"]),
-    ([auth(THIRD, body="0000 0001 0000"), join(THIRD)], ["my.trace:6:26", "an authentication of it, in line 5, was refused: "
-                                                         "status 14"]),
-    ([auth(THIRD), managed("0000", "0100", THIRD), data(station=THIRD)], ["an association request of it, in line 6, can't be "
-                                                                          "read (U7)"]),
+    ([join("02cc00000001")], ["reason 6, of 02:cc:00:00:00:01: the station is unknown: it joined before the trace "
+                              "begins"]),
+    ([auth(), data()], ["a disassociation, reason 7, of 02:aa:00:00:00:01: the station isn't associated: it "
+                        "authenticated again in line 5"]),
+    ([auth(THIRD, body="0000 0001 0000"), join(THIRD)], ["my.trace:6:26", "an authentication of it, in line 5, was "
+                                                         "refused: status 14"]),
+    ([auth(THIRD), managed("0000", "0100", THIRD), data(station=THIRD)], ["an association request of it, in line 6, "
+                                                                          "can't be read (U7)"]),
     # units that were lost
-    ([null(), wire(), wire(), wire()], ["my.trace:8:1", "attic loses a unit: the unit for 02:aa:00:00:00:01 is above the "
-                                        "quota: `quota = 2`"]),
+    ([null(), wire(), wire(), wire()], ["my.trace:8:1", "attic loses a unit: the unit for 02:aa:00:00:00:01 is above "
+                                        "the quota: `quota = 2`"]),
     ([data("01")], ["my.trace:5:57", "the unit to all has no wired form: 1 octet"]),
-    ([data(f"aaaa030000000026 {'00' * 1500}", to=HOST)], ["the unit to 02:bb:00:00:00:01 has no wired form: 1,508 octets "
-                                                          "with LLC and SNAP, and no type"]),
-    ([join(OTHER, CELLAR, "cellar", listen="0100"), null(station=OTHER, network=CELLAR), wire(OTHER, bssid=CELLARS), "T", "T"],
-     ["my.trace:10:1", "cellar loses a unit", "are too old (`aging = true`): of 02:aa:00:00:00:11 (1, listen interval 1)"]),
+    ([data(f"aaaa030000000026 {'00' * 1500}", to=HOST)], ["the unit to 02:bb:00:00:00:01 has no wired form: 1,508 "
+                                                          "octets with LLC and SNAP, and no type"]),
+    ([join(OTHER, CELLAR, "cellar", listen="0100"), null(station=OTHER, network=CELLAR), wire(OTHER, bssid=CELLARS),
+      "T", "T"],
+     ["my.trace:10:1", "cellar loses a unit", "are too old (`aging = true`): of 02:aa:00:00:00:11 (1, listen interval "
+      "1)"]),
 ]
 
 

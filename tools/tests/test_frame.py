@@ -25,7 +25,8 @@ UNREAD = [
     ("d4000000 020000000001", ["(U1)", "an acknowledgement of 10 octets", "fewer than 16"]),
     (f"b0000000 {OURS} {STATION}", ["(U1)", "of 16 octets, and the header alone of such a frame has 24"]),
     (f"41000000 ffffffffffff {STATION} ffffffffffff 0000 0000 {RATES}", ["(U2)", "is 1", "`40` has version 0"]),
-    (f"80000000 ffffffffffff {STATION} {STATION} 0000 {'00' * 12}", ["(U3)", "a beacon, which the network sends itself"]),
+    (f"80000000 ffffffffffff {STATION} {STATION} 0000 {'00' * 12}", ["(U3)",
+                                                                     "a beacon, which the network sends itself"]),
     (f"88010000 {OURS} {STATION} {OURS} 0000 0000", ["(U3)", "a QoS Data frame", "no QoS (WMM)", "`0801`"]),
     (f"b4000000 {OURS} {STATION}", ["(U3)", "an RTS, and that kind isn't read"]),
     (f"08410000 {OURS} {STATION} {OURS} 0000 0100", ["(U4)", "it is encrypted (Protected Frame is 1)", "`01`"]),
@@ -41,9 +42,11 @@ UNREAD = [
     (f"b0000000 {OURS} 03aa00000001 {OURS} 0000 0000 0100 0000", ["(U6)", "Address 2 is the group address"]),
     (f"b0000000 {OURS} {OURS} {OURS} 0000 0000 0100 0000", ["(U6)", "Address 2 is the network's own"]),
     (f"b0000000 {OURS} {STATION} {OURS} 0000 0000 0100", ["(U7)", "at least 6 octets (Algorithm 2", "here 4"]),
-    (f"00000000 {OURS} {STATION} {OURS} 0000 0100 0a00 0003 6c616262 {RATES}", ["(U7)", "the element SSID", "has 3 octets",
+    (f"00000000 {OURS} {STATION} {OURS} 0000 0100 0a00 0003 6c616262 {RATES}",
+     ["(U7)", "the element SSID", "has 3 octets",
                                                                                "4 stand", "`03` has to be `04`"]),
-    (f"40000000 ffffffffffff {STATION} ffffffffffff 0000 0000 010382840b16", ["(U7)", "Supported Rates", "3 octets, and 4",
+    (f"40000000 ffffffffffff {STATION} ffffffffffff 0000 0000 010382840b16",
+     ["(U7)", "Supported Rates", "3 octets, and 4",
                                                                               "has to be `04`"]),
     (f"40000000 ffffffffffff {STATION} ffffffffffff 0000 0000 {RATES} 00", ["(U7)", "`00` stands alone"]),
     (f"40000000 ffffffffffff {STATION} ffffffffffff 0000 0000 {RATES} a1b2c3d4", ["(U7)", "four octets are too many"]),
@@ -52,9 +55,11 @@ UNREAD = [
     (f"00b00000 {OURS} {STATION} {OURS} 0000 0000 0100 0000", ["(U4)", "stand the wrong way round", "write `b000`"]),
     (f"00400000 ffffffffffff {STATION} ffffffffffff 0000 0000 {RATES}", ["the wrong way round", "write `4000`"]),
     (f"01080000 {OURS} {STATION} ffffffffffff 0000 01", ["(U2)", "the wrong way round", "write `0801`"]),
-    (f"b000 {OURS} {STATION} {OURS} 0000 0000 0100 0000", ["no network takes it", "Duration are missing", "`b000 0000`"]),
+    (f"b000 {OURS} {STATION} {OURS} 0000 0000 0100 0000", ["no network takes it", "Duration are missing",
+                                                           "`b000 0000`"]),
     (f"0801 {OURS} {STATION} ffffffffffff 0000 aaaa030000000800 01", ["no network takes it", "Duration are missing"]),
-    (f"00000000 {OURS} {STATION} {OURS} 0100 0a00 00036c6162 {RATES}", ["Sequence Control are missing", "write `0000`"]),
+    (f"00000000 {OURS} {STATION} {OURS} 0100 0a00 00036c6162 {RATES}", ["Sequence Control are missing",
+                                                                        "write `0000`"]),
     (f"b0000000 {OURS} {STATION} 0000 0000 0100 0000", ["Address 3 is missing", f"write `{OURS}`"]),
     ("b000", ["no network takes it", "it has 2 octets"]),
     (f"W {LAB} 08010000 {OURS} {STATION} ffffffffffff 0000 01", ["(U7)", "of the air (802.11)", "write `A`"]),
@@ -66,7 +71,8 @@ UNREAD = [
 ]
 # Frames of the configuration of examples/first_trace, and what is said of them.
 OF_CONFIG = [
-    (f"b0000000 02000000000f {STATION} 02000000000f 0000 0000 0100 0000", [f"Address 1 is 02:00:00:00:00:0f, and lab ({LAB}) "
+    (f"b0000000 02000000000f {STATION} 02000000000f 0000 0000 0100 0000", ["Address 1 is 02:00:00:00:00:0f, and lab "
+                                                                           f"({LAB}) "
                                                                             "has", f"write `{OURS}`"]),
     (f"b0000000 {STATION} {OURS} {OURS} 0000 0000 0200 0000", [f"from lab ({LAB}): a network sends this"]),
     (f"b0000000 010000000002 {STATION} 010000000002 0000 0000 0100 0000", [f"write `{OURS}`"]),
@@ -183,9 +189,11 @@ class Frames(ToolTest):
 
     def test_lines_of_other_texts(self):
         """A line of a trace, of a report and of `live` is read with its words."""
-        for line, says in ((f"A {'00' * 12}", "association request"), (f"air b0000000{STATION}{OURS}{OURS}0000", "which a network"),
-                           (f"air {LAB} 80000000", "beacon"), (f"wire {LAB} {STATION}02bb000000010800", "put on its wire"),
-                           (f"W {LAB} {STATION} 02bb00000001 0800 01", "a network reads it: a unit to 02:aa:00:00:00:01")):
+        for line, says in ((f"A {'00' * 12}", "association request"),
+                           (f"air b0000000{STATION}{OURS}{OURS}0000", "which a network"),
+                           (f"air {LAB} 80000000", "beacon"),
+                           (f"wire {LAB} {STATION}02bb000000010800", "put on its wire"),
+                           (f"W {LAB} {STATION} 02bb00000001 0800 01", "reads it: a unit to 02:aa:00:00:00:01")):
             status, found, stderr = tool("frame", *line.split())
             self.assertEqual((status, stderr), (0, ""), line)
             self.assertIn(says, found, line)

@@ -188,7 +188,8 @@ class WhatIsInstalled(SmallRepository):
         self.install()
         for path in glob.glob(os.path.join(ROOT, "share", "networks", "*")):
             with open(path, encoding="utf-8") as file:
-                self.assertEqual(self.read(f"share/doc/waltigon/examples/networks/{os.path.basename(path)}"), file.read())
+                self.assertEqual(self.read(f"share/doc/waltigon/examples/networks/{os.path.basename(path)}"),
+                                 file.read())
 
     def test_package_is_refused_at_once(self):
         """Where no program is built, or nothing tells of what, packing says so before it builds anything."""
@@ -340,7 +341,8 @@ class CompletionOfTools(ToolTest):
             with open(self.path(name), "w", encoding="ascii"):
                 pass
         self.assertEqual(self.completed("waltigon-report-to-json", "--w"), ["--without-frames"])
-        self.assertEqual(self.completed("waltigon-explain", "--"), ["--program", "--said", "--lines", "--help", "--version"])
+        self.assertEqual(self.completed("waltigon-explain", "--"), ["--program", "--said", "--lines", "--help",
+                                                                    "--version"])
         self.assertEqual(sorted(self.completed("waltigon-picture", "")), ["a.trace", "my.toml"])
         self.assertEqual(sorted(self.completed("waltigon-live", "")),
                          ["a.trace", "check-networks", "kick", "my.toml", "reload", "status"])

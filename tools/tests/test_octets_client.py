@@ -19,7 +19,8 @@ class Client(ToolTest):
         for name, text in (("my.toml", config), ("my.trace", trace)):
             with open(self.path(name), "w", encoding="ascii") as file:
                 file.write(text)
-        done = subprocess.run([CLIENT, self.path("my.toml"), self.path("my.trace"), program], capture_output=True, text=True,
+        done = subprocess.run([CLIENT, self.path("my.toml"), self.path("my.trace"), program], capture_output=True,
+                              text=True,
                               check=False, timeout=60)
         return done.returncode, done.stdout, done.stderr
 

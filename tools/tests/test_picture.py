@@ -35,7 +35,8 @@ MARKS = {GUEST: [("answered", PHONE, 2, "A"), ("answered", PHONE, 3, "J"), ("lef
                   ("wired", "wire", 18, LAPTOP), ("wired", "wire", 30, PRINTER)],
          DEVICES: [("answered", SENSOR, 10, "A"), ("answered", SENSOR, 11, "J"), ("kept", SENSOR, 20, "wire"),
                    ("kept", SENSOR, 21, "wire"), ("kept", "group", 22, "wire"), ("delivered", SENSOR, 28, ""),
-                   ("delivered", SENSOR, 32, ""), ("answered", SENSOR, 28, "S"), ("answered", SENSOR, 32, "S"), ("delivered", "group", 35, ""), ("beacon", "beacons", 26, ""),
+                   ("delivered", SENSOR, 32, ""), ("answered", SENSOR, 28, "S"), ("answered", SENSOR, 32, "S"),
+                   ("delivered", "group", 35, ""), ("beacon", "beacons", 26, ""),
                    ("DTIM beacon", "beacons", 35, "")]}
 WORDS = {(OFFICE, 6): "aid 1", (OFFICE, 8): "aid 2", (GUEST, 3): "aid 1", (DEVICES, 11): "aid 1",
          (DEVICES, 26): "aid 1", (DEVICES, 35): "group"}
@@ -293,8 +294,8 @@ class Picture(PictureTest):
         self.assertNotEqual(shapes.of(what="delivered"), [])
 
     def test_frames_that_bring_nothing_are_rings(self):
-        """A poll, a departure and a frame of the wire that bring nothing have an empty ring in their row; so has a probe
-        that nobody answers, within a quiet stretch."""
+        """A poll, a departure and a frame of the wire that bring nothing have an empty ring in their row; so has a
+        probe that nobody answers, within a quiet stretch."""
         for name, rings in (("station_dozes_and_polls", {("10", "S"), ("13", "S")}),
                             ("frames_of_unknown_stations", {("8", "D"), ("14", "D")}),
                             ("wired_frames_without_a_station", {("4", ""), ("5", "")}),
@@ -324,13 +325,16 @@ class Picture(PictureTest):
     def test_tooltips_are_words(self):
         """What a pointer shows of a mark says who did what, and what came of it."""
         shapes = self.of_three()
-        for wanted, title in (({"lines": "3", "what": "answered"}, "line 3: 02:aa:00:00:00:01 asks to associate, and is "
-                               "answered: identifier 1"),
-                              ({"lines": "20", "what": "kept"}, "line 20: a unit from the wire for 02:aa:00:00:00:04 is kept"),
-                              ({"lines": "28", "what": "answered"}, "line 28: 02:aa:00:00:00:04 polls for a unit that is kept, "
-                               "and is answered"),
-                              ({"lines": "35", "what": "delivered"}, "line 35: a unit for the group that was kept is sent"),
-                              ({"lines": "26", "what": "beacon"}, "line 26: a beacon says that units wait for identifier 1")):
+        for wanted, title in (({"lines": "3", "what": "answered"}, "line 3: 02:aa:00:00:00:01 asks to associate, and "
+                               "is answered: identifier 1"),
+                              ({"lines": "20", "what": "kept"}, "line 20: a unit from the wire for 02:aa:00:00:00:04 "
+                               "is kept"),
+                              ({"lines": "28", "what": "answered"}, "line 28: 02:aa:00:00:00:04 polls for a unit that "
+                               "is kept, and is answered"),
+                              ({"lines": "35", "what": "delivered"}, "line 35: a unit for the group that was kept is "
+                               "sent"),
+                              ({"lines": "26", "what": "beacon"}, "line 26: a beacon says that units wait for "
+                               "identifier 1")):
             [group] = shapes.of(**wanted)
             self.assertEqual(group.find(f"{SVG}title").text, title)
         group = self.of_example("statuses_in_order").of(what="refused", letter="J")[0]
@@ -478,7 +482,8 @@ class Choices(PictureTest):
         self.assertEqual(len(shapes.of(row=PHONE, what="associated", span="4-39")), 1)
         self.assertEqual(shapes.of(row=PHONE, what="authenticated") + shapes.of(row=PHONE, what="answered"), [])
         self.assertNotIn("02aa00000001 020000000101 0000 0000", read_text(self.drawn(*words, name="made.html")))
-        self.assertEqual(len(self.shapes(*words, "--station", "02:aa:00:00:00:01", "--to", "8").of(what="associated")), 1)
+        self.assertEqual(len(self.shapes(*words, "--station", "02:aa:00:00:00:01", "--to", "8").of(what="associated")),
+                         1)
 
     def test_times(self):
         """Times are those of the beacon clock, or the capture's own where the trace tells them."""

@@ -63,7 +63,8 @@ class Asked(ToolTest):
         self.assertEqual(self.browser.faults, [])
 
     def test_it_is_dark_where_the_reader_is(self):
-        """Page and picture have a dark ground, with light texts, where the browser asks for that, and else a light one."""
+        """Page and picture have a dark ground, with light texts, where the browser asks for that, and else a light
+        one."""
         ground = "getComputedStyle(document.querySelector('#picture svg > rect')).fill"
         text = "getComputedStyle(document.querySelector('#picture svg > text')).fill"
         page = "getComputedStyle(document.body).backgroundColor + getComputedStyle(document.body).color"

@@ -151,8 +151,8 @@ def is_quiet(mark):
 
 
 def drop_silences(lanes):
-    """Takes the marks of frames that brought nothing off lines that brought something in another network: a frame to all
-    is heard by each, and meant for one."""
+    """Takes the marks of frames that brought nothing off lines that brought something in another network: a frame
+    to all is heard by each, and meant for one."""
     busy = {number for lane in lanes for number, marks in lane.marks.items()
             if any(mark.what not in (NOTHING, "unread") for mark in marks)}
     busy |= {number for lane in lanes for number in lane.changes}
@@ -252,7 +252,8 @@ class Strip:
         return column.x + (0.0 if column.is_quiet else PAD / 2 + SLOT / 2)
 
     def x_of_mark(self, number, place, what, row):
-        """How far from the left the mark of a line stands that a network has in a row; where there is none, the line."""
+        """How far from the left the mark of a line stands that a network has in a row; where there is none, the
+        line."""
         column = self.columns[bisect.bisect_right(self.firsts, number) - 1] if self.has(number) else None
         items = column.items.get(place, ()) if column and not column.is_quiet else ()
         item = next((item for item in items if item.what == what and item.row == row), None)

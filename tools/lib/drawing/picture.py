@@ -28,7 +28,8 @@ MEANINGS = {
     "answered": "request answered", "refused": "refused: its status", "turned away": "refused: not associated",
     "left": "station leaves", "beacon": "beacon, for whom units wait", "DTIM beacon": "beacon with a DTIM",
     "sent": "unit sent at once, from whom to whom", "kept": "unit kept", "delivered": "kept unit delivered",
-    "dropped": "kept unit dropped", "lost": "unit lost", "wired": "unit put on the wire", "unread": "frames not read", NOTHING: "brings nothing"}
+    "dropped": "kept unit dropped", "lost": "unit lost", "wired": "unit put on the wire", "unread": "frames not read",
+    NOTHING: "brings nothing"}
 FIXED_ROWS = {BEACONS: "beacons", GROUP: "for the group", WIRE: "the wire", OTHERS: "others"}
 
 

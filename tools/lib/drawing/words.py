@@ -3,7 +3,8 @@ from drawing.columns import BEACON_KINDS, OTHERS
 from fields import REASONS, STATUSES
 from story import GROUP, NOTHING, WIRE
 
-ASKS = {"P": "asks which networks are there", "A": "authenticates", "J": "asks to associate", "R": "asks to reassociate",
+ASKS = {"P": "asks which networks are there", "A": "authenticates", "J": "asks to associate",
+        "R": "asks to reassociate",
         "D": "leaves", "U": "sends data", "S": "polls for a unit that is kept"}
 UNITS = {"sent": "is sent at once", "kept": "is kept", "delivered": "that was kept is sent",
          "dropped": "that was kept is dropped", "lost": "is lost", "wired": "is put on the wire"}
@@ -33,7 +34,8 @@ def words_of(item):
     asks = f"{who(item.row)} {ASKS[item.letter]}" if item.letter else "a frame from the wire"
     endings = {"answered": f", and is answered{': ' + item.text.replace('aid', 'identifier') if item.text else ''}",
                "refused": f", and is refused: status {code(item.text, STATUSES)}",
-               "turned away": f", and isn't associated: reason {code(item.text, REASONS)}", NOTHING: ", which brings nothing"}
+               "turned away": f", and isn't associated: reason {code(item.text, REASONS)}",
+               NOTHING: ", which brings nothing"}
     return asks + endings.get(item.what, "")
 
 

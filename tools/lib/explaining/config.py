@@ -257,8 +257,8 @@ def network_findings(config: Config) -> list[Finding]:
         return [Finding("this makes `network` one table, and networks are an array of tables", config.place(entry),
                         f"write a line `[[network]]`, and below it `{'.'.join(entry.key[1:])}`")]
     if entry and entry.value.kind == "text":
-        return [Finding("`network` is an array of tables, and this is a text; OpenWrt's `network` names the interface of a "
-                        "wire", config.place(entry.value), "leave this line out: the wire is named by `--wire` of "
+        return [Finding("`network` is an array of tables, and this is a text; OpenWrt's `network` names the interface "
+                        "of a wire", config.place(entry.value), "leave this line out: the wire is named by `--wire` of "
                         f"{called.fellow('live')}; a network begins with a line `[[network]]`")]
     if entry and entry.value.kind != "array":
         return [Finding(f"`network` is an array of tables, and this is {values.KINDS[entry.value.kind]}",

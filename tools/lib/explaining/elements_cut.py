@@ -52,7 +52,8 @@ def told(octets: bytes, place: int, meant: int | None) -> Reason:
     name, length, there = ELEMENT_NAMES.get(octets[place], f"element {octets[place]}"), octets[place + 1], \
         len(octets) - place - 2
     if meant is None or meant == there:
-        return Reason(f"the element {name} says that it has {length} octets, and {there} follow", (place + 1, place + 2),
+        return Reason(f"the element {name} says that it has {length} octets, and {there} follow",
+                      (place + 1, place + 2),
                       f"its length `{octets[place + 1]:02x}` has to be `{there:02x}`" if there < 256 else None)
     return Reason(f"the element {name} says that it has {length} octets, and {meant} stand before the next element",
                   (place + 1, place + 2), f"its length `{octets[place + 1]:02x}` has to be `{meant:02x}`")

@@ -5,7 +5,7 @@ import subprocess
 import tempfile
 from collections.abc import Iterator
 from dataclasses import dataclass
-from typing import BinaryIO
+from typing import IO
 
 from frames import address_of, address_text
 from texts import Line, Section, read_section
@@ -27,7 +27,8 @@ class Sent:
 
 @dataclass(frozen=True)
 class Step:
-    """A line, what the networks sent for it, and what the tables said before and after it, by the networks' addresses."""
+    """A line, what the networks sent for it, and what the tables said before and after it, by the networks'
+    addresses."""
 
     line: Line
     sent: tuple[Sent, ...]
@@ -46,7 +47,7 @@ class TooMuch(Exception):
 class Answers:
     """What `live` writes, read as it comes."""
 
-    def __init__(self, output: BinaryIO) -> None:
+    def __init__(self, output: IO[bytes]) -> None:
         self.output, self.octets = output, 0
         first = self.line().split()
         if len(first) != 2 or first[0] != b"ok":
@@ -116,14 +117,15 @@ def steps(program: str, config: bytes, lines: list[Line]) -> Iterator[Step]:
                                                              stdout=subprocess.PIPE,
                                                              stderr=subprocess.DEVNULL) as process:
             try:
-                yield from read_steps(process.stdout, lines)
+                if process.stdout is not None:
+                    yield from read_steps(process.stdout, lines)
             except TooMuch:
                 pass
             finally:
                 process.kill()
 
 
-def read_steps(output: BinaryIO, lines: list[Line]) -> Iterator[Step]:
+def read_steps(output: IO[bytes], lines: list[Line]) -> Iterator[Step]:
     """The answers of `live`, line by line."""
     answers = Answers(output)
     before = answers.next()[1]

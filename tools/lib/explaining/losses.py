@@ -40,7 +40,8 @@ def of_age(looked: Looked) -> Reason:
     after = {row.address: row.kept for row in looked.step.after[looked.bssid].stations}
     old = [f"{address_text(row.address)} ({row.kept - after[row.address]}, listen interval {row.listen})"
            for row in looked.section.stations if row.kept > after.get(row.address, 0)]
-    return Reason(f"units that waited longer than their station sleeps are too old (`aging = true`): of {', '.join(old)}",
+    return Reason("units that waited longer than their station sleeps are too old (`aging = true`): of "
+                  f"{', '.join(old)}",
                   None, "the listen interval stands in the association request")
 
 

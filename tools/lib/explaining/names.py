@@ -40,8 +40,8 @@ def unknown_name(asked: bytes, names: list[bytes], span: tuple[int, int]) -> Rea
                           f"write `{element(like)}`")
     written = next((name for name in names if name.hex().encode() == asked.lower()), None)
     if written is not None:
-        return Reason(f"no network is called {ssid_text(asked)}: these are the digits of {ssid_text(written)}, written as "
-                      "letters once more", span, f"write `{element(written)}`")
+        return Reason(f"no network is called {ssid_text(asked)}: these are the digits of {ssid_text(written)}, "
+                      "written as letters once more", span, f"write `{element(written)}`")
     texts = {name.decode("utf-8", "replace"): name for name in names}
     close = difflib.get_close_matches(asked.decode("utf-8", "replace"), texts, 1, LIKE)
     if close:

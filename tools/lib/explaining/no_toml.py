@@ -139,7 +139,8 @@ def of_line(source: Source, fault: NoToml, wants_trace: bool) -> Finding:
 def of_entity(place: Place, line: str) -> Finding | None:
     """A line that was copied out of the source of a page."""
     meant = entity(line)
-    return None if meant is None else Finding("this line was copied out of a page of HTML, which writes `&quot;` for `\"`",
+    return None if meant is None else Finding("this line was copied out of a page of HTML, which writes `&quot;` for "
+                                              "`\"`",
                                               place, f"write `{meant.strip()}`")
 
 
@@ -183,8 +184,8 @@ def of_key(place: Place, line: str, fault: NoToml, source: Source) -> Finding:
         return Finding(f"`{behind[1]}` stands before the key, and a line begins with its key", place,
                        f"write `{behind[2]} = {behind[3]}`")
     if is_yaml(source, place.line):
-        return Finding("this is YAML, and a configuration is TOML", place, "write `channel = 6`, a line for each key, and a "
-                       "line `[[network]]` before the keys of each network")
+        return Finding("this is YAML, and a configuration is TOML", place, "write `channel = 6`, a line for each key, "
+                       "and a line `[[network]]` before the keys of each network")
     if words and re.match(r"\s*:", text[words.end():]):
         return Finding("`:` stands where TOML has `=`", place,
                        f"write `{words[0]} = {text[words.end():].lstrip(':= ').rstrip(',')}`")

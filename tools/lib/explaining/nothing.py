@@ -1,5 +1,5 @@
-"""Why a line that a network took and read changed nothing there: by what the frame says, and what the tables said before
-it (docs/PROTOCOL.md, "What changes nothing")."""
+"""Why a line that a network took and read changed nothing there: by what the frame says, and what the tables said
+before it (docs/PROTOCOL.md, "What changes nothing")."""
 from dataclasses import dataclass
 
 from explaining.line_by_line import Step
@@ -75,7 +75,8 @@ def from_wire(looked: Looked, octets: bytes) -> Reason:
     to, source = octets[:6], octets[6:12]
     said = f"it is to {address_word(to)}, which is no station of {looked.section.name} that is associated"
     if source in looked.associated():
-        return Reason(f"{said}; its source {address_text(source)} is one: a frame on the wire begins with its destination",
+        return Reason(f"{said}; its source {address_text(source)} is one: a frame on the wire begins with its "
+                      "destination",
                       (0, 12), f"write `{source.hex()} {to.hex()}` for `{to.hex()} {source.hex()}`")
     if looked.station(to) is not None:
         return Reason(f"{said}: {looked.why_not_there(to, 'authenticated')}", (0, 6))
@@ -134,7 +135,8 @@ def leaving(looked: Looked, frame: Frame) -> Reason | None:
     """A departure of a station that isn't there."""
     station = looked.station(frame.transmitter)
     if frame.subtype == DEAUTHENTICATION and station is None:
-        return Reason(f"{address_text(frame.transmitter)} is unknown: {looked.why_not_there(frame.transmitter)}", (10, 16))
+        return Reason(f"{address_text(frame.transmitter)} is unknown: {looked.why_not_there(frame.transmitter)}",
+                      (10, 16))
     if frame.subtype == DISASSOCIATION and station is not None and station.aid is None:
         return Reason(f"{address_text(frame.transmitter)} isn't associated: "
                       f"{looked.why_not_there(frame.transmitter, 'authenticated')}", (10, 16))

@@ -1,6 +1,6 @@
-"""What is said of the lines of a run that ended well, one by one: those that no network took or read, those that changed
-nothing, those that were refused, and those that lost something. Whether a line did something is told by the program, by
-way of `live`; the reason is looked for beside that."""
+"""What is said of the lines of a run that ended well, one by one: those that no network took or read, those that
+changed nothing, those that were refused, and those that lost something. Whether a line did something is told by the
+program, by way of `live`; the reason is looked for beside that."""
 from collections.abc import Iterator
 from dataclasses import dataclass, field
 from enum import Enum
@@ -106,7 +106,8 @@ class Outcomes:
                 reason = refused(refusal, step.line.octets, table, looked.names(), looked.bssid) if refusal.is_status \
                     else notice(refusal, looked, station)
                 if reason:
-                    yield Said(What.REFUSED, f"{network_text(looked)}: {refusal.what()}, of {address_text(station)}", reason)
+                    yield Said(What.REFUSED, f"{network_text(looked)}: {refusal.what()}, of {address_text(station)}",
+                               reason)
         relay = table.entries.get("relay") if table else None
         relays = relay is None or relay.value.worth is not False
         for reason in losses(looked, relays, limit(table, "quota")):
@@ -126,8 +127,8 @@ class Outcomes:
             if rest:
                 found.append(Finding(f"{what.value}, for other reasons: {self.numbers(rest)}"))
         if self.left_out:
-            found.append(Finding("from here on it wasn't looked which line did something: the program's answers are more "
-                                 "than this tool looks at", place_of_octets(self.trace, self.left_out[0], None),
+            found.append(Finding("from here on it wasn't looked which line did something: the program's answers are "
+                                 "more than this tool looks at", place_of_octets(self.trace, self.left_out[0], None),
                                  "a shorter trace has fewer"))
         return found
 
@@ -178,6 +179,6 @@ def notice(refusal: Refusal, looked: Looked, station: bytes) -> Reason:
     what = "it has to authenticate and associate before" if state == "unknown" else "it has to associate before"
     frame = Frame(looked.step.line.octets)
     if frame.type == DATA and frame.third in looked.associated():
-        return Reason(f"{said}; Address 3, {address_text(frame.third)}, is one that is associated: the sender comes first, "
-                      "then the destination", (10, 22), f"write `{frame.third.hex()} {station.hex()}`")
+        return Reason(f"{said}; Address 3, {address_text(frame.third)}, is one that is associated: the sender comes "
+                      "first, then the destination", (10, 22), f"write `{frame.third.hex()} {station.hex()}`")
     return Reason(f"{said}: {looked.why_not_there(station, state)}", (10, 16), what)

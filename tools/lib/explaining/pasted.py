@@ -11,7 +11,8 @@ OPENWRT = re.compile(r"\s*(?:config\s+[\w-]+(?:\s+'[^']*'|\s+[\w-]+)?|option\s+\
 ENTITY = re.compile(r"&(?:quot|amp|lt|gt|apos|nbsp|#\d+);")
 ANSWER = re.compile(r"ok \d+|(?:air|wire) [0-9a-f]{2}(?::[0-9a-f]{2}){5} [0-9a-f]*|fault \S+ line \d+.*")
 DUMP_HEAD = re.compile(r"(?:\d{4}-\d\d-\d\d )?\d\d:\d\d:\d\d\.\d{3,9} ")
-DUMP = re.compile(r"\s*(?:0x[0-9A-Fa-f]{4,8}:? +|[0-9A-Fa-f]{4,8}(?:: +|  +))(?:(?:[0-9A-Fa-f]{2}|[0-9A-Fa-f]{4})(?: +|$))+")
+DUMP = re.compile(r"\s*(?:0x[0-9A-Fa-f]{4,8}:? +|[0-9A-Fa-f]{4,8}(?:: +|  +))(?:(?:[0-9A-Fa-f]{2}|[0-9A-Fa-f]{4})(?: "
+                  r"+|$))+")
 
 
 def foreign(source: Source, number: int) -> Finding | None:
@@ -43,7 +44,8 @@ def zeros(source: Source, number: int) -> Finding:
 
 def is_openwrt(source: Source) -> bool:
     """Whether a text has a section and an option of OpenWrt."""
-    return bool(re.search(r"^config\s+\w", source.text, re.M) and re.search(r"^\s+(?:option|list)\s", source.text, re.M))
+    return bool(re.search(r"^config\s+\w", source.text, re.M) and re.search(r"^\s+(?:option|list)\s", source.text,
+                                                                            re.M))
 
 
 def entity(text: str) -> str | None:
@@ -72,6 +74,6 @@ def continued(source: Source, number: int) -> Finding | None:
     line, before = source.line(number).rstrip(), source.line(number - 1).rstrip()
     if not re.fullmatch(r" *[0-9A-Fa-f]{2}[0-9A-Fa-f ]*", line) or not re.match(r"[AW] +[0-9A-Fa-f:]", before):
         return None
-    return Finding("a line begins with its word, and these digits may go on the frame of the line before: a frame is one "
-                   "line", source.place(number, 1, len(line)),
+    return Finding("a line begins with its word, and these digits may go on the frame of the line before: a frame is "
+                   "one line", source.place(number, 1, len(line)),
                    f"write them behind that line, or {quoted('A ' + line.strip())} where they are a frame")

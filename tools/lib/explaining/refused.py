@@ -1,4 +1,5 @@
-"""Why a network refuses a request, or answers it by a notice: by what the frame says, and what the table said before."""
+"""Why a network refuses a request, or answers it by a notice: by what the frame says, and what the table said
+before."""
 from collections.abc import Callable
 from dataclasses import dataclass
 
@@ -18,8 +19,8 @@ NOTICES = {DEAUTHENTICATION: "deauthentication", DISASSOCIATION: "disassociation
 
 @dataclass(frozen=True)
 class Refusal:
-    """An answer that refuses: the kind of the answer, both kinds of association response as one, and its status or, of a
-    notice, its reason."""
+    """An answer that refuses: the kind of the answer, both kinds of association response as one, and its status or,
+    of a notice, its reason."""
 
     kind: int
     code: int
@@ -52,8 +53,8 @@ def refused(refusal: Refusal, octets: bytes, table: NetworkTable | None, names: 
             bssid: bytes) -> Reason | None:
     """Why a request is refused with a status; `names` are the networks' SSIDs."""
     parts: dict[tuple[int, int], Callable[[], Reason]] = {
-        (AUTHENTICATION, 1): lambda: Reason(f"`max_known = {limit(table, 'max_known')}` is reached, and a station stays "
-                                            "known until it deauthenticates"),
+        (AUTHENTICATION, 1): lambda: Reason(f"`max_known = {limit(table, 'max_known')}` is reached, and a station "
+                                            "stays known until it deauthenticates"),
         (AUTHENTICATION, 13): lambda: of_algorithm(octets), (AUTHENTICATION, 14): lambda: of_number(octets),
         (ASSOCIATION_RESPONSE, 1): lambda: name_reason(octets, names, bssid),
         (ASSOCIATION_RESPONSE, 17): lambda: Reason(f"`max_stations = {limit(table, 'max_stations')}` is reached"),

@@ -72,7 +72,8 @@ def of_addresses(bssid: bytes, octets: bytes) -> Iterator[tuple[bytes, Reason]]:
     """An address with an octet too few or too many."""
     for length in (5, 7):
         short, long = sorted((bssid, octets[4:4 + length]), key=len)
-        if octets[4:10] != bssid and len(long) - len(short) == 1 and any(long[:at] + long[at + 1:] == short for at in range(len(long))):
+        is_one_off = len(long) - len(short) == 1 and any(long[:at] + long[at + 1:] == short for at in range(len(long)))
+        if is_one_off and octets[4:10] != bssid:
             yield octets[:4] + bssid + octets[4 + length:], Reason(
                 f"Address 1 has {length} octets, and an address has six", (4, 4 + length), f"write `{bssid.hex()}`")
         station = octets[10:10 + length]
@@ -86,8 +87,8 @@ def of_fields(bssid: bytes, octets: bytes) -> Iterator[tuple[bytes, Reason]]:
     frame = Frame(octets)
     if frame.is_management(REASSOCIATION_REQUEST):
         yield octets[:28] + bssid + octets[28:], Reason(
-            "the body of a reassociation request has Capability 2, Listen Interval 2 and Current AP Address 6 before its "
-            "elements, and here the address is missing", (28, 29), f"write `{bssid.hex()}` there")
+            "the body of a reassociation request has Capability 2, Listen Interval 2 and Current AP Address 6 before "
+            "its elements, and here the address is missing", (28, 29), f"write `{bssid.hex()}` there")
     if frame.is_management(ASSOCIATION_REQUEST) or frame.is_management(REASSOCIATION_REQUEST):
         yield octets[:24] + USUAL_CAPABILITY + octets[24:], Reason(
             "two octets are missing before the elements, where Capability Information 2 and Listen Interval 2 stand",
@@ -100,8 +101,8 @@ def of_sequence(octets: bytes) -> Iterator[tuple[bytes, Reason]]:
     if value & FRAGMENT and value < 1 << 12:
         meant = (value << 4).to_bytes(2, "little")
         yield octets[:22] + meant + octets[24:], Reason(
-            f"Sequence Control `{octets[22:24].hex()}` says fragment {value & FRAGMENT}, its low four bits, and fragments "
-            "aren't read", (22, 24), f"the sequence number {value} is `{meant.hex()}`")
+            f"Sequence Control `{octets[22:24].hex()}` says fragment {value & FRAGMENT}, its low four bits, and "
+            "fragments aren't read", (22, 24), f"the sequence number {value} is `{meant.hex()}`")
     if Frame(octets).type == MANAGEMENT or octets[22:].startswith(SNAP[:3]):
         yield octets[:22] + SEQUENCE + octets[22:], Reason(
             "the two octets of Sequence Control are missing behind Address 3", (22, 24), "write `0000` there")

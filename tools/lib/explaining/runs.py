@@ -79,8 +79,8 @@ class Hearing:
 
 def odd(config: Source, traces: list[Source], output: str, has_separator: bool,
         program: str | None = None) -> list[Finding]:
-    """What is odd, the weightiest first; nothing where all is as it should be. TextError where a text can't be read. Where
-    there is a program, and one trace, it is asked line by line."""
+    """What is odd, the weightiest first; nothing where all is as it should be. TextError where a text can't be
+    read. Where there is a program, and one trace, it is asked line by line."""
     with Progress(sum(len(trace.lines) for trace in traces)) as progress:
         progress.say("reading the report")
         tables = networks_of(config)
@@ -214,17 +214,20 @@ def of_ethernet(frames: list[Line], hearings: list[Hearing], traces: list[Source
 
 def of_wired_types(lines: list[Line], traces: list[Source]) -> list[Finding]:
     """Frames of a wire with something else where their type stands, which are passed on all the same."""
-    parts = ((lambda octets: octets[12:18] == SNAP, "LLC and SNAP (`aaaa03000000`) stand", "on a wire the type follows the "
+    parts = ((lambda octets: octets[12:18] == SNAP, "LLC and SNAP (`aaaa03000000`) stand",
+              "on a wire the type follows the "
               "addresses at once: leave them out"),
-             (lambda octets: octets[13:11:-1] in TYPES and octets[12:14] not in TYPES, "a type with its octets the wrong way "
+             (lambda octets: octets[13:11:-1] in TYPES and octets[12:14] not in TYPES,
+              "a type with its octets the wrong way "
               "round stands", "IPv4 is `0800`, and ARP `0806`"),
-             (lambda octets: octets[12:14] == b"\x45\0", "an IPv4 packet (`4500`) stands", "write the type `0800` before it"))
+             (lambda octets: octets[12:14] == b"\x45\0", "an IPv4 packet (`4500`) stands",
+              "write the type `0800` before it"))
     findings = []
     for is_it, what, advice in parts:
         found = [line for line in lines if line.kind == "W" and is_it(line.octets)]
         if found:
-            findings.append(Finding(f"{what} where the type does in {frames_text(len(found))} of a wire: these octets are "
-                                    "passed on as a type", place_of(traces, found[0]), advice))
+            findings.append(Finding(f"{what} where the type does in {frames_text(len(found))} of a wire: these octets "
+                                    "are passed on as a type", place_of(traces, found[0]), advice))
     return findings
 
 

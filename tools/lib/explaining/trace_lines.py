@@ -81,12 +81,13 @@ def of_word(source: Source, number: int, line: str, bssids: list[str]) -> Findin
     behind = BEFORE_WORD.match(line)
     if behind:
         return Finding(f"{quoted(behind[1].strip())} stands before the word, and a line begins with its word",
-                       source.place(number, 1, len(behind[1].rstrip())), f"write {quoted(line[behind.end(1):])}; a remark has a "
-                       "line of its own, before")
-    if first.rstrip(":,").upper() in OTHER_WORDS and first.upper() not in OTHER_WORDS.values() and not REPORT_LINE.fullmatch(line):
-        word = OTHER_WORDS[first.rstrip(":,").upper()]
-        return Finding(f"{quoted(first)} is no word of a trace; `{word}` is: `A` for a frame on the air, `W` for one on a "
-                       "wire, `T` for a beacon interval", place, f"write {quoted((word + ' ' + rest.strip()).strip())}")
+                       source.place(number, 1, len(behind[1].rstrip())), f"write {quoted(line[behind.end(1):])}; a "
+                       "remark has a line of its own, before")
+    word = OTHER_WORDS.get(first.rstrip(":,").upper())
+    if word and word != first.upper() and not REPORT_LINE.fullmatch(line):
+        return Finding(f"{quoted(first)} is no word of a trace; `{word}` is: `A` for a frame on the air, `W` for one "
+                       "on a wire, `T` for a beacon "
+                       "interval", place, f"write {quoted((word + ' ' + rest.strip()).strip())}")
     if first == "I":
         return Finding("`I` asks `live` for its tables, and is no line of a trace", place, "leave it out")
     if first.upper() in ("A", "W", "T"):
@@ -161,14 +162,15 @@ def of_digits(source: Source, number: int, line: str, bssids: list[str]) -> Find
         return of_odd_digits(source, number, line, begin)
     named = BEFORE_FRAME.match(line)
     if named:
-        return Finding("behind `A` the frame follows at once: an address stands there in what `live` answers, and behind "
-                       "`W`", source.place(number, named.start(1) + 1, len(named[1])),
+        return Finding("behind `A` the frame follows at once: an address stands there in what `live` answers, and "
+                       "behind `W`", source.place(number, named.start(1) + 1, len(named[1])),
                        f"write {quoted(f'A {line[named.end():].strip()}')}")
     at = begin + stray.start()
     place = source.place(number, at + 1)
     letter = stray[0]
     if digits.startswith(("...", "\u2026"), stray.start()):
-        return Finding("`...` stands for octets that were left out, and a line has all octets of its frame", source.place(
+        return Finding("`...` stands for octets that were left out, and a line has all octets of its frame",
+                       source.place(
             number, at + 1, 3 if letter == "." else 1), "write them there")
     if letter in "\"'`":
         return Finding("digits stand without quotes", place, f"write {quoted(line.translate(NO_QUOTES))}")

@@ -1,4 +1,5 @@
-"""Why no network takes a frame that was on the air: it is too short, or its Address 1 is neither a network's nor all."""
+"""Why no network takes a frame that was on the air: it is too short, or its Address 1 is neither a network's nor
+all."""
 from collections.abc import Iterable
 
 from explaining.check_sequences import LEAST_LEN
@@ -10,7 +11,8 @@ from in_words import address_word
 
 
 def unheard(octets: bytes, networks: dict[bytes, str]) -> Reason | None:
-    """The reason, for networks with these addresses and names; None where nothing but the address itself is to be said."""
+    """The reason, for networks with these addresses and names; None where nothing but the address itself is to be
+    said."""
     if len(octets) < LEAST_LEN:
         return Reason(f"it has {len(octets)} octets, and no network takes fewer than {LEAST_LEN}", (0, len(octets)))
     frame = Frame(octets)
@@ -19,13 +21,14 @@ def unheard(octets: bytes, networks: dict[bytes, str]) -> Reason | None:
         if reason:
             return reason
     if frame.transmitter in networks:
-        return Reason(f"it is to {address_word(frame.receiver)} and from {networks[frame.transmitter]}: a network sends "
-                      "this, and a trace has what networks hear", (4, 10),
+        return Reason(f"it is to {address_word(frame.receiver)} and from {networks[frame.transmitter]}: a network "
+                      "sends this, and a trace has what networks hear", (4, 10),
                       "a station's frame has the BSSID as Address 1 and the station as Address 2")
     like = nearest(frame.receiver, networks)
     if like is None:
         return None
-    return Reason(f"Address 1 is {address_text(frame.receiver)}, and {networks[like]} has {address_text(like)}", (4, 10),
+    return Reason(f"Address 1 is {address_text(frame.receiver)}, and {networks[like]} has {address_text(like)}",
+                  (4, 10),
                   f"write `{like.hex()}`")
 
 

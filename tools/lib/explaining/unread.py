@@ -34,7 +34,8 @@ def short(_: bytes, octets: bytes) -> Reason:
 
 def version(_: bytes, octets: bytes) -> Reason:
     """U2."""
-    return Reason(f"the version, the two low bits of `{octets[0]:02x}`, is {octets[0] & 3}, and there is 0 alone", (0, 1),
+    return Reason(f"the version, the two low bits of `{octets[0]:02x}`, is {octets[0] & 3}, and there is 0 alone",
+                  (0, 1),
                   f"`{octets[0] & 0xFC:02x}` has version 0")
 
 
@@ -49,8 +50,8 @@ def kind(bssid: bytes, octets: bytes) -> Reason:
     if frame.is_qos:
         return Reason(f"{said}, and the program has no QoS (WMM)", (0, 2),
                       "without QoS Data begins with `0801`, and Null with `4801`")
-    return Reason(f"{said}, and that kind isn't read", (0, 2), f"{called.document('FIRST_TRACE.md')} has the two octets with "
-                  "which the frames begin that are read")
+    return Reason(f"{said}, and that kind isn't read", (0, 2), f"{called.document('FIRST_TRACE.md')} has the two "
+                  "octets with which the frames begin that are read")
 
 
 def flags(_: bytes, octets: bytes) -> Reason:
@@ -59,7 +60,8 @@ def flags(_: bytes, octets: bytes) -> Reason:
     if wrong:
         said = "it is encrypted (Protected Frame is 1)" if "Protected Frame" in wrong else f"{' and '.join(wrong)} is 1"
         return Reason(said, (1, 2), f"without it the octet is `{octets[1] & 0x3B:02x}`")
-    return Reason(f"Sequence Control `{octets[22:24].hex()}` says fragment {octets[22] & 0xF}, and fragments aren't read",
+    return Reason(f"Sequence Control `{octets[22:24].hex()}` says fragment {octets[22] & 0xF}, and fragments aren't "
+                  "read",
                   (22, 24))
 
 
@@ -79,10 +81,11 @@ def addresses(bssid: bytes, octets: bytes) -> Reason:
     """U6."""
     frame, own = Frame(octets), address_text(bssid)
     if frame.transmitter == bssid:
-        return Reason("Address 2 is the network's own: it sent this frame itself, and a trace has what it hears", (10, 16))
+        return Reason("Address 2 is the network's own: it sent this frame itself, and a trace has what it hears",
+                      (10, 16))
     if is_group(frame.transmitter):
         is_turned = frame.type == DATA and not is_group(frame.third)
-        return Reason(f"Address 2 is the group address {address_word(frame.transmitter)}, and the sender is one station",
+        return Reason(f"Address 2 is the group address {address_word(frame.transmitter)}, and a sender is one station",
                       (10, 16), f"the sender comes first, then the destination: write `{frame.third.hex()}`, then "
                       f"`{frame.transmitter.hex()}`" if is_turned else None)
     is_probe = frame.is_management(PROBE_REQUEST)
@@ -92,9 +95,8 @@ def addresses(bssid: bytes, octets: bytes) -> Reason:
     if frame.receiver != bssid:
         bssid = BROADCAST
     third = address_word(frame.third)
-    return Reason(f"Address 3 is {third}, and has to be " + ("all, or the BSSID of the network that is asked" if is_probe
-                                                           else f"the network's, {own}"), (16, 22),
-                  f"write `{bssid.hex()}`")
+    wanted = "all, or the BSSID of the network that is asked" if is_probe else f"the network's, {own}"
+    return Reason(f"Address 3 is {third}, and has to be {wanted}", (16, 22), f"write `{bssid.hex()}`")
 
 
 def body(_: bytes, octets: bytes) -> Reason:
@@ -123,8 +125,8 @@ def wired_unread(bssid: bytes, octets: bytes) -> Reason | None:
         return Reason(f"{kind_text(octets)} of the air (802.11) stands behind `W`, for what came over the wire",
                       (0, 2), "write `A` and the frame")
     if rule == "U1":
-        return Reason(f"a frame of a wire has at least {LEAST_WIRED} octets (destination 6, source 6, type 2), and here "
-                      f"{len(octets)}", (0, len(octets)))
+        return Reason(f"a frame of a wire has at least {LEAST_WIRED} octets (destination 6, source 6, type 2), and "
+                      f"here {len(octets)}", (0, len(octets)))
     if rule == "U8":
         return Reason(f"{len(octets) - LEAST_WIRED:,} octets follow the type, and at most {MOST_PAYLOAD:,} may",
                       (LEAST_WIRED + MOST_PAYLOAD, len(octets)))
@@ -133,14 +135,15 @@ def wired_unread(bssid: bytes, octets: bytes) -> Reason | None:
 
 def wired_length(octets: bytes) -> Reason:
     """U7 of the wire: a field that is neither a type nor a length that fits."""
-    field, turned = (int.from_bytes(octets[12:14], order) for order in ("big", "little"))
+    field, turned = int.from_bytes(octets[12:14], "big"), int.from_bytes(octets[12:14], "little")
     payload = len(octets) - LEAST_WIRED
     written = octets[12:14].hex()
     if turned in (0x0800, 0x0806, 0x86DD):
-        return Reason(f"`{written}` is the type `{turned:04x}` with its octets the wrong way round: in a frame of a wire the "
-                      "high octet comes first", (12, 14), f"write `{turned:04x}`")
+        return Reason(f"`{written}` is the type `{turned:04x}` with its octets the wrong way round: in a frame of a "
+                      "wire the high octet comes first", (12, 14), f"write `{turned:04x}`")
     if LEAST_LENGTH <= field <= MOST_LENGTH:
         return Reason(f"`{written}` is a length of {field} octets, and {payload} follow", (12, 14))
-    return Reason(f"`{written}` is no type (from {LEAST_TYPE:04x}) and no length of {LEAST_LENGTH} to {MOST_LENGTH:,} octets",
+    return Reason(f"`{written}` is no type (from {LEAST_TYPE:04x}) and no length of {LEAST_LENGTH} to {MOST_LENGTH:,} "
+                  "octets",
                   (12, 14), "IPv4 is `0800`")
 

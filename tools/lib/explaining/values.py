@@ -23,9 +23,9 @@ def address_fault(text: str) -> tuple[str, tuple[int, int], str | None] | None:
     stray = re.search(r"[^0-9A-Fa-f:.\- \t]", text)
     if stray and plain_letter(stray[0]):
         plain = plain_text(text)
-        mended = address_fault(plain)
+        fault = address_fault(plain)
         return (f"{quoted(stray[0])} isn't {quoted(plain_letter(stray[0]) or '')}, and an address has six pairs of "
-                "hexadecimal digits with `:` between", stray.span(), mended[2] if mended else plain.lower())
+                "hexadecimal digits with `:` between", stray.span(), fault[2] if fault else plain.lower())
     if stray:
         letter = {"O": "0", "o": "0", "l": "1", "I": "1"}.get(stray[0])
         mended = re.sub("[Oo]", "0", re.sub("[lI]", "1", text)) if letter else None

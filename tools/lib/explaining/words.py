@@ -17,7 +17,8 @@ OCTETS = "--octets"
 # How many words follow each at least.
 LEAST = {"check": 1, "run": 2, "play": 2, "live": 1}
 # The options of the tool that starts the program on a radio.
-OF_BRIDGE = ("--phy", "--wire", "--wires", "--share", "--monitor", "--country", "--idle", "--record", "--tables", "--status",
+OF_BRIDGE = ("--phy", "--wire", "--wires", "--share", "--monitor", "--country", "--idle", "--record", "--tables",
+             "--status",
              "--bridge", "--json", "--watch")
 MOST_TRACES, MOST_FILES = 64, 4
 # How much a file's name has to be like the one that was given, for it to be meant: all of it, and what stands before its
@@ -52,7 +53,8 @@ def of_words(fault: Fault, words: list[str]) -> list[Finding]:
     if first.startswith("-"):
         files = [word for word in rest if not word.startswith("-")]
         more = f"write `{form_for(files)}`; " if files else ""
-        return [Finding(f"the program has no word {quoted(first)}, and no options", None, f"{more}its words are {FORMS}")]
+        return [Finding(f"the program has no word {quoted(first)}, and no options", None,
+                        f"{more}its words are {FORMS}")]
     command = next((word for word in rest if word in SUBCOMMANDS), None)
     if command is not None:
         files = [word for word in words if word != command and not word.startswith("-")]
@@ -93,8 +95,8 @@ def of_subcommand(first: str, rest: list[str]) -> Finding:
         more = " ".join(rest)
         options = f"no option but `{OCTETS}` before CONFIG" if first == "live" else "no options"
         if first == "live" and dashed.partition("=")[0] in OF_BRIDGE:
-            return Finding(f"{quoted(dashed)} is an option of {called.fellow('live')}, which starts the program and the "
-                           "bridge", None, f"`{called.fellow('live')} --help` shows how it is used")
+            return Finding(f"{quoted(dashed)} is an option of {called.fellow('live')}, which starts the program and "
+                           "the bridge", None, f"`{called.fellow('live')} --help` shows how it is used")
         others = [word for word in rest if not word.startswith("-")]
         is_octets = first == "live" and difflib.SequenceMatcher(None, dashed, OCTETS).ratio() > LIKE
         meant = [first] + [OCTETS] * is_octets + others

@@ -59,8 +59,8 @@ def table(fields: Iterable[Field]) -> list[str]:
 
 
 def likely_network(octets: bytes) -> Network:
-    """The network that a frame is to, where no configuration says which there are: one that can read it, or could after a
-    change; else that of Address 1."""
+    """The network that a frame is to, where no configuration says which there are: one that can read it, or could
+    after a change; else that of Address 1."""
     named, shifted = [[part for part in parts if len(part) == len(NOBODY) and not part[0] & 1]
                       for parts in ((octets[4:10], octets[16:22]), (octets[2:8],))]
     reading = [part for part in named if hears(part, octets) and unread_kind(part, octets) is None]

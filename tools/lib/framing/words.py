@@ -8,7 +8,8 @@ from writing import KINDS, TWO_HIGH_BITS, USUAL_LISTEN, USUAL_PAYLOAD, Wanted, r
 
 MOST = {"sequence": 4095, "aid": 0x3FFF}
 HELP = {"probe": "asks which networks are there", "auth": "authenticates", "join": "asks to associate",
-        "rejoin": "asks to reassociate", "disassoc": "disassociates", "deauth": "deauthenticates", "data": "sends a unit",
+        "rejoin": "asks to reassociate", "disassoc": "disassociates", "deauth": "deauthenticates",
+        "data": "sends a unit",
         "null": "says whether the station dozes", "poll": "asks for a unit that is kept (PS-Poll)"}
 OF_KIND = {"probe": ("ssid", "rates"), "auth": ("algorithm", "number"), "join": ("ssid", "rates", "listen"),
            "rejoin": ("ssid", "rates", "listen", "current"), "disassoc": ("reason",), "deauth": ("reason",),
@@ -59,7 +60,7 @@ def add_kinds(parsers) -> None:
         parser = parsers.add_parser(kind, help=HELP[kind], description=f"The station {HELP[kind]}.")
         parser.add_argument("station", metavar="STATION", type=address, help="the station's address")
         if kind == "probe":
-            parser.add_argument("--direct", action="store_true", help="Address 1 and 3 are NETWORK's BSSID, and not all")
+            parser.add_argument("--direct", action="store_true", help="Address 1 and 3 are the BSSID, and not all")
         needs = {"nargs": "?", "default": ALL} if kind == "probe" else {}
         parser.add_argument("network", metavar="NETWORK", help="a BSSID, or with --config an SSID", **needs)
         parser.add_argument("--config", metavar="CONFIG", help="the configuration that has the network")
