@@ -54,6 +54,7 @@ WORDS = [
     (["--", "-c", "my.toml", "my.trace"], "fault words", ["no word `-c`", "write `run my.toml my.trace`"]),
     (["run", "--verbose", "my.toml", "my.trace"], "fault words", ["`run` has no options",
                                                                   "write `run my.toml my.trace`"]),
+    (["run", "--help"], "fault words", ["no word `--help`", "run CONFIG TRACE"]),
     (["check", "-v"], "fault words", ["begins with `-`", "check -- -v"]),
     (["play", "my.toml"], "fault words", ["TRACE is missing"]),
     (["live", "--octets"], "fault words", ["CONFIG is missing", "live --octets CONFIG"]),
@@ -377,6 +378,15 @@ class Mistakes(ToolTest):
         """A network may have it, and it is odd."""
         source = Source("my.toml", CONFIG.replace("02:00:00:00:00:01", "00:00:00:00:00:00").encode())
         self.assertIn("all zeros", odd_config.odd(source)[0].text)
+
+    @needs_program
+    def test_files_in_the_wrong_order(self):
+        """Where the trace comes first, the order is told."""
+        self.folder_with_files()
+        status, found = self.run_tool("run", "my.trace", "my.toml")
+        self.assertEqual((status, found.split("\n")[0]), (1, "fault C1"))
+        self.assertIn("my.trace is a trace, and my.toml a configuration", found)
+        self.assertIn("write `run my.toml my.trace`", found)
 
     @needs_program
     def test_ways_to_give_texts(self):

@@ -4,7 +4,7 @@ from dataclasses import dataclass, field
 import called
 from explaining import values
 from explaining.answers import Fault
-from explaining.keys import (HOSTAPD, NETWORK_KEYS, NETWORK_LIMITS, OPTIONS, RADIO_KEYS, RADIO_LIMITS, SAMPLES,
+from explaining.keys import (HIDING, HOSTAPD, NETWORK_KEYS, NETWORK_LIMITS, OPTIONS, RADIO_KEYS, RADIO_LIMITS, SAMPLES,
                              is_of_encryption, meant)
 from explaining.source import Finding, Place, Source, quoted
 from explaining.toml_scan import Entry, NoToml, Table, Value, scan
@@ -190,6 +190,11 @@ def unlisted_findings(config: Config) -> list[Finding]:
         found += [(entry.begin, unlisted(config, entry, allowed, RADIO_KEYS, place))
                   for place, network in enumerate(config.networks)
                   for key, entry in network.entries.items() if key not in allowed]
+    again = next((entry for network in config.networks for key, entry in network.entries.items() if key == "version"),
+                 None)
+    if again and "version" in config.top:
+        return [Finding("a second configuration begins here, behind the first", config.place(again),
+                        "leave one of them out; of another network its keys alone stand below a `[[network]]`")]
     findings = [finding for _, finding in sorted(found, key=lambda pair: pair[0])]
     more = len(findings) - MOST_KEYS_SHOWN
     return findings[:MOST_KEYS_SHOWN] + ([Finding(f"and {more} more keys that aren't listed")] if more > 0 else [])
@@ -221,6 +226,11 @@ def unlisted(config: Config, entry: Entry, here: tuple[str, ...], there: tuple[s
     if stands and stands.key in here + there + OPTIONS:
         return Finding(text, place, of_hostapd(config, stands, network))
     like = meant(key, here)
+    if like == "network" and entry.value.kind not in ("array", "table"):
+        return Finding(text, place, "leave it out: each network begins with a line `[[network]]`, and their number is "
+                       "not said")
+    if key.lower() in HIDING:
+        return Finding(text, place, "leave it out: a hidden SSID isn't here, every beacon has its name")
     if like:
         is_there = like in (config.top if network is None else config.networks[network].entries)
         more = ", which is there already: leave this out" if is_there else ""

@@ -220,6 +220,12 @@ def of_value(place: Place, line: str, fault: NoToml, source: Source) -> Finding:
         return Finding(f"`{name}` has no value", place, f"write `{key} = {SAMPLES[key]}`" if key in SAMPLES else None)
     if text.startswith("="):
         return Finding("`=` stands twice", place, f"write `{name} = {text.lstrip('= ')}`")
+    tags = re.compile(r"</?[a-z]+ ?/?>")
+    if tags.search(text) and not tags.fullmatch(text):
+        return Finding("this line was copied out of a page of HTML", place, f"write `{name} = "
+                       f"{tags.sub('', text).strip()}`")
+    if re.fullmatch(r'\\".*\\"', text):
+        return Finding("quotes stand without a backslash before them", place, f'write `{name} = "{text[2:-2]}"`')
     if UNFILLED.search(text):
         return Finding(f"{quoted(text)} stands for a value that nothing has put here: this text is a template", place,
                        f"write a value, as `{name} = {SAMPLES[name]}`" if name in SAMPLES else None)

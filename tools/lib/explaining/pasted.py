@@ -7,6 +7,7 @@ import called
 from explaining.source import Finding, Source, quoted
 
 MERGE_MARK = re.compile(r"(?:<{7}|>{7}|\|{7})(?: .*)?|={7}")
+PATCHED = re.compile(r"\+\s*[\w\[\"]|@@ -\d")
 OPENWRT = re.compile(r"\s*(?:config\s+[\w-]+(?:\s+'[^']*'|\s+[\w-]+)?|option\s+\w+\s+.*|list\s+\w+\s+.*)")
 ENTITY = re.compile(r"&(?:quot|amp|lt|gt|apos|nbsp|#\d+);")
 ANSWER = re.compile(r"ok \d+|(?:air|wire) [0-9a-f]{2}(?::[0-9a-f]{2}){5} [0-9a-f]*|fault \S+ line \d+.*")
@@ -24,6 +25,9 @@ def foreign(source: Source, number: int) -> Finding | None:
                        "keep one of them, and take the marks `<<<<<<<`, `=======` and `>>>>>>>` out")
     if "\0" in line:
         return zeros(source, number)
+    if PATCHED.match(line) and re.search(r"^-\s*[\w\[\"]", source.text, re.M):
+        return Finding("a mark of a patch (diff) stands before this line", source.place(number, 1),
+                       "`patch` applies one; else take the lines with `-` out, and each `+`")
     if OPENWRT.fullmatch(line.rstrip()) and is_openwrt(source):
         return Finding("this is a configuration of OpenWrt, and the program has its own keys, in TOML", whole,
                        "OpenWrt makes a configuration of hostapd of it, /var/run/hostapd-phy0.conf, and "

@@ -14,7 +14,7 @@ BETWEEN_DIGITS, MOST_AROUND = ":-,.;|", 20
 DIGITS = re.compile("[0-9A-Fa-f]{12,}")
 OTHER_WORDS = {"A": "A", "AIR": "A", "RX": "A", "HEARD": "A", "W": "W", "WIRE": "W", "ETH": "W", "T": "T", "TICK": "T",
                "TBTT": "T", "BEACON": "T"}
-BEFORE_WORD = re.compile(r"((?:[>+$|-] ?|[\d.,:TZ/-]*\d[\d.,:TZ/-]*[:,]? +))(?=[AW] +[0-9A-Fa-f]|T$)")
+BEFORE_WORD = re.compile(r"((?:(?:->|=>|[>+$|-]) ?|[\d.,:TZ/-]*\d[\d.,:TZ/-]*[:,]? +))(?=[AW] +[0-9A-Fa-f]|T$)")
 ARRAY = re.compile(r"\s*\{?\s*(?:0x[0-9A-Fa-f]{1,2}\s*,?\s*)+\}?;?|(?:\\x[0-9A-Fa-f]{2})+")
 NO_QUOTES = str.maketrans("", "", "\"'`")
 BEFORE_FRAME = re.compile("A +([0-9A-Fa-f]{2}(?::[0-9A-Fa-f]{2}){5}) +(?=[0-9A-Fa-f])")
@@ -132,6 +132,9 @@ def of_other_text(source: Source, number: int, line: str) -> Finding | None:
                        f"write {quoted('# ' + line.strip(';/-!% '))}")
     if ARRAY.fullmatch(line):
         return of_array(source, number, line)
+    if line.lstrip().startswith(("{", "[")):
+        return Finding("this is JSON, and a trace has a line of its own for each frame", place,
+                       "write `A` and its digits")
     if re.match(r"```|~~~", line):
         return Finding("this marks a piece of code in Markdown, and belongs to no trace", place, "leave the line out")
     if REPORT_LINE.fullmatch(line) or re.match(r"station [0-9a-f:]{17} |end$", line):
@@ -172,6 +175,8 @@ def of_digits(source: Source, number: int, line: str, bssids: list[str]) -> Find
         return Finding("`...` stands for octets that were left out, and a line has all octets of its frame",
                        source.place(
             number, at + 1, 3 if letter == "." else 1), "write them there")
+    if letter in "hH" and digits[stray.start() - 1:stray.start()].isalnum():
+        return Finding(f"digits stand without `{letter}` behind them", place, f"leave each `{letter}` out")
     if letter in "\"'`":
         return Finding("digits stand without quotes", place, f"write {quoted(line.translate(NO_QUOTES))}")
     if letter == "#":

@@ -64,7 +64,9 @@ def rates_of_megabits(numbers: list[float]) -> str | None:
 
 
 def megabits_among(text: str) -> list[float]:
-    """The rates in Mb/s that a text lists, or in units of 100 kb/s as hostapd has them; none where it lists others."""
+    """The rates in Mb/s that a text lists, or in units of 100 kb/s as hostapd has them, or in kb/s; none where it lists
+    others."""
+    text = re.sub(r"\([A-Za-z]*\)", "", text)
     if re.search(r"[^0-9.,;/ \tMmBbitps]", text):
         return []
     numbers = [float(word) for word in NUMBER.findall(text)]
@@ -72,8 +74,11 @@ def megabits_among(text: str) -> list[float]:
         return []
     if numbers and all(number in MEGABITS for number in numbers):
         return numbers
-    tenths = [number / 10 for number in numbers]
-    return tenths if numbers and all(number in MEGABITS for number in tenths) else []
+    for unit in (10, 1000):
+        smaller = [number / unit for number in numbers]
+        if numbers and all(number in MEGABITS for number in smaller):
+            return smaller
+    return []
 
 
 def rates_of_octets(numbers: list[int]) -> str | None:

@@ -95,6 +95,9 @@ def of_findings(findings: list[Finding]) -> list[str]:
 
 def findings_of(texts: Texts, fault: Fault) -> list[Finding]:
     """The reasons for a fault, by what it is of."""
+    swapped = of_order(texts) if fault.code == "C1" else None
+    if swapped:
+        return [swapped]
     if fault.code == "C1":
         return no_toml.explain(texts.config, texts.is_joined) if texts.config else []
     if fault.code.startswith("C"):
@@ -107,6 +110,18 @@ def findings_of(texts: Texts, fault: Fault) -> list[Finding]:
         is_live = texts.words[:1] == ["live"]
         return trace_lines.explain(trace, fault, bssids_of(texts), is_live) if trace else []
     return words.explain(fault, texts.words)
+
+
+def of_order(texts: Texts) -> Finding | None:
+    """A trace where the configuration is looked for, and a configuration behind it."""
+    if texts.words[:1] != ["run"] or texts.config is None or len(texts.traces) != 1 or texts.traces[0] is None:
+        return None
+    first = next((line for line in texts.config.lines if line.strip() and not line.startswith("#")), "")
+    if not no_toml.TRACE_LINE.fullmatch(first) or "[[network]]" not in texts.traces[0].text:
+        return None
+    names = texts.config.name, texts.traces[0].name
+    return Finding(f"{names[0]} is a trace, and {names[1]} a configuration: the configuration comes first", None,
+                   f"write `run {names[1]} {names[0]}`")
 
 
 def bssids_of(texts: Texts) -> list[str]:

@@ -97,6 +97,8 @@ def of_subcommand(first: str, rest: list[str]) -> Finding:
         if first == "live" and dashed.partition("=")[0] in OF_BRIDGE:
             return Finding(f"{quoted(dashed)} is an option of {called.fellow('live')}, which starts the program and "
                            "the bridge", None, f"`{called.fellow('live')} --help` shows how it is used")
+        if dashed in ("-h", "--help", "--version"):
+            return Finding(f"the program has no word {quoted(dashed)}", None, f"its words are {FORMS}")
         others = [word for word in rest if not word.startswith("-")]
         is_octets = first == "live" and difflib.SequenceMatcher(None, dashed, OCTETS).ratio() > LIKE
         meant = [first] + [OCTETS] * is_octets + others
@@ -160,6 +162,9 @@ def missing_file(name: str, advice: str | None, reason: OSError) -> Finding:
     if not isinstance(reason, FileNotFoundError):
         return Finding(f"{quoted(name)} can't be read: {reason.strerror}", None, advice)
     folder = os.path.dirname(name) or "."
+    if name.startswith("~") and os.path.exists(os.path.expanduser(name)):
+        advice = "a shell puts the home in the place of `~` where no quotes stand around it: write " + \
+            os.path.expanduser(name)
     if not os.path.isdir(folder):
         return Finding(f"{quoted(name)} isn't there: there is no folder {quoted(folder)}", None, advice)
     try:
