@@ -89,6 +89,8 @@ CASES = [
                               "02:aa:00:00:00:01 is"]),
     ([wire("02aa00000010")], ["no station of attic that is associated; 02:aa:00:00:00:01 is, and", "`02aa00000001`"]),
     ([wire("02aa00000010"[:-2] + "02")], ["nearly the same", "write `02aa00000001`"]),
+    ([probe("attic").replace(STATION, THIRD), wire(THIRD)], ["no station of attic that is associated: "
+                                                             "02:aa:00:00:00:01 is"]),
     ([wire(OTHER)], ["is a station of cellar", f"`W {CELLARS}`"]),
     ([wire(HOST, STATION)], ["its source 02:aa:00:00:00:01 is one", "begins with its destination",
                              f"`{STATION} {HOST}`"]),

@@ -27,6 +27,7 @@ QUOTES = re.compile("[\u2018-\u201f\u00ab\u00bb\u2039\u203a`\u00b4]")
 REMARK = re.compile(r"\s*(?:;|//|--|/\*|!|%|REM\b)")
 WORD = re.compile(r"[A-Za-z_][A-Za-z0-9_-]*")
 WORD_BEFORE_KEY = re.compile(r"(export|set|let|var|local|const|uci set)\s+([\w-]+)\s*=\s*(.+)")
+TAG = re.compile(r"</?[a-z]+ ?/?>")
 # What stands for a value in a template, or for a variable of a shell.
 UNFILLED = re.compile(r"\{\{.*|\$\{?\w+\}?|%\w+%|@\w+@|<[\w -]+>")
 
@@ -203,6 +204,21 @@ def of_key(place: Place, line: str, fault: NoToml, source: Source) -> Finding:
     return Finding("a line is a key, `=` and a value, or a table's header", place, "a remark begins with `#`")
 
 
+def of_copied(place: Place, text: str, name: str) -> Finding | None:
+    """A value with what another language or a page has around it, or with what stands for a value in a template."""
+    if text.startswith("="):
+        return Finding("`=` stands twice", place, f"write `{name} = {text.lstrip('= ')}`")
+    if TAG.search(text) and not TAG.fullmatch(text):
+        return Finding("this line was copied out of a page of HTML", place,
+                       f"write `{name} = {TAG.sub('', text).strip()}`")
+    if re.fullmatch(r'\\".*\\"', text):
+        return Finding("quotes stand without a backslash before them", place, f'write `{name} = "{text[2:-2]}"`')
+    if UNFILLED.search(text):
+        return Finding(f"{quoted(text)} stands for a value that nothing has put here: this text is a template", place,
+                       f"write a value, as `{name} = {SAMPLES[name]}`" if name in SAMPLES else None)
+    return None
+
+
 def is_yaml(source: Source, number: int) -> bool:
     """Whether a line is a name and `:` alone, and what follows it is indented or begins with `-`."""
     line, behind = source.line(number).rstrip(), source.line(number + 1)
@@ -218,17 +234,9 @@ def of_value(place: Place, line: str, fault: NoToml, source: Source) -> Finding:
     name = key or "the key"
     if not text:
         return Finding(f"`{name}` has no value", place, f"write `{key} = {SAMPLES[key]}`" if key in SAMPLES else None)
-    if text.startswith("="):
-        return Finding("`=` stands twice", place, f"write `{name} = {text.lstrip('= ')}`")
-    tags = re.compile(r"</?[a-z]+ ?/?>")
-    if tags.search(text) and not tags.fullmatch(text):
-        return Finding("this line was copied out of a page of HTML", place, f"write `{name} = "
-                       f"{tags.sub('', text).strip()}`")
-    if re.fullmatch(r'\\".*\\"', text):
-        return Finding("quotes stand without a backslash before them", place, f'write `{name} = "{text[2:-2]}"`')
-    if UNFILLED.search(text):
-        return Finding(f"{quoted(text)} stands for a value that nothing has put here: this text is a template", place,
-                       f"write a value, as `{name} = {SAMPLES[name]}`" if name in SAMPLES else None)
+    copied = of_copied(place, text, name)
+    if copied:
+        return copied
     if QUOTES.search(text):
         plain = QUOTES.sub('"', text)
         return Finding("these quotes are of print, and TOML's are `\"` and `'`", place, f"write `{name} = {plain}`")

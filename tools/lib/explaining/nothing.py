@@ -43,7 +43,7 @@ class Looked:
         if told:
             return told
         like = nearest(address, [station.address for station in self.section.stations])
-        if like is not None and state == "unknown":
+        if like is not None and state == "unknown" and address not in self.past.seen:
             return f"{address_text(like)} is one of this network, and nearly the same"
         return "it joined before the trace begins, or never" if state == "unknown" else "it never asked to associate"
 
@@ -81,7 +81,7 @@ def from_wire(looked: Looked, octets: bytes) -> Reason:
     if looked.station(to) is not None:
         return Reason(f"{said}: {looked.why_not_there(to, 'authenticated')}", (0, 6))
     told = whereabouts(looked.step, looked.bssid, to, looked.past)
-    like = nearest(to, looked.associated()) if told is None else None
+    like = nearest(to, looked.associated()) if told is None and to not in looked.past.seen else None
     if like is not None:
         return Reason(f"{said}; {address_text(like)} is, and nearly the same", (0, 6), f"write `{like.hex()}`")
     return Reason(f"{said}: {told or stations_text(looked)}", (0, 6), of_wire(looked, to))

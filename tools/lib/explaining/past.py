@@ -15,11 +15,13 @@ def station_in(section: Section, address: bytes) -> Station | None:
 
 
 class Past:
-    """The last of these of each station in each network, in words."""
+    """The last of these of each station in each network, in words, and who has sent anything: an address that was seen
+    isn't a slip of another one."""
 
     def __init__(self, line_number: Callable[[int], int]) -> None:
         self.line_number = line_number
         self.told: dict[tuple[bytes, bytes], str] = {}
+        self.seen: set[bytes] = set()
 
     def of(self, bssid: bytes, station: bytes) -> str | None:
         """What is told of a station in a network."""
@@ -30,6 +32,7 @@ class Past:
         if step.line.kind != "A" or len(step.line.octets) < 16:
             return
         station = Frame(step.line.octets).transmitter
+        self.seen.add(station)
         for bssid, after in step.after.items():
             before = step.before[bssid]
             told = self.change(step, station_in(before, station), station_in(after, station)) or \
