@@ -88,7 +88,7 @@ CASES = [
     ([wire("02aa00000099")], ["my.trace:5:21", "it changes nothing in attic", "02:aa:00:00:00:99",
                               "02:aa:00:00:00:01 is"]),
     ([wire("02aa00000010")], ["no station of attic that is associated; 02:aa:00:00:00:01 is, and", "`02aa00000001`"]),
-    ([wire("02aa00000010"[:-2] + "02")], ["nearly the same", "write `02aa00000001`"]),
+    ([wire("02aa00000002")], ["nearly the same", "write `02aa00000001`"]),
     ([probe("attic").replace(STATION, THIRD), wire(THIRD)], ["no station of attic that is associated: "
                                                              "02:aa:00:00:00:01 is"]),
     ([wire(OTHER)], ["is a station of cellar", f"`W {CELLARS}`"]),
