@@ -90,6 +90,8 @@ def status_text(status: int) -> str:
 
 def sent_text(octets: bytes) -> str:
     """A frame that a network sends on the air."""
+    if len(octets) < LEAST_NAMED:
+        return octets_text(len(octets))
     frame = Frame(octets)
     said = f"{kind_of(octets)} to {address_word(frame.receiver)}"
     if frame.type == DATA:

@@ -1,7 +1,16 @@
 """Tests of what tools/explain says of single lines of a run that ended well: those that did nothing, those that were
 refused, and those that lost a unit."""
-from common import PROGRAM, ToolTest, needs_program, tool
-from explaining.outcomes import MOST_GROUPS
+import random
+
+from common import PROGRAM, ToolTest, mutated, needs_program, tool
+from explaining.changes import has_effect
+from explaining.config import networks_of
+from explaining.line_by_line import steps
+from explaining.outcomes import MOST_GROUPS, Outcomes
+from explaining.source import Source
+from texts import trace_line
+
+RUNS, LINES = 40, 60
 
 CONFIG = """version = 2
 channel = 6
@@ -191,7 +200,19 @@ CASES = [
 ]
 
 
-class Outcomes(ToolTest):
+def is_silent(step):
+    """Whether a network took a line, and none sent or changed anything."""
+    taking = [bssid for bssid, after in step.after.items() if after.events != step.before[bssid].events]
+    return bool(taking) and not step.sent and not any(has_effect(step.before[bssid],
+                                                                 step.after[bssid]) for bssid in taking)
+
+
+def is_told_in_sum(octets):
+    """Whether a frame is of QoS, or one that a network sent."""
+    return len(octets) > 1 and octets[0] & 0x8C == 0x88 or octets[10:16].hex() in (ATTIC, CELLAR)
+
+
+class SingleLines(ToolTest):
     """Single lines of runs."""
 
     def explained(self, lines, config=CONFIG):
@@ -217,6 +238,34 @@ class Outcomes(ToolTest):
         lines = [probe("attic"), data(), null(), wire(), "T", poll(), null("4801"), data(station=OTHER, network=CELLAR),
                  managed("c000", "0300"), managed("a000", "0300", OTHER, CELLAR)]
         self.assertEqual(self.explained(JOINED + lines), "the program ended well\nnothing odd was found in this run\n")
+
+    @needs_program
+    def test_each_silent_line_has_a_reason(self):
+        """Of frames that are changed at random each one that brings nothing has a reason, but for those that are told of
+        in sum: QoS, and a network's own."""
+        draw, pool = random.Random(62), [line for lines, _ in CASES for line in lines] + JOINED * 3
+        silent = 0
+        for _ in range(RUNS):
+            lines = [self.changed(draw, draw.choice(pool)) for _ in range(LINES)]
+            parsed = [trace_line(number, line) for number, line in enumerate(lines, 1)]
+            outcomes = Outcomes(Source("my.trace", "\n".join(lines).encode()),
+                                networks_of(Source("my.toml", CONFIG.encode())))
+            for step in steps(PROGRAM, CONFIG.encode(), parsed):
+                if is_silent(step) and not is_told_in_sum(step.line.octets):
+                    self.assertNotEqual(list(outcomes.of_step(step)), [], lines[step.line.number - 1])
+                    silent += 1
+                outcomes.take(step)
+            for finding in outcomes.findings():
+                finding.shown()
+        self.assertGreater(silent, RUNS * LINES / 5)
+
+    def changed(self, draw, line):
+        """A line of a trace, whose frame is another one in half of all cases."""
+        if line == "T" or draw.randrange(2):
+            return line
+        words = line.split(" ")
+        head = words[:1 if words[0] == "A" else 2]
+        return " ".join([*head, mutated(draw, bytes.fromhex("".join(words[len(head):])))[:4096].hex()])
 
     @needs_program
     def test_lines_of_one_cause_are_told_once(self):

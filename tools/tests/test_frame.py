@@ -2,11 +2,12 @@
 last octet and written again, and what isn't read is told with its reason."""
 import glob
 import os
+import random
 import re
 import shlex
 import subprocess
 
-from common import CASES, ROOT, ToolTest, heard, input_of, report_of, tool, with_report
+from common import CASES, ROOT, ToolTest, heard, input_of, mutated, report_of, tool, with_report
 from fields import fields_on_air, fields_on_wire
 from framing.networks import Networks
 from framing.reading_out import lines_for
@@ -16,7 +17,7 @@ from texts import read_text
 from writing import frame_of, wanted_of
 
 FIRST, PAGE = CASES["first_trace"], os.path.join(ROOT, "docs", "FIRST_TRACE.md")
-MOST_WORDS = 700
+MOST_WORDS, MUTATIONS = 700, 3000
 LAB, OURS, STATION = "02:00:00:00:00:01", "020000000001", "02aa00000001"
 RECORDED = glob.glob(os.path.join(ROOT, "crates", "recorded_frames", "specs", "*.antt"))
 RATES = "010482840b16"
@@ -197,6 +198,16 @@ class Frames(ToolTest):
             status, found, stderr = tool("frame", *line.split())
             self.assertEqual((status, stderr), (0, ""), line)
             self.assertIn(says, found, line)
+
+    def test_any_octets_are_shown(self):
+        """Whatever octets are given, they are shown, and something is said of them."""
+        draw, frames = random.Random(61), list(on_air())
+        kinds = [Networks([]), Networks.of(self.config)]
+        for _ in range(MUTATIONS):
+            octets = mutated(draw, draw.choice(frames)) or b"\0"
+            word = draw.choice(["A", f"W {LAB}", "air", "wire"])
+            self.assertGreater(len(lines_for([*word.split(), octets.hex()], draw.choice(kinds))), 1,
+                               (word, octets.hex()))
 
     def test_words_write_lines(self):
         """Each kind of frame, as its words ask for it."""
