@@ -62,6 +62,21 @@ class Asked(ToolTest):
             self.assertLessEqual(self.browser.value(table), width)
         self.assertEqual(self.browser.faults, [])
 
+    def test_names_stay_in_sight(self):
+        """Where the picture is wider than the window, the names of networks and rows stay at its left, above the
+        shapes."""
+        self.browser.size(390, 844)
+        self.browser.value("document.getElementById('picture').scrollLeft = 400")
+        lefts = "[...document.querySelectorAll('#picture text.name')].map(name => name.getBoundingClientRect().left)"
+        self.browser.wait(f"Math.min(...{lefts}) >= 0")
+        found = self.browser.value(lefts)
+        self.assertGreater(len(found), 10)
+        self.assertLess(max(found), 150)
+        box = "document.querySelector('#picture text.name:last-of-type').getBoundingClientRect()"
+        top = f"box = {box}, document.elementFromPoint((box.left + box.right) / 2, (box.top + box.bottom) / 2).tagName"
+        self.assertEqual(self.browser.value(top), "text")
+        self.assertEqual(self.browser.faults, [])
+
     def test_it_is_dark_where_the_reader_is(self):
         """Page and picture have a dark ground, with light texts, where the browser asks for that, and else a light
         one."""

@@ -312,7 +312,7 @@ class Picture:
     def lane(self, lane, place, strip):
         """One network in a strip: the height of the middle of each of its rows."""
         rows, without_news, left_out = self.rows_of(lane, place, strip)
-        self.canvas.text(MARGIN, self.y + 12, lane.name, TEXT, weight="bold")
+        self.canvas.text(MARGIN, self.y + 12, lane.name, TEXT, weight="bold", of="name")
         more = [f"{without_news} station{'s' * (without_news > 1)} without news"] * (without_news > 0)
         more += [f"{left_out} stations not shown"] * (left_out > 0)
         more = ", ".join(more or ["nothing here"] * (not rows))
@@ -326,7 +326,8 @@ class Picture:
         for row, y in middles.items():
             self.canvas.line(LEFT, y, LEFT + strip.width, y, GRID)
             name = FIXED_ROWS.get(row) or row.hex(":")
-            self.canvas.text(LEFT - NAME_END, y + 4, name, TEXT, anchor="end", fill=PURPLE if row in roaming else DARK)
+            self.canvas.text(LEFT - NAME_END, y + 4, name, TEXT, anchor="end", fill=PURPLE if row in roaming else DARK,
+                             of="name")
         for span in lane.spans:
             if span.station in middles and strip.overlaps(span.begins, span.ends):
                 self.state(lane, span, strip, middles[span.station])

@@ -89,9 +89,12 @@ class Canvas:
         """A path."""
         self.add("path", d=d, fill=fill, stroke=stroke, **more)
 
-    def text(self, x, y, text, size, anchor="start", weight="normal", fill=INK, upright=False):
-        """A text, whose baseline is at `y`; where it stands upright it goes up from there."""
+    def text(self, x, y, text, size, anchor="start", weight="normal", fill=INK, upright=False, of=""):
+        """A text, whose baseline is at `y`; where it stands upright it goes up from there. `of` names texts of one kind
+        for who shows the picture."""
         more = {"font_weight": "bold"} if weight == "bold" else {}
+        if of:
+            more["class"] = of
         if upright:
             more["transform"] = f"rotate(-90 {number(x)} {number(y)})"
         self.add("text", x=x, y=y, font_size=size, text_anchor=anchor, fill=fill, **more).text = text
