@@ -66,7 +66,7 @@ impl<P: Port> Running<P> {
             poller.remove(wire.port.descriptor())?;
             wire.port.close();
             wire.unblock();
-            wire.set_waited_for(false);
+            wire.settle();
         }
         self.ended.entry(place).or_insert(Ended { since: None, lost: 0 }).since = Some(time);
         Ok(())
@@ -191,7 +191,7 @@ impl<P: Port> Running<P> {
         }
         self.outbound.gates().for_each(|gate| {
             gate.unblock();
-            gate.set_waited_for(false);
+            gate.settle();
         });
         Ok(())
     }

@@ -85,7 +85,7 @@ impl<P: Port> Running<P> {
                 _ => Some(self.outbound.air.gate()),
             };
             if let Some(gate) = gate.filter(|gate| !gate.is_settled()) {
-                gate.set_waited_for(gate.is_blocked());
+                gate.settle();
                 changed.push((token, gate.port.descriptor(), gate.is_blocked()));
             }
         }

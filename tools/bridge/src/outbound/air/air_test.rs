@@ -457,13 +457,13 @@ fn a_frame_that_left_the_radio_keeps_none_waiting_until_outcomes_were_looked_at(
     let first = driver.flush();
     driver.now += 2 * MILLISECOND;
     driver.send(0, long(OURS, STATION, 10));
-    assert!(!driver.air.is_unsettled);
+    assert!(!driver.air.in_flight.is_unknown(0, STATION));
     let second = driver.flush();
     assert_eq!(numbers(&second), [10]);
-    assert!(driver.air.is_unsettled);
+    assert!(driver.air.in_flight.is_unknown(0, STATION));
     driver.reported(0, &second[0], 0, true);
     driver.air.reports_read();
-    assert!(!driver.air.is_unsettled);
+    assert!(!driver.air.in_flight.is_unknown(0, STATION));
     driver.now += 2 * MILLISECOND;
     driver.send(0, long(OURS, STATION, 11));
     assert_eq!(driver.flush(), []);

@@ -1,7 +1,7 @@
 //! A frame goes: whose it is, whether it is held or dropped instead, at which rate it goes, and how often it is tried.
 use std::rc::Rc;
 
-use super::{microseconds, Sent, Transmitter};
+use super::{microseconds, Intake, Link, Reports, Sent, Transmitter};
 use crate::control::faults::is_down;
 use crate::formats::frames::{Address, Frame};
 use crate::formats::radiotap::{sending_header, SENDING_LEN};
@@ -54,7 +54,7 @@ impl<P: Port> Transmitter<P> {
     pub fn flush(&mut self, now: Nanos, until: Nanos) {
         let mut time = now;
         self.settle(now);
-        while !self.gate.is_blocked() && !self.is_down && self.beacons.is_empty() && time < until {
+        while !self.gate.is_blocked() && self.link == Link::Up && self.beacons.is_empty() && time < until {
             while self.chosen.len() < AT_A_TIME && self.choose(now) {}
             if self.chosen.is_empty() {
                 break;
@@ -64,9 +64,9 @@ impl<P: Port> Transmitter<P> {
                 time = clock::now();
             }
         }
-        self.look_due = match (self.is_full, self.look_due) {
-            (false, _) => None,
-            (true, due) => due.or_else(|| Some(self.next_look(now))),
+        self.look_due = match (self.intake, self.look_due) {
+            (Intake::Some | Intake::All, _) => None,
+            (Intake::Nothing, due) => due.or_else(|| Some(self.next_look(now))),
         };
     }
 
@@ -78,10 +78,9 @@ impl<P: Port> Transmitter<P> {
             None => {}
             Some(Ok(0)) => {
                 self.in_flight.settle();
-                self.is_full = false;
-                self.is_unsettled = true;
+                self.resume();
             }
-            Some(_) => self.is_late = true,
+            Some(_) => self.reports = Reports::Wanted,
         }
     }
 
@@ -105,11 +104,12 @@ impl<P: Port> Transmitter<P> {
                 let rate = self.links.expected_rate(place, address, is_unit);
                 let size = Size { octets: frame.octets.len(), rate, is_acknowledged: !address.is_group() };
                 let (cost, octets, kind) = (size.cost(), Rc::clone(&frame.octets), frame.kind);
-                self.is_full = !self.is_ending && !self.in_flight.has_room(cost.tries(1), now);
-                if self.is_full {
+                if self.intake != Intake::All && !self.in_flight.has_room(cost.tries(1), now) {
+                    self.intake = Intake::Nothing;
                     self.busy_until = now + BUSY_SINCE_FULL;
                     return false;
                 }
+                self.resume();
                 return self.take((place, receiver, address), kind, &octets, (size, cost), now);
             }
         }
@@ -206,7 +206,7 @@ impl<P: Port> Transmitter<P> {
                 self.spare.truncate(AT_A_TIME);
                 self.sent += number as u64;
             }
-            Err(fault) if is_down(&fault) => self.is_down = true,
+            Err(fault) if is_down(&fault) => self.link = Link::Down,
             Err(fault) => {
                 if let Some((name, packet)) = self.chosen.pop_front() {
                     count_refused(&self.gate, packet.len(), &fault, &mut self.counts);

@@ -1,8 +1,44 @@
 //! The way of a frame to the air: when it goes, at which rate, how often it is tried, and when it is given up.
 //!
-//! Beacons go at once, by a socket of their own. All other frames wait: those of each network in queues of its own, one
-//! for each station, one for its groups, and one for answers to whoever isn't associated. Whose frame goes next is said
-//! by `scheduler`, how much the radio has at once by `in_flight`, and at which rate a station is sent to by `links`.
+//! The rules, of any order of calls. A *receiver* is a station, all groups of a network, or all others, who aren't
+//! associated with it.
+//!
+//! What may wait (`enqueue`, `beacons`):
+//!
+//! 1. A beacon waits apart from all else. Where more than two of each network would wait, the oldest is dropped.
+//! 2. Any other frame waits in its network for its receiver. 64 wait for a station at most, 256 for groups and 256 for
+//!    others; one more drops the oldest of its receiver.
+//! 3. Of a network 2 MB wait at most. What is beyond that is the oldest of the receiver for which most frames wait.
+//! 4. A unit that is sent once more drops nothing, and so may be one too many.
+//!
+//! What goes next (`scheduler`):
+//!
+//! 5. No frame goes while a beacon waits, but for beacons.
+//! 6. Of the networks with a frame that may go, the proved rule says which one sends. Its receivers take turns by the
+//!    same rule.
+//!
+//! When it is held:
+//!
+//! 7. A station's frames are held while `links` waits for what became of the frame before: of a sample, of a unit that
+//!    is sent once more, and of each frame after a lost one. They are held for 200 ms at most.
+//! 8. They are held while the radio's oldest frame is theirs and overdue (`in_flight`), and where the station loses
+//!    tries and few frames wait for it, while the radio has any of them.
+//! 9. All but beacons are held while the radio has as much as it sends in some 8 ms, unless the bridge ends.
+//! 10. All but beacons are held while the interface is down or its socket has no room.
+//!
+//! When it is dropped, besides 1 to 3:
+//!
+//! 11. When a frame's turn comes, it is dropped if it has waited longer than its kind is worth (`frame`). Late units
+//!     go for a while all the same (`lateness`).
+//! 12. A frame that the interface refuses is dropped. One that had its turn before the interface went down is dropped
+//!     once that lasted for 50 ms.
+//!
+//! In which order:
+//!
+//! 13. Frames for one receiver go in the order in which they came. Only a lost unit goes once more before the others
+//!     for its station, and only where nothing was sent to that since.
+//! 14. Each frame waits, went or was dropped: one of them, once. Those that were dropped are counted with the reason.
+//!
 //! Rate and cost are chosen when a frame goes. What the radio then says of its tries corrects the share of its network.
 pub mod account;
 pub mod air_time;
@@ -44,6 +80,33 @@ struct Sent {
     is_own: bool,
 }
 
+/// How much the radio is given of what waits, beacons left out.
+#[derive(Debug, Clone, Copy, PartialEq, Eq)]
+enum Intake {
+    /// As much as it sends in some milliseconds.
+    Some,
+    /// Nothing until it has told of a frame: it has as much as it may have at once.
+    Nothing,
+    /// All, however much it has: the bridge ends.
+    All,
+}
+
+/// Whether what the radio told of frames is to be read though no frame waits for it.
+#[derive(Debug, Clone, Copy, PartialEq, Eq)]
+enum Reports {
+    Read,
+    /// The radio is late with a frame, unless what it told of that one is unread.
+    Wanted,
+}
+
+/// How the interface is.
+#[derive(Debug, Clone, Copy, PartialEq, Eq)]
+enum Link {
+    Up,
+    /// The radio is given nothing but beacons, which it refuses.
+    Down,
+}
+
 /// Sends the frames of all networks by a monitor interface.
 #[derive(Debug)]
 pub struct Transmitter<P> {
@@ -58,20 +121,13 @@ pub struct Transmitter<P> {
     /// The room of frames that were sent, for those that come.
     spare: Vec<Vec<u8>>,
     accounts: Vec<Account>,
-    /// Whether the radio has as much as it may have at once.
-    is_full: bool,
-    /// Until when it is busy, since it had that.
+    intake: Intake,
+    /// Until when the radio is busy, since it had as much as it may have at once.
     busy_until: Nanos,
-    /// Whether the radio has sent frames of which nobody looked yet what became of them.
-    is_unsettled: bool,
-    /// Whether the radio is late with a frame, unless it has told of that one and nobody looked yet.
-    is_late: bool,
+    reports: Reports,
     /// When the radio's socket is looked at, while frames wait for the radio.
     look_due: Option<Nanos>,
-    /// Whether the radio is given all that waits.
-    is_ending: bool,
-    /// Whether the interface is down, so that the radio is given nothing but beacons, which it refuses.
-    is_down: bool,
+    link: Link,
     sent: u64,
     /// What the interface refused.
     counts: Counts,
@@ -90,13 +146,11 @@ impl<P: Port> Transmitter<P> {
             chosen: VecDeque::new(),
             spare: Vec::new(),
             accounts: vec![Account::default(); networks.len()],
-            is_full: false,
+            intake: Intake::Some,
             busy_until: 0,
-            is_unsettled: false,
-            is_late: false,
+            reports: Reports::Read,
             look_due: None,
-            is_ending: false,
-            is_down: false,
+            link: Link::Up,
             sent: 0,
             counts: Counts::new(),
         }
@@ -142,8 +196,8 @@ impl<P: Port> Transmitter<P> {
 
     /// Whether a frame waits that may go now.
     pub fn has_room(&self) -> bool {
-        let waits = !self.chosen.is_empty() || self.scheduler.has_ready() && !self.is_full;
-        waits && !self.gate.is_blocked() && !self.is_down || self.beacons.has_room()
+        let waits = !self.chosen.is_empty() || self.scheduler.has_ready() && self.intake != Intake::Nothing;
+        waits && !self.gate.is_blocked() && self.link == Link::Up || self.beacons.has_room()
     }
 
     /// Whether nothing waits, for room or to be sent.
@@ -153,18 +207,18 @@ impl<P: Port> Transmitter<P> {
 
     /// Whether the interface is down.
     pub fn is_down(&self) -> bool {
-        self.is_down
+        self.link == Link::Down
     }
 
     /// The interface is down: what is to be sent waits.
     pub fn went_down(&mut self) {
-        self.is_down = true;
+        self.link = Link::Down;
     }
 
     /// The interface is up again after so long. What had its turn before is dropped where it waited too long meanwhile;
     /// what waits for its turn is looked at when that comes.
     pub fn came_up(&mut self, after: Nanos) {
-        self.is_down = false;
+        self.link = Link::Up;
         self.gate.port.forget_fault();
         self.beacons.forget_fault();
         if after > LONGEST {
@@ -182,13 +236,14 @@ impl<P: Port> Transmitter<P> {
     pub fn flush_beacons(&mut self) {
         let flushed = self.beacons.flush(&mut self.counts);
         self.sent += flushed.sent;
-        self.is_down |= flushed.is_down;
+        if flushed.is_down {
+            self.link = Link::Down;
+        }
     }
 
     /// From now on the radio is given all that waits, however much it has.
     pub fn end(&mut self) {
-        self.is_ending = true;
-        self.is_full = false;
+        self.intake = Intake::All;
     }
 }
 

@@ -1,5 +1,5 @@
 //! The radio tells what became of a frame: who waited for that goes on, and the share of its network is corrected.
-use super::{microseconds, Transmitter};
+use super::{microseconds, Intake, Reports, Transmitter};
 use crate::formats::frames::{Address, Frame};
 use crate::formats::radiotap::Outcome;
 use crate::os::clock::Nanos;
@@ -24,15 +24,13 @@ impl<P: Port> Transmitter<P> {
 
     /// Whether what the radio tells of frames that it has is to be looked at now.
     pub fn wants_outcomes(&self) -> bool {
-        self.holds_back() || self.is_late
+        self.holds_back() || self.reports == Reports::Wanted
     }
 
     /// What the radio told so far was looked at.
     pub fn reports_read(&mut self) {
-        self.is_late = false;
-        if std::mem::take(&mut self.is_unsettled) {
-            self.in_flight.reports_read();
-        }
+        self.reports = Reports::Read;
+        self.in_flight.reports_read();
     }
 
     /// The radio shows a frame that it sent, with what became of it.
@@ -46,7 +44,7 @@ impl<P: Port> Transmitter<P> {
         let found = self.in_flight.reported(name, now, |sent| sent.cost.tries(retries + 1));
         if let Some(sent) = &found {
             let more = sent.cost.sending(retries);
-            self.is_full = false;
+            self.resume();
             self.accounts[place].used += more;
             self.scheduler.correct(place, sent.receiver, microseconds(more));
         }
@@ -93,9 +91,18 @@ impl<P: Port> Transmitter<P> {
         }
     }
 
+    /// The radio may have more again.
+    pub(super) fn resume(&mut self) {
+        if self.intake == Intake::Nothing {
+            self.intake = Intake::Some;
+        }
+    }
+
     /// The radio doesn't have these frames any more, and said nothing of them.
     pub(super) fn left(&mut self, gone: Vec<FrameName>) {
-        self.is_full &= gone.is_empty();
+        if !gone.is_empty() {
+            self.resume();
+        }
         gone.into_iter().for_each(|name| self.release(name.place, name.receiver));
     }
 }
