@@ -82,7 +82,7 @@ impl<P: Port> Running<P> {
         for token in std::iter::once(Token::Monitor).chain((0..self.networks.len()).map(Token::Wire)) {
             let gate = match token {
                 Token::Wire(place) => self.outbound.wire(place),
-                _ => Some(self.outbound.air.gate()),
+                _ => Some(self.outbound.monitor.gate()),
             };
             if let Some(gate) = gate.filter(|gate| !gate.is_settled()) {
                 gate.settle();

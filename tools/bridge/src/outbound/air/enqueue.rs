@@ -5,7 +5,6 @@ use super::Transmitter;
 use crate::formats::frames::{Address, Frame, BEACON};
 use crate::formats::radiotap::sending_header;
 use crate::os::clock::Nanos;
-use crate::os::sockets::Port;
 use crate::outbound::air::account::Unsent;
 use crate::outbound::air::frame::{FrameKind, OutboundFrame, Receiver, PROBE_RESPONSE};
 use crate::outbound::air::links::accepts;
@@ -17,7 +16,7 @@ const MOST_FOR_OTHERS: usize = 256;
 /// The most octets that wait of a network.
 pub const MOST_OCTETS: usize = 2 << 20;
 
-impl<P: Port> Transmitter<P> {
+impl Transmitter {
     /// A network sends a frame, at this time.
     pub fn send(&mut self, place: Place, octets: Vec<u8>, now: Nanos) {
         let (address, kind) = match Frame::of(&octets) {

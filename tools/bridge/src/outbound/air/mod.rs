@@ -1,5 +1,9 @@
 //! The way of a frame to the air: when it goes, at which rate, how often it is tried, and when it is given up.
 //!
+//! This is a state machine without sockets and clocks: calls bring the time, and the same calls have the same answers.
+//! `monitor` does what is left to others. It hands the packets to the radio's sockets, in their order, asks the socket
+//! whether it is empty, and says when time has passed.
+//!
 //! The rules, of any order of calls. A *receiver* is a station, all groups of a network, or all others, who aren't
 //! associated with it.
 //!
@@ -43,6 +47,7 @@
 pub mod account;
 pub mod air_time;
 mod beacons;
+mod chosen;
 mod dequeue;
 mod enqueue;
 pub mod frame;
@@ -57,11 +62,9 @@ pub mod scheduler;
 use std::collections::VecDeque;
 
 use crate::formats::frames::Frame;
-use crate::inbound::frame::LONGEST;
 use crate::network::Network;
 use crate::os::clock::Nanos;
-use crate::os::sockets::{Port, AT_A_TIME};
-use crate::outbound::air::account::{Account, Unsent};
+use crate::outbound::air::account::Account;
 use crate::outbound::air::air_time::Cost;
 use crate::outbound::air::beacons::Beacons;
 use crate::outbound::air::frame::{OutboundFrame, Receiver};
@@ -69,8 +72,6 @@ use crate::outbound::air::in_flight::{FrameName, InFlight};
 use crate::outbound::air::lateness::Lateness;
 use crate::outbound::air::links::{Links, Unacknowledged};
 use crate::outbound::air::scheduler::{Place, Scheduler};
-use crate::outbound::counts::Counts;
-use crate::outbound::gate::Gate;
 
 /// What is known of a frame that the radio has.
 #[derive(Debug, Clone, Copy)]
@@ -107,11 +108,10 @@ enum Link {
     Down,
 }
 
-/// Sends the frames of all networks by a monitor interface.
+/// The frames of all networks that one radio sends.
 #[derive(Debug)]
-pub struct Transmitter<P> {
-    gate: Gate<P>,
-    beacons: Beacons<P>,
+pub struct Transmitter {
+    beacons: Beacons,
     scheduler: Scheduler<Receiver, OutboundFrame>,
     links: Links,
     lateness: Lateness,
@@ -129,16 +129,13 @@ pub struct Transmitter<P> {
     look_due: Option<Nanos>,
     link: Link,
     sent: u64,
-    /// What the interface refused.
-    counts: Counts,
 }
 
-impl<P: Port> Transmitter<P> {
-    /// For these networks, of these weights, by two sockets of the monitor interface: one for beacons alone.
-    pub fn new(networks: &[Network], port: P, beacons: P) -> Transmitter<P> {
+impl Transmitter {
+    /// For these networks, of these weights. Nothing waits.
+    pub fn new(networks: &[Network]) -> Transmitter {
         Transmitter {
-            gate: Gate::new(port),
-            beacons: Beacons::new(beacons, networks.len()),
+            beacons: Beacons::new(networks.len()),
             scheduler: Scheduler::new(networks.iter().map(|network| network.weight)),
             links: Links::new(networks),
             lateness: Lateness::default(),
@@ -152,23 +149,12 @@ impl<P: Port> Transmitter<P> {
             look_due: None,
             link: Link::Up,
             sent: 0,
-            counts: Counts::new(),
         }
-    }
-
-    /// The monitor interface.
-    pub fn gate(&mut self) -> &mut Gate<P> {
-        &mut self.gate
     }
 
     /// How many frames were sent.
     pub fn sent(&self) -> u64 {
         self.sent
-    }
-
-    /// What the interface refused.
-    pub fn counts(&self) -> &Counts {
-        &self.counts
     }
 
     /// What the air was to each network.
@@ -194,51 +180,20 @@ impl<P: Port> Transmitter<P> {
         }
     }
 
-    /// Whether a frame waits that may go now.
-    pub fn has_room(&self) -> bool {
+    /// Whether a frame that is no beacon waits and may go now, if the socket has room.
+    pub fn has_next(&self) -> bool {
         let waits = !self.chosen.is_empty() || self.scheduler.has_ready() && self.intake != Intake::Nothing;
-        waits && !self.gate.is_blocked() && self.link == Link::Up || self.beacons.has_room()
+        waits && self.link == Link::Up
     }
 
-    /// Whether nothing waits, for room or to be sent.
-    pub fn is_idle(&self) -> bool {
-        self.scheduler.is_empty() && self.chosen.is_empty() && self.beacons.is_empty() && self.gate.is_settled()
+    /// Whether nothing waits.
+    pub fn is_empty(&self) -> bool {
+        self.scheduler.is_empty() && self.chosen.is_empty() && self.beacons.is_empty()
     }
 
     /// Whether the interface is down.
     pub fn is_down(&self) -> bool {
         self.link == Link::Down
-    }
-
-    /// The interface is down: what is to be sent waits.
-    pub fn went_down(&mut self) {
-        self.link = Link::Down;
-    }
-
-    /// The interface is up again after so long. What had its turn before is dropped where it waited too long meanwhile;
-    /// what waits for its turn is looked at when that comes.
-    pub fn came_up(&mut self, after: Nanos) {
-        self.link = Link::Up;
-        self.gate.port.forget_fault();
-        self.beacons.forget_fault();
-        if after > LONGEST {
-            for (name, packet) in std::mem::take(&mut self.chosen) {
-                *self.accounts[name.place].unsent.entry(Unsent::Late).or_default() += 1;
-                self.spare.push(packet);
-                self.in_flight.forget(name);
-                self.release(name.place, name.receiver);
-            }
-            self.spare.truncate(AT_A_TIME);
-        }
-    }
-
-    /// Sends the beacons that wait.
-    pub fn flush_beacons(&mut self) {
-        let flushed = self.beacons.flush(&mut self.counts);
-        self.sent += flushed.sent;
-        if flushed.is_down {
-            self.link = Link::Down;
-        }
     }
 
     /// From now on the radio is given all that waits, however much it has.

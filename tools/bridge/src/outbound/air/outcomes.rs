@@ -3,7 +3,6 @@ use super::{microseconds, Intake, Reports, Transmitter};
 use crate::formats::frames::{Address, Frame};
 use crate::formats::radiotap::Outcome;
 use crate::os::clock::Nanos;
-use crate::os::sockets::Port;
 use crate::outbound::air::dequeue::LOOK_EVERY;
 use crate::outbound::air::frame::{FrameKind, OutboundFrame, Receiver};
 use crate::outbound::air::in_flight::FrameName;
@@ -11,7 +10,7 @@ use crate::outbound::air::links::Next;
 use crate::outbound::air::scheduler::Place;
 use crate::stations::own_frames::is_null_of_network;
 
-impl<P: Port> Transmitter<P> {
+impl Transmitter {
     /// Whether one waits for what the radio tells of frames that it has.
     pub fn awaits_outcomes(&self) -> bool {
         self.holds_back() || self.links.due().is_some()
@@ -80,14 +79,21 @@ impl<P: Port> Transmitter<P> {
         while let Some((place, address)) = self.links.expire(now) {
             self.release(place, address);
         }
-        if self.look_due.map_or(false, |due| due <= now) {
+    }
+
+    /// Whether one looks at the radio's socket at this time.
+    pub fn wants_look(&self, now: Nanos) -> bool {
+        self.look_due.map_or(false, |due| due <= now)
+    }
+
+    /// The radio's socket was looked at, and is empty or isn't.
+    pub fn looked(&mut self, is_empty: bool, now: Nanos) {
+        if is_empty && self.chosen.is_empty() {
             self.look_due = None;
-            if self.chosen.is_empty() && matches!(self.gate.port.unsent(), Ok(0)) {
-                let gone = self.in_flight.clear();
-                self.left(gone);
-            } else {
-                self.look_due = Some(now + LOOK_EVERY);
-            }
+            let gone = self.in_flight.clear();
+            self.left(gone);
+        } else {
+            self.look_due = Some(now + LOOK_EVERY);
         }
     }
 
