@@ -57,6 +57,7 @@ pub mod links;
 mod outcomes;
 pub mod proved_rule;
 pub mod rate_control;
+mod reporting;
 pub mod scheduler;
 
 use std::collections::VecDeque;
