@@ -6,9 +6,9 @@ use crate::os::clock::{MILLISECOND, SECOND};
 use crate::outbound::air::account::Unsent;
 use crate::outbound::air::air_time::Size;
 use crate::outbound::air::dequeue::{FEW, LOOK_EVERY};
-use crate::outbound::air::enqueue::{MOST_FOR_STATION, MOST_OCTETS};
 use crate::outbound::air::frame::{MOST_LIFETIME, PROBE_RESPONSE};
 use crate::outbound::air::in_flight::MOST_OUT;
+use crate::outbound::air::queue::{MOST_FOR_STATION, MOST_OCTETS};
 use crate::outbound::monitor::Monitor;
 use crate::testing::samples::{network, Recorder, Unit, OTHER, OURS, STATION, STRANGER};
 
@@ -146,7 +146,7 @@ impl Driver {
     }
 
     fn unsent(&self, place: Place, why: Unsent) -> u64 {
-        self.air.accounts[place].unsent.get(&why).copied().unwrap_or(0)
+        self.air.queue.accounts[place].unsent.get(&why).copied().unwrap_or(0)
     }
 }
 
@@ -315,7 +315,7 @@ fn no_more_frames_wait_for_a_station_than_there_is_room_for_and_the_oldest_are_d
         driver.flush_others();
     });
     assert_eq!(numbers(&driver.flush()), [0]);
-    assert_eq!(driver.air.accounts[0].waiting, MOST_FOR_STATION);
+    assert_eq!(driver.air.queue.accounts[0].waiting, MOST_FOR_STATION);
     assert_eq!(driver.unsent(0, Unsent::Crowded), 199 - MOST_FOR_STATION as u64);
     driver.now += MILLISECOND;
     let sample = Seen { rate: 22, retries: 1, frame: unit(OURS, STATION, 0) };
@@ -409,7 +409,7 @@ fn networks_take_turns_by_time_on_the_air() {
         let mut used = [0; 2];
         for round in 0..4000u16 {
             for place in 0..2 {
-                while driver.air.accounts[place].waiting < 4 {
+                while driver.air.queue.accounts[place].waiting < 4 {
                     let bssid = [OURS, OTHER][place];
                     let body = vec![0; if place == 0 { LONG } else { 200 }];
                     driver.send(place, of_network(0x08, bssid, STRANGER, round, body));
@@ -576,7 +576,7 @@ fn what_waits_for_an_interface_that_is_down_goes_once_it_is_up_unless_it_is_late
         assert_eq!(numbers(&driver.beacons()), [7]);
         assert_eq!(driver.unsent(0, Unsent::Late) + driver.unsent(1, Unsent::Late), lost);
         assert_eq!(driver.monitor.counts()["refused by mon0: Network is down"], 1);
-        assert!(!driver.air.is_down() && driver.air.chosen.is_empty() && driver.air.scheduler.is_empty());
+        assert!(!driver.air.is_down() && driver.air.chosen.is_empty() && driver.air.queue.scheduler.is_empty());
     }
 }
 
@@ -631,21 +631,21 @@ fn what_waits_of_a_network_is_bounded_and_the_longest_queue_loses_its_oldest() {
         driver.send(0, of_network(0x08, OURS, Address::of([2, 9, 0, 0, high, low]), number, vec![0; 4000]));
         driver.send(1, of_network(0x08, OTHER, Address::of([2, 9, 0, 0, high, low]), number, vec![0; 10]));
     }
-    let Account { waiting, octets, .. } = driver.air.accounts[0].clone();
+    let Account { waiting, octets, .. } = driver.air.queue.accounts[0].clone();
     assert!(octets <= MOST_OCTETS && waiting == MOST_OCTETS / 4024, "{waiting} {octets}");
     assert_eq!(driver.unsent(0, Unsent::Full) + driver.unsent(0, Unsent::Crowded) + waiting as u64, 4001);
     assert_eq!(driver.unsent(1, Unsent::Full), 0);
-    assert_eq!(driver.air.scheduler.waiting(0, Receiver::Station(STATION)), 1);
+    assert_eq!(driver.air.queue.scheduler.waiting(0, Receiver::Station(STATION)), 1);
 }
 
 #[test]
 fn what_a_network_used_of_the_air_is_counted_with_all_its_tries() {
     let mut driver = driver([1, 1]);
     driver.at_54();
-    let before = driver.air.accounts[0].used;
+    let before = driver.air.queue.accounts[0].used;
     driver.send(0, long(OURS, STATION, 9));
     let sent = driver.flush();
     driver.reported(0, &sent[0], 6, true);
     let size = Size { octets: sent[0].frame.len(), rate: 108, is_acknowledged: true };
-    assert_eq!(driver.air.accounts[0].used - before, size.cost().sending(7));
+    assert_eq!(driver.air.queue.accounts[0].used - before, size.cost().sending(7));
 }

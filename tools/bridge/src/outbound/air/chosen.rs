@@ -3,7 +3,7 @@ use crate::inbound::frame::LONGEST;
 use crate::os::clock::Nanos;
 use crate::outbound::air::account::Unsent;
 use crate::outbound::air::in_flight::FrameName;
-use crate::outbound::air::{Link, Transmitter};
+use crate::outbound::air::{Interface, Transmitter};
 
 /// Of how many frames that were sent the room is kept for those that come.
 const MOST_SPARE: usize = 8;
@@ -34,13 +34,13 @@ impl Transmitter {
 
     /// The interface is down: what is to be sent waits.
     pub fn went_down(&mut self) {
-        self.link = Link::Down;
+        self.interface = Interface::Down;
     }
 
     /// The interface is up again after so long. What had its turn before is dropped where it waited too long meanwhile;
     /// what waits for its turn is looked at when that comes.
     pub fn came_up(&mut self, after: Nanos) {
-        self.link = Link::Up;
+        self.interface = Interface::Up;
         if after > LONGEST {
             for (name, packet) in std::mem::take(&mut self.chosen) {
                 self.lose(name, Unsent::Late);
@@ -52,7 +52,7 @@ impl Transmitter {
 
     /// A frame that had its turn is dropped: the radio never gets it.
     fn lose(&mut self, name: FrameName, why: Unsent) {
-        *self.accounts[name.place].unsent.entry(why).or_default() += 1;
+        self.queue.accounts[name.place].count_unsent(why);
         self.in_flight.forget(name);
         self.release(name.place, name.receiver);
     }

@@ -1,7 +1,7 @@
 //! A frame goes: whose it is, whether it is held or dropped instead, at which rate it goes, and how often it is tried.
 use std::rc::Rc;
 
-use super::{microseconds, Intake, Link, Reports, Sent, Transmitter};
+use super::{microseconds, Intake, Interface, Reports, Sent, Transmitter};
 use crate::formats::frames::{Address, Frame};
 use crate::formats::radiotap::{sending_header, SENDING_LEN};
 use crate::os::clock::{Nanos, MILLISECOND};
@@ -29,13 +29,7 @@ const BUSY_SINCE_FULL: Nanos = 100 * MILLISECOND;
 impl Transmitter {
     /// Whether the frame that waits first is worth nothing any more. A unit's time counts since its station could be
     /// sent to, and late ones go for a while (`lateness`).
-    fn is_worthless(
-        links: &Links,
-        lateness: &mut Lateness,
-        place: Place,
-        frame: &OutboundFrame,
-        now: Nanos,
-    ) -> bool {
+    fn is_worthless(links: &Links, lateness: &mut Lateness, place: Place, frame: &OutboundFrame, now: Nanos) -> bool {
         let waited = now.saturating_sub(frame.since);
         let is_late = waited > frame.kind.lifetime();
         if !matches!(frame.kind, FrameKind::Unit | FrameKind::Again) {
@@ -46,10 +40,10 @@ impl Transmitter {
         lateness.look(place, frame.address, is_late, now) || waited > MOST_LIFETIME
     }
 
-    /// Chooses what goes next, until so many frames are chosen or none may go. Answers whether any is chosen that may be
-    /// handed to the radio: none while a beacon waits.
+    /// Chooses what goes next, until so many frames are chosen or none may go. Answers whether any is chosen that may
+    /// be handed to the radio: none while a beacon waits.
     pub fn choose(&mut self, most: usize, now: Nanos) -> bool {
-        if self.link == Link::Down || !self.beacons.is_empty() {
+        if self.interface == Interface::Down || !self.beacons.is_empty() {
             return false;
         }
         while self.chosen.len() < most && self.choose_one(now) {}
@@ -58,7 +52,7 @@ impl Transmitter {
 
     /// Whether frames wait behind such as are out for long, so that one asks the radio's socket whether they are.
     pub fn is_doubtful(&self, now: Nanos) -> bool {
-        self.in_flight.is_doubtful(now) && self.chosen.is_empty() && self.scheduler.has_ready()
+        self.in_flight.is_doubtful(now) && self.chosen.is_empty() && self.queue.scheduler.has_ready()
     }
 
     /// The radio's socket is empty or isn't. If it is, what became of those frames needn't be known before others go.
@@ -74,8 +68,8 @@ impl Transmitter {
     /// What may go is chosen: the radio's socket is looked at some time later, where frames wait for the radio.
     pub fn set_look(&mut self, now: Nanos) {
         self.look_due = match (self.intake, self.look_due) {
-            (Intake::Some | Intake::All, _) => None,
-            (Intake::Nothing, due) => due.or_else(|| Some(self.next_look(now))),
+            (Intake::Bounded | Intake::Unbounded, _) => None,
+            (Intake::Closed, due) => due.or_else(|| Some(self.next_look(now))),
         };
     }
 
@@ -88,19 +82,19 @@ impl Transmitter {
 
     /// Chooses the frame that goes next; false where none may go now.
     fn choose_one(&mut self, now: Nanos) -> bool {
-        while let Some((place, receiver, frame)) = self.scheduler.first() {
+        while let Some((place, receiver, frame)) = self.queue.scheduler.first() {
             let address = frame.address;
             if Self::is_worthless(&self.links, &mut self.lateness, place, frame, now) {
-                self.drop_first(place, receiver, Unsent::Late);
+                self.queue.drop_first(place, receiver, Unsent::Late);
             } else if matches!(receiver, Receiver::Station(_)) && self.awaits(place, address, now) {
-                self.scheduler.hold(place, receiver);
+                self.queue.scheduler.hold(place, receiver);
             } else {
                 let is_unit = matches!(frame.kind, FrameKind::Unit | FrameKind::Again);
                 let rate = self.links.expected_rate(place, address, is_unit);
                 let size = Size { octets: frame.octets.len(), rate, is_acknowledged: !address.is_group() };
                 let (cost, octets, kind) = (size.cost(), Rc::clone(&frame.octets), frame.kind);
-                if self.intake != Intake::All && !self.in_flight.has_room(cost.tries(1), now) {
-                    self.intake = Intake::Nothing;
+                if self.intake != Intake::Unbounded && !self.in_flight.has_room(cost.tries(1), now) {
+                    self.intake = Intake::Closed;
                     self.busy_until = now + BUSY_SINCE_FULL;
                     return false;
                 }
@@ -118,14 +112,14 @@ impl Transmitter {
         if self.links.is_sure(place, address) {
             return self.in_flight.is_overdue(place, address, now);
         }
-        let goes_alone =
-            self.scheduler.waiting(place, Receiver::Station(address)) <= FEW || self.links.is_in_doubt(place, address);
+        let goes_alone = self.queue.scheduler.waiting(place, Receiver::Station(address)) <= FEW
+            || self.links.is_in_doubt(place, address);
         self.in_flight.is_overdue(place, address, now)
             || self.in_flight.is_unknown(place, address)
             || goes_alone && self.in_flight.has(place, address)
     }
 
-    /// Takes the frame that goes next, and gives it to the radio.
+    /// The frame that goes next goes: its rate and tries are chosen, and its packet is made.
     fn take(
         &mut self,
         (place, receiver, address): (Place, Receiver, Address),
@@ -136,14 +130,13 @@ impl Transmitter {
     ) -> bool {
         let (choice, waits, cost) = self.choice(place, address, kind, octets, expected, now);
         let sending = cost.sending(1);
-        match self.scheduler.serve(place, microseconds(sending)) {
-            Some(frame) => self.count_out(place, &frame),
-            None => return false,
+        if !self.queue.serve(place, microseconds(sending)) {
+            return false;
         }
         if waits {
-            self.scheduler.hold(place, receiver);
+            self.queue.scheduler.hold(place, receiver);
         }
-        self.accounts[place].used += sending;
+        self.queue.accounts[place].used += sending;
         let number = Frame::of(octets).and_then(|frame| frame.sequence_control());
         let name = FrameName { place, receiver: address, number };
         let is_own = matches!(kind, FrameKind::Own { .. });

@@ -7,12 +7,13 @@
 //! The rules, of any order of calls. A *receiver* is a station, all groups of a network, or all others, who aren't
 //! associated with it.
 //!
-//! What may wait (`enqueue`, `beacons`):
+//! What may wait (`queue`, `beacons`):
 //!
-//! 1. A beacon waits apart from all else. Where more than two of each network would wait, the oldest is dropped.
-//! 2. Any other frame waits in its network for its receiver. 64 wait for a station at most, 256 for groups and 256 for
-//!    others; one more drops the oldest of its receiver.
-//! 3. Of a network 2 MB wait at most. What is beyond that is the oldest of the receiver for which most frames wait.
+//! 1. A beacon waits apart from all else. At most twice as many wait as there are networks: one more drops the oldest.
+//! 2. Any other frame waits in its network for its receiver. At most 64 wait for a station, 256 for groups and 256 for
+//!    others. One more drops the oldest of its receiver.
+//! 3. Of a network 2 MB wait at most. What is beyond that is dropped: the oldest frame of the receiver for which most
+//!    wait, of several the last in their order.
 //! 4. A unit that is sent once more drops nothing, and so may be one too many.
 //!
 //! What goes next (`scheduler`):
@@ -23,10 +24,11 @@
 //!
 //! When it is held:
 //!
-//! 7. A station's frames are held while `links` waits for what became of the frame before: of a sample, of a unit that
-//!    is sent once more, and of each frame after a lost one. They are held for 200 ms at most.
-//! 8. They are held while the radio's oldest frame is theirs and overdue (`in_flight`), and where the station loses
-//!    tries and few frames wait for it, while the radio has any of them.
+//! 7. A station's frames are held while `links` waits for what became of the frame before, for 200 ms at most. It waits
+//!    for a sample, for a unit that is sent once more, and for each frame behind a lost one.
+//! 8. They are held while the radio's oldest frame is theirs and overdue (`in_flight`). If the station loses tries,
+//!    they are held too while what became of one that left the radio is unread. If few wait then, or the last one was
+//!    lost, they are held while the radio has any of them.
 //! 9. All but beacons are held while the radio has as much as it sends in some 8 ms, unless the bridge ends.
 //! 10. All but beacons are held while the interface is down or its socket has no room.
 //!
@@ -41,7 +43,8 @@
 //!
 //! 13. Frames for one receiver go in the order in which they came. Only a lost unit goes once more before the others
 //!     for its station, and only where nothing was sent to that since.
-//! 14. Each frame waits, went or was dropped: one of them, once. Those that were dropped are counted with the reason.
+//! 14. Each frame waits, went or was dropped: one of them, once. Those that were dropped are counted with the reason,
+//!     but for beacons that had no room.
 //!
 //! Rate and cost are chosen when a frame goes. What the radio then says of its tries corrects the share of its network.
 pub mod account;
@@ -56,6 +59,7 @@ pub mod lateness;
 pub mod links;
 mod outcomes;
 pub mod proved_rule;
+mod queue;
 pub mod rate_control;
 mod reporting;
 pub mod scheduler;
@@ -68,11 +72,12 @@ use crate::os::clock::Nanos;
 use crate::outbound::air::account::Account;
 use crate::outbound::air::air_time::Cost;
 use crate::outbound::air::beacons::Beacons;
-use crate::outbound::air::frame::{OutboundFrame, Receiver};
+use crate::outbound::air::frame::Receiver;
 use crate::outbound::air::in_flight::{FrameName, InFlight};
 use crate::outbound::air::lateness::Lateness;
 use crate::outbound::air::links::{Links, Unacknowledged};
-use crate::outbound::air::scheduler::{Place, Scheduler};
+use crate::outbound::air::queue::Queue;
+use crate::outbound::air::scheduler::Place;
 
 /// What is known of a frame that the radio has.
 #[derive(Debug, Clone, Copy)]
@@ -86,11 +91,11 @@ struct Sent {
 #[derive(Debug, Clone, Copy, PartialEq, Eq)]
 enum Intake {
     /// As much as it sends in some milliseconds.
-    Some,
+    Bounded,
     /// Nothing until it has told of a frame: it has as much as it may have at once.
-    Nothing,
+    Closed,
     /// All, however much it has: the bridge ends.
-    All,
+    Unbounded,
 }
 
 /// Whether what the radio told of frames is to be read though no frame waits for it.
@@ -103,7 +108,7 @@ enum Reports {
 
 /// How the interface is.
 #[derive(Debug, Clone, Copy, PartialEq, Eq)]
-enum Link {
+enum Interface {
     Up,
     /// The radio is given nothing but beacons, which it refuses.
     Down,
@@ -113,7 +118,7 @@ enum Link {
 #[derive(Debug)]
 pub struct Transmitter {
     beacons: Beacons,
-    scheduler: Scheduler<Receiver, OutboundFrame>,
+    queue: Queue,
     links: Links,
     lateness: Lateness,
     in_flight: InFlight<Sent>,
@@ -121,14 +126,13 @@ pub struct Transmitter {
     chosen: VecDeque<(FrameName, Vec<u8>)>,
     /// The room of frames that were sent, for those that come.
     spare: Vec<Vec<u8>>,
-    accounts: Vec<Account>,
     intake: Intake,
     /// Until when the radio is busy, since it had as much as it may have at once.
     busy_until: Nanos,
     reports: Reports,
     /// When the radio's socket is looked at, while frames wait for the radio.
     look_due: Option<Nanos>,
-    link: Link,
+    interface: Interface,
     sent: u64,
 }
 
@@ -137,18 +141,17 @@ impl Transmitter {
     pub fn new(networks: &[Network]) -> Transmitter {
         Transmitter {
             beacons: Beacons::new(networks.len()),
-            scheduler: Scheduler::new(networks.iter().map(|network| network.weight)),
+            queue: Queue::new(networks.iter().map(|network| network.weight)),
             links: Links::new(networks),
             lateness: Lateness::default(),
             in_flight: InFlight::new(),
             chosen: VecDeque::new(),
             spare: Vec::new(),
-            accounts: vec![Account::default(); networks.len()],
-            intake: Intake::Some,
+            intake: Intake::Bounded,
             busy_until: 0,
             reports: Reports::Read,
             look_due: None,
-            link: Link::Up,
+            interface: Interface::Up,
             sent: 0,
         }
     }
@@ -160,7 +163,7 @@ impl Transmitter {
 
     /// What the air was to each network.
     pub fn accounts(&self) -> &[Account] {
-        &self.accounts
+        &self.queue.accounts
     }
 
     /// What became so far of units that nobody acknowledged.
@@ -183,23 +186,23 @@ impl Transmitter {
 
     /// Whether a frame that is no beacon waits and may go now, if the socket has room.
     pub fn has_next(&self) -> bool {
-        let waits = !self.chosen.is_empty() || self.scheduler.has_ready() && self.intake != Intake::Nothing;
-        waits && self.link == Link::Up
+        let waits = !self.chosen.is_empty() || self.queue.scheduler.has_ready() && self.intake != Intake::Closed;
+        waits && self.interface == Interface::Up
     }
 
     /// Whether nothing waits.
     pub fn is_empty(&self) -> bool {
-        self.scheduler.is_empty() && self.chosen.is_empty() && self.beacons.is_empty()
+        self.queue.scheduler.is_empty() && self.chosen.is_empty() && self.beacons.is_empty()
     }
 
     /// Whether the interface is down.
     pub fn is_down(&self) -> bool {
-        self.link == Link::Down
+        self.interface == Interface::Down
     }
 
     /// From now on the radio is given all that waits, however much it has.
     pub fn end(&mut self) {
-        self.intake = Intake::All;
+        self.intake = Intake::Unbounded;
     }
 }
 

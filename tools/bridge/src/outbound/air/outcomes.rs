@@ -18,7 +18,7 @@ impl Transmitter {
 
     /// Whether frames wait that may go once it is known what became of those that the radio has.
     pub(super) fn holds_back(&self) -> bool {
-        self.in_flight.len() > 0 && !self.scheduler.is_empty()
+        self.in_flight.len() > 0 && !self.queue.scheduler.is_empty()
     }
 
     /// Whether what the radio tells of frames that it has is to be looked at now.
@@ -44,15 +44,14 @@ impl Transmitter {
         if let Some(sent) = &found {
             let more = sent.cost.sending(retries);
             self.resume();
-            self.accounts[place].used += more;
-            self.scheduler.correct(place, sent.receiver, microseconds(more));
+            self.queue.accounts[place].used += more;
+            self.queue.scheduler.correct(place, sent.receiver, microseconds(more));
         }
         let is_own = found.map_or_else(|| is_null_of_network(frame), |sent| sent.is_own);
         if !address.is_group() && !is_own {
             if let Next::Again(octets) = self.links.reported(place, address, frame, outcome, now) {
                 let again = OutboundFrame { octets, address, kind: FrameKind::Again, since: now };
-                self.count_in(place, &again);
-                self.scheduler.push_first(place, Receiver::Station(address), again);
+                self.queue.push_first(place, Receiver::Station(address), again);
             }
         }
         self.release(place, address);
@@ -61,8 +60,8 @@ impl Transmitter {
     /// What comes next for a station goes, unless it waits for another frame.
     pub(super) fn release(&mut self, place: Place, address: Address) {
         let station = Receiver::Station(address);
-        if self.scheduler.is_held(place, station) && !self.links.waits(place, address) {
-            self.scheduler.release(place, station);
+        if self.queue.scheduler.is_held(place, station) && !self.links.waits(place, address) {
+            self.queue.scheduler.release(place, station);
         }
     }
 
@@ -99,8 +98,8 @@ impl Transmitter {
 
     /// The radio may have more again.
     pub(super) fn resume(&mut self) {
-        if self.intake == Intake::Nothing {
-            self.intake = Intake::Some;
+        if self.intake == Intake::Closed {
+            self.intake = Intake::Bounded;
         }
     }
 
