@@ -1,5 +1,5 @@
-//! A slow model of what is in flight, written from the sentences of `in_flight`. Totals are summed anew for each answer,
-//! and the pace is reckoned from all outcomes.
+//! A slow model of what is in flight, written from the sentences of `in_flight`. Totals are summed anew for each
+//! answer, and the pace is reckoned from all outcomes.
 use super::*;
 use crate::testing::samples::{Seeded, OTHER, STATION, STRANGER};
 
@@ -57,7 +57,7 @@ impl Model {
     }
 
     fn oldest(&self) -> Option<&ModelFrame> {
-        self.frames.iter().find(|frame| frame.state != State::Done)
+        self.frames.iter().find(|frame| frame.state != State::Left)
     }
 
     /// Rules 2 and 7.
@@ -107,13 +107,13 @@ impl Model {
         self.done = 0;
         for frame in &mut self.frames {
             frame.reckoned = 0;
-            frame.state = if frame.state == State::Out { State::Done } else { frame.state };
+            frame.state = if frame.state == State::Out { State::Left } else { frame.state };
         }
     }
 
     fn reports_read(&mut self) {
         for frame in &mut self.frames {
-            frame.state = if frame.state == State::Done { State::Missing } else { frame.state };
+            frame.state = if frame.state == State::Left { State::Missing } else { frame.state };
         }
     }
 
@@ -139,10 +139,8 @@ impl Model {
         self.oldest().map_or(false, |frame| frame.receiver() == receiver && frame.awaited < now)
     }
 
-    /// A frame that went before the oldest, and of which nobody read what became.
     fn is_unknown(&self, receiver: (Place, Address)) -> bool {
-        let oldest = self.frames.iter().position(|frame| frame.state != State::Done).unwrap_or(self.frames.len());
-        self.frames[..oldest].iter().any(|frame| frame.receiver() == receiver)
+        self.frames.iter().any(|frame| frame.receiver() == receiver && frame.state == State::Left)
     }
 
     fn agree(&self, in_flight: &InFlight<u32>, now: Nanos) {
