@@ -216,3 +216,7 @@ fn microseconds(time: Nanos) -> u32 {
 #[cfg(test)]
 #[path = "air_test.rs"]
 mod tests;
+
+#[cfg(test)]
+#[path = "calls_test.rs"]
+mod calls_tests;
