@@ -76,3 +76,34 @@ impl<P: Port> Gate<P> {
         }
     }
 }
+
+#[cfg(test)]
+mod tests {
+    use super::*;
+    use crate::testing::samples::Recorder;
+
+    #[test]
+    fn one_waits_for_room_from_when_there_is_none_until_there_is_some() {
+        let mut gate = Gate::new(Recorder { room: Some(0), ..Recorder::default() });
+        assert!(!gate.is_blocked() && gate.is_settled());
+        assert_eq!(gate.send(&[&[7]]).unwrap(), 0);
+        assert!(gate.is_blocked() && !gate.is_settled());
+        gate.settle();
+        assert!(gate.is_blocked() && gate.is_settled());
+        gate.unblock();
+        assert!(!gate.is_blocked() && !gate.is_settled());
+        assert_eq!(gate.send(&[&[7]]).unwrap(), 0);
+        assert!(gate.is_blocked() && gate.is_settled());
+        gate.unblock();
+        gate.settle();
+        assert!(!gate.is_blocked() && gate.is_settled());
+    }
+
+    #[test]
+    fn room_that_is_back_before_one_waits_for_it_is_not_waited_for() {
+        let mut gate = Gate::new(Recorder { room: Some(0), ..Recorder::default() });
+        assert_eq!(gate.send(&[&[7]]).unwrap(), 0);
+        gate.unblock();
+        assert!(!gate.is_blocked() && gate.is_settled());
+    }
+}
