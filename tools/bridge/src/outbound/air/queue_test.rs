@@ -79,6 +79,15 @@ impl Model {
     }
 }
 
+fn any_receiver(seeded: &mut Seeded) -> (Receiver, Address) {
+    let address = STATIONS[seeded.below(STATIONS.len())];
+    match seeded.below(4) {
+        0 => (Receiver::Groups, Address::BROADCAST),
+        1 => (Receiver::Others, address),
+        _ => (Receiver::Station(address), address),
+    }
+}
+
 /// A queue, its model, and frames of some lengths.
 struct Both {
     queue: Queue,
@@ -92,17 +101,8 @@ impl Both {
         Both { queue: Queue::new([1, 3].into_iter()), models: [Model::default(), Model::default()], octets }
     }
 
-    fn receiver(&self, seeded: &mut Seeded) -> (Receiver, Address) {
-        let address = STATIONS[seeded.below(STATIONS.len())];
-        match seeded.below(4) {
-            0 => (Receiver::Groups, Address::BROADCAST),
-            1 => (Receiver::Others, address),
-            _ => (Receiver::Station(address), address),
-        }
-    }
-
     fn push(&mut self, seeded: &mut Seeded, place: Place, mark: u64, is_again: bool) {
-        let (receiver, address) = self.receiver(seeded);
+        let (receiver, address) = any_receiver(seeded);
         let octets = Rc::clone(&self.octets[[0, 1, 1, 2, 2, 3][seeded.below(6)]]);
         let in_model = ModelFrame { mark, receiver, address, octets: octets.len() };
         let frame = OutboundFrame { octets, address, kind: FrameKind::Unit, since: mark };
@@ -131,7 +131,7 @@ impl Both {
         match seeded.below(6 + pushes) {
             0..=2 => self.serve(1 + seeded.below(1000) as u32),
             3 => {
-                let (receiver, _) = self.receiver(seeded);
+                let (receiver, _) = any_receiver(seeded);
                 self.queue.drop_first(place, receiver, Unsent::Late);
                 self.models[place].drop_first(receiver, Unsent::Late);
             }
