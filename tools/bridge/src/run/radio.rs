@@ -102,7 +102,7 @@ impl<P: Port> Running<P> {
             return Ok(());
         }
         down.look_due = time + LOOK_EVERY;
-        let port = &self.outbound.air.gate().port;
+        let port = &self.outbound.monitor.gate().port;
         match port.link() {
             Ok(Link::Up) => {
                 let after = time.saturating_sub(down.since);
