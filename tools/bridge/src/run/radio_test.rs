@@ -107,8 +107,10 @@ fn a_radio_that_stops_sending_is_told_and_so_is_one_that_sends_again() {
     let (outcome, stage) = run_with(TWO, AIR, |stage| {
         for (is_silent, wanted) in [(false, r#""unsent":null"#), (true, r#""unsent":5."#), (false, r#""unsent":null"#)]
         {
+            let before = stage.beacons();
             stage.air_is_silent.store(is_silent, Ordering::SeqCst);
             found.push((wanted, ask_until(stage, wanted)));
+            wait_until(|| is_silent || stage.beacons() > before + 4);
         }
         end(stage);
     });

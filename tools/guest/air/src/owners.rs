@@ -1,7 +1,7 @@
 //! Which radio acknowledges what comes to an address.
 //!
 //! The kernel tells the addresses of a radio's interfaces, but for those of monitors. An access point may have an active
-//! monitor for each of its networks, so a radio also has each address by which it sends beacons, as long as they come.
+//! monitor for each of its networks. So a radio also has each address by which it sends beacons, as long as they come.
 
 use std::collections::BTreeMap;
 
@@ -12,8 +12,8 @@ use crate::rules::Radio;
 /// An access point that is begun anew leaves them out for a second or two.
 pub const FORGOTTEN_AFTER: u64 = 5_000_000_000;
 
-/// An address of which the kernel told: as often as it said so, of an interface, and again of the address by which it
-/// scans, which may be the same.
+/// An address of which the kernel told, and how often. It tells of an interface, and again of the address by which that
+/// one scans, which may be the same.
 #[derive(Debug)]
 struct Told {
     radio: Radio,
