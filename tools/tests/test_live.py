@@ -22,15 +22,15 @@ from unittest import mock
 
 from configurations import ONE_NETWORK
 from frames import address_of, address_text
-from live import (asking, changes, checks, keeping, machine, record, rights, running, serving, setting_up, showing,
-                  telling, wires)
+from live import (asking, changes, checks, machine, recording, rights, running, serving, setting_up, showing,
+                  state_files, telling, wires)
 from live.bridge import Bridge, Signals
 from live.changes import Change, Changes
 from live.checks import (Plan, Wanted, check_bridge, check_config, check_left, check_names, check_port,
                          check_program, check_record, check_wires, read_wires, set_country)
 from live.faults import Fault
 from live.machine import Interface
-from live.record import make_record
+from live.recording import make_record
 from live.rights import Rights
 from live.service import Service
 from live.settings import Network, Settings, read_settings
@@ -622,7 +622,7 @@ class FilesAndPrograms(WithFiles):
         self.assertEqual(os.stat(secret).st_size, 1)
         with self.assertRaisesRegex(Fault, "^--record .*none/x: No such file or directory$"):
             make_record(self.path("none/x"))
-        with mock.patch.object(record, "MOST_RECORDS", 1), self.assertRaisesRegex(Fault, "1 files of this name"):
+        with mock.patch.object(recording, "MOST_RECORDS", 1), self.assertRaisesRegex(Fault, "1 files of this name"):
             make_record(path)
 
     def test_wires_of_a_file(self):
@@ -906,7 +906,7 @@ class WhatStays(WithFiles):
         """They are their owner's alone, keep what a killed start left, and go in the end."""
         left = self.write("phy0.state.0", "left", 0o644)
         with mock.patch.object(changes, "RUN", self.folder), ExitStack() as stack:
-            files = keeping.StateFiles("phy0", stack)
+            files = state_files.StateFiles("phy0", stack)
             self.assertEqual([stat.S_IMODE(os.stat(path).st_mode) for path in files.paths], [0o600] * 2)
             self.assertEqual(os.read(files.descriptors[0], 9), b"left")
             os.write(files.descriptors[1], b"more")
@@ -917,7 +917,7 @@ class WhatStays(WithFiles):
         os.symlink(self.write("other", "other"), os.path.join(self.folder, "phy0.state.1"))
         with mock.patch.object(changes, "RUN", self.folder), ExitStack() as stack:
             with self.assertRaisesRegex(Fault, "phy0.state.1: Too many levels of symbolic links"):
-                keeping.StateFiles("phy0", stack)
+                state_files.StateFiles("phy0", stack)
 
     def test_changed_networks(self):
         """Of those that are gone, or are others to their stations."""
@@ -927,9 +927,9 @@ class WhatStays(WithFiles):
                                  ((replace(one, ssid=b"c"), two), [0]), ((one, replace(two, rates=b"\x84")), [1]),
                                  ((replace(one, max_known=9, max_stations=3, max_events=5), two), [])):
             after = Plan(Settings(6, 100, networks), ((OURS, "wire1"),))
-            self.assertEqual(keeping.changed_networks(before, after), wanted, networks)
+            self.assertEqual(state_files.changed_networks(before, after), wanted, networks)
         for settings in (Settings(7, 100, (one, two)), Settings(6, 99, (one, two))):
-            self.assertEqual(keeping.changed_networks(before, Plan(settings, ())), [0, 1])
+            self.assertEqual(state_files.changed_networks(before, Plan(settings, ())), [0, 1])
 
 
 class Reloaded(WithFiles):
