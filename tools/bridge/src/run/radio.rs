@@ -46,6 +46,11 @@ impl Radio {
         Radio { beacons, tuning, down: None, mostly, drawn: mostly }
     }
 
+    /// Whether its interface is up, as far as is known.
+    pub(super) fn is_up(&self) -> bool {
+        self.down.is_none()
+    }
+
     /// When something is to be looked at.
     pub(super) fn due(&self, time: Nanos) -> Option<Nanos> {
         let down = self.down.as_ref().map(|down| down.look_due);
