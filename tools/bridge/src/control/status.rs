@@ -249,7 +249,7 @@ struct Recorded<'a>(&'a Recording);
 
 impl Display for Recorded<'_> {
     fn fmt(&self, to: &mut fmt::Formatter<'_>) -> fmt::Result {
-        write!(to, "{{\"octets\":{},\"fault\":{}}}", self.0.written(), Maybe(self.0.fault().map(Text)))
+        write!(to, "{{\"octets\":{},\"fault\":{}}}", self.0.written(), Maybe(self.0.fault().as_deref().map(Text)))
     }
 }
 
@@ -322,7 +322,7 @@ mod tests {
         }
         faults.push("fault L2 line 3", SECOND);
         faults.push("fault L1 line 4", 2 * SECOND);
-        let record = Recording::new("today", std::fs::File::open("/dev/null").unwrap());
+        let record = Recording::new("today", std::fs::File::open("/dev/null").unwrap()).unwrap();
         let mut beacons = BeaconDelays::default();
         beacons.count(2 * MILLISECOND);
         beacons.count(4 * MILLISECOND);
