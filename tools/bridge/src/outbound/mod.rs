@@ -54,6 +54,7 @@ impl<P: Port> Outbound<P> {
     pub fn counts(&self) -> Counts {
         let mut counts = self.counts.clone();
         self.air.counts().iter().for_each(|(what, number)| count(&mut counts, what, *number));
+        self.wires.iter().flatten().for_each(|wire| wire.count_dropped(&mut counts));
         let Unacknowledged { again, lost } = self.air.unacknowledged();
         let of_wires = self.wires.iter().flatten().map(Wire::sent_frames).sum();
         for (what, number) in [
@@ -131,7 +132,7 @@ impl<P: Port> Outbound<P> {
         match &mut self.wires[place] {
             None => count(&mut self.counts, "lost, of networks without --wire", 1),
             Some(_) if is_tagged(&octets) => count(&mut self.counts, "not sent, since they have a VLAN's tag", 1),
-            Some(exit) => exit.push(octets, now, &mut self.counts),
+            Some(exit) => exit.push(octets, now),
         }
         Ok(())
     }
