@@ -8,7 +8,6 @@ use crate::apctl::program::PIECE_LEN;
 use crate::apctl::records::Event;
 use crate::control::faults::reason;
 use crate::control::log::{self, Level};
-use crate::formats::digits;
 use crate::os::background_writer::BackgroundWriter;
 
 /// How many octets of lines wait at most until the file has taken them: at 4,000 units a second those of some seconds.
@@ -201,16 +200,23 @@ fn push_line(event: Event<'_>, to: &mut Vec<u8>) {
     match event {
         Event::Air(octets) => {
             to.extend(b"A ");
-            digits::push(octets, to);
+            push_digits(octets, to);
         }
         Event::Wire(bssid, octets) => {
             to.extend(format!("W {bssid} ").as_bytes());
-            digits::push(octets, to);
+            push_digits(octets, to);
         }
         Event::Tick => to.push(b'T'),
         Event::Tables => to.push(b'I'),
     }
     to.push(b'\n');
+}
+
+fn push_digits(octets: &[u8], to: &mut Vec<u8>) {
+    let begin = to.len();
+    to.resize(begin + 2 * octets.len(), 0);
+    let outcome = hex::encode_to_slice(octets, &mut to[begin..]);
+    debug_assert!(outcome.is_ok(), "two digits an octet");
 }
 
 #[cfg(test)]
