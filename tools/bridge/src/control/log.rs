@@ -1,6 +1,8 @@
 //! What is told to people on standard error. Where the journal of systemd reads it, a line begins with its level
-//! (sd-daemon(3)), and the journal has the time; else lines of what happened begin with the time, in UTC. While the
-//! bridge serves, a line waits for nobody: what standard error doesn't take is dropped, counted and told.
+//! (sd-daemon(3)), and the journal has the time; else lines of what happened begin with the time, in UTC.
+//!
+//! While the bridge serves, it waits for no line to be written: what standard error doesn't take is dropped, counted
+//! and told.
 use std::fmt;
 use std::fs::File;
 use std::io::{self, Write};
@@ -177,7 +179,9 @@ impl Log {
         let left = self.writer.as_ref().map_or(0, |writer| writer.finish(most));
         if left == 0 && self.dropped > 0 {
             self.tell_dropped();
-            self.writer.iter().for_each(|writer| drop(writer.finish(most)));
+            if let Some(writer) = &self.writer {
+                writer.finish(most);
+            }
         }
     }
 }

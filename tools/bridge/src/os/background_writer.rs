@@ -28,8 +28,8 @@ struct Waiting {
 }
 
 impl BackgroundWriter {
-    /// Begins a thread that calls `write` with each piece; so many octets wait at most. It returns once the thread makes
-    /// no more calls of the system but those that `write` makes and those of its waits: it may then be kept to a list.
+    /// Begins a thread that calls `write` with each piece; so many octets wait at most. It returns once the thread has
+    /// begun: from then on that makes no calls of the system but those of `write` and of its waits (`os::seccomp`).
     pub fn start(most_octets: usize, write: impl FnMut(&[u8]) + Send + 'static) -> io::Result<BackgroundWriter> {
         let shared = Arc::new(Shared { most_octets, waiting: Mutex::default(), changed: Condvar::new() });
         let of_thread = Arc::clone(&shared);
@@ -72,6 +72,8 @@ impl Shared {
 
     /// What the thread does: writes what waits, until nobody pushes any more.
     fn write_all(&self, mut write: impl FnMut(&[u8])) {
+        // The allocator makes calls of its own where a thread allocates for the first time.
+        self.lock().pieces.reserve(1);
         self.lock().has_begun = true;
         self.changed.notify_all();
         while let Some(piece) = self.next() {

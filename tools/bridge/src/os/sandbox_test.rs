@@ -212,16 +212,17 @@ fn a_thread_that_writes_keeps_to_the_calls_of_the_bridge() {
             let mut to = near;
             let writer = BackgroundWriter::start(1 << 20, move |piece| {
                 // SAFETY: no memory is handed over.
-                let _ = is_allowed || unsafe { libc::syscall(libc::SYS_socket, libc::AF_INET, libc::SOCK_STREAM, 0) } < 0;
-                to.write_all(piece).unwrap();
+                let _ =
+                    is_allowed || unsafe { libc::syscall(libc::SYS_socket, libc::AF_INET, libc::SOCK_STREAM, 0) } < 0;
+                to.write_all(&[piece, &vec![7; 1 << 20]].concat()).unwrap();
             })?;
             no_new_privileges();
             Calls::of(OF_BRIDGE.iter().chain(ANY)).take_on()?;
             assert_eq!(writer.push(vec![7; 1 << 16]), Ok(()));
-            let mut octets = vec![0; 1 << 16];
+            let mut octets = vec![0; (1 << 16) + (1 << 20)];
             far.read_exact(&mut octets)?;
             // SAFETY: it ends this process.
-            unsafe { libc::_exit(i32::from(octets != vec![7; 1 << 16])) }
+            unsafe { libc::_exit(i32::from(octets.iter().any(|octet| *octet != 7))) }
         })
     };
     assert_eq!(process(true).unwrap().code(), Some(0));
