@@ -31,9 +31,9 @@
 //! and frames for no network. A beginning of a beacon interval waits for none of the frames that wait. A beacon goes
 //! before all that waits, group frames of its network included; what the program sends after a beacon never goes before
 //! it. While a network has frames waiting for the air, no other one gets more than its share of it and one frame
-//! (`scheduler`). All memory is bounded. One thread does all by `epoll`, and waits nowhere else but for its ends of
-//! standard error and the record, and where many frames come for a millisecond at most, in which some gather
-//! (`batching`).
+//! (`scheduler`). All memory is bounded. One thread does all by `epoll`, and waits nowhere else but where many frames come
+//! for a millisecond at most, in which some gather (`batching`). What may make a writer wait, standard error and the
+//! record, threads of their own write (`os::background_writer`): what these don't take in time is dropped and counted.
 //!
 //! It leaves every decision on a frame to the program, and leaves to `tools/live` all that takes rights: it has none of
 //! its own (`os::sandbox`). It speaks with that by lines of a Unix socket: it reads `state`, with the files by which
@@ -92,6 +92,12 @@ use run::{Bridge, Manner};
 const WRONG_WORDS: u8 = 2;
 
 fn main() -> ExitCode {
+    let code = begin();
+    log::finish();
+    code
+}
+
+fn begin() -> ExitCode {
     match Arguments::read(std::env::args().skip(1)) {
         Err(fault) => {
             faults::tell(fault);
@@ -123,6 +129,7 @@ fn run(words: &Arguments) -> Result<(), Fault> {
         most_silence: Some(Nanos::from(words.idle) * SECOND).filter(|silence| *silence > 0),
         tells_alive: words.tells_alive,
     };
+    log::write_in_background()?;
     let mut bridge = Bridge::new(program, feeder, Requests::new(requests.into()), clients, manner)?;
     sandbox::keep_to_calls()?;
     bridge.serve(|handed| open(words, handed))
@@ -131,7 +138,7 @@ fn run(words: &Arguments) -> Result<(), Fault> {
 /// The file of the record, which `tools/live` has made.
 fn record(descriptor: RawFd, name: &str) -> Result<Recording, Fault> {
     let file = inherited(descriptor).map_err(|fault| Fault::of(format!("--record {name}"), &fault))?;
-    Ok(Recording::new(name, file.into()))
+    Recording::new(name, file.into()).map_err(|fault| Fault::of("no thread for the record", &fault))
 }
 
 /// The socket by which whoever wants asks the bridge.

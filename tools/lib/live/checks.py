@@ -30,7 +30,8 @@ SET_UP = 2  # the number of the way in which `setting_up` sets up a radio; anoth
 # Of a checkout of the source; an installation has none.
 MAKEFILE = os.path.join(os.path.dirname(os.path.realpath(__file__)), "..", "..", "..", "Makefile")
 CARGO = "/usr/bin/cargo"
-PACKAGES = "cargo librust-ahash-dev librust-hex-dev librust-humantime-dev librust-libc-dev"
+PACKAGES = ("cargo librust-ahash-dev librust-hex-dev librust-humantime-dev librust-libc-dev librust-serde-dev "
+            "librust-serde-json-dev")
 
 
 @dataclass(frozen=True)

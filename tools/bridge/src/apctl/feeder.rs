@@ -110,9 +110,14 @@ impl Feeder {
         self.input = None;
     }
 
-    /// Lets the file of the record have what was recorded.
+    /// What was recorded waits from now on for the file of the record.
     pub fn flush_record(&mut self) {
         self.record.iter_mut().for_each(Recording::flush);
+    }
+
+    /// Nothing more is recorded: what waits is written, for a bounded time.
+    pub fn finish_record(&mut self) {
+        self.record.iter_mut().for_each(Recording::finish);
     }
 
     /// The record, where there is one.

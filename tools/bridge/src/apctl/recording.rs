@@ -1,45 +1,77 @@
 //! The recording of `--record`: the lines that the program is given, as `run` reads them (docs/PROTOCOL.md).
 use std::fs::File;
 use std::io::{self, ErrorKind, Write};
+use std::sync::{Arc, Mutex, MutexGuard, PoisonError};
+use std::time::Duration;
 
 use crate::apctl::program::PIECE_LEN;
 use crate::apctl::records::Event;
 use crate::control::faults::reason;
 use crate::control::log::{self, Level};
-use crate::formats::digits;
+use crate::os::background_writer::BackgroundWriter;
 
-/// The lines that the program is given, as `run` reads them; a question for the tables stands there as a comment. Where
+/// How many octets of lines wait at most until the file has taken them: at 4,000 units a second those of some seconds.
+const MOST_WAITING: usize = 16 << 20;
+/// How long what waits is written at the end.
+const TO_FINISH: Duration = Duration::from_secs(2);
+
+/// The lines that the program is given, as `run` reads them; a question for the tables stands there as a comment.
+/// Nobody waits for the file: lines that it doesn't take in time are left out, and a comment there counts them. Where
 /// nothing more can be written, as on a full disk, the recording stops: it is told once, the file keeps whole lines
 /// alone, and all else goes on.
 #[derive(Debug)]
 pub struct Recording {
-    path: String,
-    /// `None` once the recording has stopped.
-    file: Option<File>,
-    /// Whole lines that weren't written yet.
+    name: String,
+    /// Whole lines that don't wait for the file yet.
     pending: Vec<u8>,
+    writer: BackgroundWriter,
+    progress: Arc<Progress>,
+    /// How many lines had no room since one had.
+    left_out: usize,
+    has_stopped: bool,
+}
+
+/// How far the file is.
+#[derive(Debug, Default)]
+struct Progress(Mutex<Reached>);
+
+#[derive(Debug, Default, Clone)]
+struct Reached {
     written: u64,
     fault: Option<String>,
 }
 
+impl Progress {
+    fn lock(&self) -> MutexGuard<'_, Reached> {
+        self.0.lock().unwrap_or_else(PoisonError::into_inner)
+    }
+}
+
 impl Recording {
     /// Into a file that is open for writing and empty; its name is for people.
-    pub fn new(path: &str, file: File) -> Recording {
-        Recording { path: path.to_owned(), file: Some(file), pending: Vec::new(), written: 0, fault: None }
+    pub fn new(name: &str, file: File) -> io::Result<Recording> {
+        Recording::with_most(name, file, MOST_WAITING)
+    }
+
+    fn with_most(name: &str, file: File, most_waiting: usize) -> io::Result<Recording> {
+        let progress = Arc::<Progress>::default();
+        let mut lines = Lines { name: name.to_owned(), file: Some(file), progress: Arc::clone(&progress) };
+        let writer = BackgroundWriter::start(most_waiting, move |piece| lines.write(piece))?;
+        Ok(Recording { name: name.to_owned(), pending: Vec::new(), writer, progress, left_out: 0, has_stopped: false })
     }
 
     /// How many octets were written.
     pub fn written(&self) -> u64 {
-        self.written
+        self.progress.lock().written
     }
 
     /// Why the recording has stopped, if it has.
-    pub fn fault(&self) -> Option<&str> {
-        self.fault.as_deref()
+    pub fn fault(&self) -> Option<String> {
+        self.progress.lock().fault.clone()
     }
 
     pub fn write(&mut self, event: Event<'_>) {
-        if self.file.is_none() {
+        if self.has_stopped {
             return;
         }
         if event == Event::Tables {
@@ -53,44 +85,114 @@ impl Recording {
 
     /// A comment of this text, a line.
     pub fn remark(&mut self, text: &str) {
-        if self.file.is_some() {
-            self.pending.extend(format!("# {text}\n").as_bytes());
+        if !self.has_stopped {
+            self.pending.extend(comment(text));
         }
     }
 
-    /// Writes the lines that wait.
+    /// Hands over the lines that are pending, to be written by whom nobody waits for.
     pub fn flush(&mut self) {
+        self.tell_left_out();
+        self.has_stopped = self.progress.lock().fault.is_some();
+        let piece = std::mem::take(&mut self.pending);
+        let refused = match self.left_out {
+            _ if piece.is_empty() => return,
+            0 => self.writer.push(piece).err(),
+            _ => Some(piece),
+        };
+        if let Some(piece) = refused {
+            self.leave_out(&piece);
+        }
+    }
+
+    fn leave_out(&mut self, lines: &[u8]) {
+        if self.left_out == 0 {
+            let name = &self.name;
+            log::write_event(Level::Warning, format_args!("--record {name}: too slow, so lines are left out there"));
+        }
+        self.left_out += lines.iter().filter(|octet| **octet == b'\n').count();
+    }
+
+    /// Where there is room again, a comment says how many lines are missing before it.
+    fn tell_left_out(&mut self) {
+        let (lines, name) = (self.left_out, &self.name);
+        if lines == 0 {
+            return;
+        }
+        let told = comment(&format!("{lines} lines are missing here: the record was too slow"));
+        if self.writer.push(told).is_ok() {
+            log::write_event(Level::Notice, format_args!("--record {name}: {lines} lines were left out there"));
+            self.left_out = 0;
+        }
+    }
+
+    /// Writes what waits, for a bounded time.
+    pub fn finish(&mut self) {
+        self.finish_within(TO_FINISH);
+    }
+
+    fn finish_within(&mut self, most: Duration) {
+        self.flush();
+        let mut left = self.writer.finish(most);
+        if left == 0 && self.left_out > 0 {
+            self.tell_left_out();
+            left = self.writer.finish(most);
+        }
+        if left > 0 {
+            let name = &self.name;
+            log::write_event(
+                Level::Warning,
+                format_args!("--record {name}: too slow, so its last {left} octets are left out there"),
+            );
+        }
+    }
+}
+
+/// What writes the lines, in a thread of its own.
+struct Lines {
+    name: String,
+    /// `None` once the recording has stopped.
+    file: Option<File>,
+    progress: Arc<Progress>,
+}
+
+impl Lines {
+    /// Writes whole lines.
+    fn write(&mut self, lines: &[u8]) {
         let mut done = 0;
-        while let Some(file) = self.file.as_mut().filter(|_| done < self.pending.len()) {
-            match file.write(&self.pending[done..]) {
-                Ok(0) => self.stop(done, &io::Error::from(ErrorKind::WriteZero)),
+        while let Some(file) = self.file.as_mut().filter(|_| done < lines.len()) {
+            match file.write(&lines[done..]) {
+                Ok(0) => self.stop(&lines[..done], &io::Error::from(ErrorKind::WriteZero)),
                 Ok(length) => done += length,
                 Err(fault) if fault.kind() == ErrorKind::Interrupted => {}
-                Err(fault) => self.stop(done, &fault),
+                Err(fault) => self.stop(&lines[..done], &fault),
             }
         }
         if self.file.is_some() {
-            self.written += done as u64;
+            self.progress.lock().written += done as u64;
         }
-        self.pending.clear();
     }
 
-    /// Stops the recording: of the lines that wait so many octets were written, of which the last line is cut off where
-    /// it isn't whole.
-    fn stop(&mut self, done: usize, fault: &io::Error) {
-        let whole = self.pending[..done].iter().rposition(|octet| *octet == b'\n').map_or(0, |place| place + 1);
-        self.written += whole as u64;
+    /// Stops the recording: so much was written, of which the last line is cut off where it isn't whole. Nobody is kept
+    /// waiting meanwhile who asks how far the file is.
+    fn stop(&mut self, written: &[u8], fault: &io::Error) {
+        let whole = written.iter().rposition(|octet| *octet == b'\n').map_or(0, |place| place + 1);
+        let written = self.progress.lock().written + whole as u64;
         if let Some(file) = self.file.take() {
             // What is no file, as a pipe, has no length to set.
-            let _ = file.set_len(self.written);
+            let _ = file.set_len(written);
         }
         let text = reason(fault);
         log::write_event(
             Level::Warning,
-            format_args!("--record {}: {text}: nothing more is recorded. All else goes on", self.path),
+            format_args!("--record {}: {text}: nothing more is recorded. All else goes on", self.name),
         );
-        self.fault = Some(text);
+        *self.progress.lock() = Reached { written, fault: Some(text) };
     }
+}
+
+fn comment(text: &str) -> Vec<u8> {
+    format!("# {text}\n").into_bytes()
 }
 
 /// Appends the line of an event.
@@ -98,11 +200,11 @@ fn push_line(event: Event<'_>, to: &mut Vec<u8>) {
     match event {
         Event::Air(octets) => {
             to.extend(b"A ");
-            digits::push(octets, to);
+            push_digits(octets, to);
         }
         Event::Wire(bssid, octets) => {
             to.extend(format!("W {bssid} ").as_bytes());
-            digits::push(octets, to);
+            push_digits(octets, to);
         }
         Event::Tick => to.push(b'T'),
         Event::Tables => to.push(b'I'),
@@ -110,12 +212,21 @@ fn push_line(event: Event<'_>, to: &mut Vec<u8>) {
     to.push(b'\n');
 }
 
+fn push_digits(octets: &[u8], to: &mut Vec<u8>) {
+    let begin = to.len();
+    to.resize(begin + 2 * octets.len(), 0);
+    let outcome = hex::encode_to_slice(octets, &mut to[begin..]);
+    debug_assert!(outcome.is_ok(), "two digits an octet");
+}
+
 #[cfg(test)]
 mod tests {
     use super::*;
-    use crate::testing::samples::{OTHER, OURS};
+    use crate::testing::samples::{read_all, OTHER, OURS};
     use std::fs::OpenOptions;
+    use std::os::unix::io::OwnedFd;
     use std::os::unix::net::UnixStream;
+    use std::thread;
 
     fn file_of(name: &str) -> (std::path::PathBuf, File) {
         let path = std::env::temp_dir().join(format!("record-{}-{name}", std::process::id()));
@@ -135,16 +246,20 @@ mod tests {
         assert_eq!(String::from_utf8(lines).unwrap(), wanted);
     }
 
+    /// What a reader may wait for: a test doesn't wait longer.
+    const LONG: Duration = Duration::from_secs(20);
+    const SHORT: Duration = Duration::from_millis(20);
+
     #[test]
     fn events_are_recorded_as_lines() {
         let (path, file) = file_of("lines");
-        let mut record = Recording::new("today", file);
+        let mut record = Recording::new("today", file).unwrap();
         for event in [Event::Tick, Event::Tables, Event::Air(&[1, 2])] {
             record.write(event);
         }
         record.remark("a word");
         assert_eq!(std::fs::read_to_string(&path).unwrap(), "");
-        record.flush();
+        record.finish_within(LONG);
         assert_eq!(std::fs::read_to_string(&path).unwrap(), "T\n# I\nA 0102\n# a word\n");
         assert_eq!((record.written(), record.fault()), (22, None));
         std::fs::remove_file(path).unwrap();
@@ -152,13 +267,14 @@ mod tests {
 
     #[test]
     fn where_the_disk_is_full_the_recording_stops() {
-        let mut record = Recording::new("today", OpenOptions::new().write(true).open("/dev/full").unwrap());
+        let file = OpenOptions::new().write(true).open("/dev/full").unwrap();
+        let mut record = Recording::new("today", file).unwrap();
         record.write(Event::Tick);
+        record.finish_within(LONG);
+        assert_eq!((record.written(), record.fault().as_deref()), (0, Some("No space left on device")));
         record.flush();
-        assert_eq!((record.written(), record.fault()), (0, Some("No space left on device")));
         (0..1_000_000).for_each(|_| record.write(Event::Tick));
-        record.flush();
-        assert!(record.pending.is_empty() && record.file.is_none());
+        assert!(record.pending.is_empty() && record.left_out == 0);
     }
 
     /// A file keeps whole lines alone.
@@ -166,11 +282,11 @@ mod tests {
     fn a_line_that_was_cut_is_taken_back() {
         let (path, mut file) = file_of("cut");
         file.write_all(b"T\nA 0102\nA 03").unwrap();
-        let mut record =
-            Recording { pending: b"A 0102\nA 0304\n".to_vec(), written: 2, ..Recording::new("today", file) };
-        record.stop(11, &io::Error::from_raw_os_error(libc::ENOSPC));
+        let progress = Arc::new(Progress(Mutex::new(Reached { written: 2, fault: None })));
+        let mut lines = Lines { name: "today".to_owned(), file: Some(file), progress: Arc::clone(&progress) };
+        lines.stop(b"A 0102\nA 03", &io::Error::from_raw_os_error(libc::ENOSPC));
         assert_eq!(std::fs::read_to_string(&path).unwrap(), "T\nA 0102\n");
-        assert_eq!(record.written(), 9);
+        assert_eq!(progress.lock().written, 9);
         std::fs::remove_file(path).unwrap();
     }
 
@@ -178,9 +294,32 @@ mod tests {
     fn what_takes_nothing_stops_the_recording() {
         let (near, far) = UnixStream::pair().unwrap();
         drop(far);
-        let mut record = Recording::new("pipe", File::from(std::os::unix::io::OwnedFd::from(near)));
+        let mut record = Recording::new("pipe", OwnedFd::from(near).into()).unwrap();
         record.write(Event::Tick);
-        record.flush();
-        assert_eq!(record.fault(), Some("Broken pipe"));
+        record.finish_within(LONG);
+        assert_eq!(record.fault().as_deref(), Some("Broken pipe"));
+    }
+
+    /// As a disk that is too slow: nobody waits for it, and once it goes on a comment says what is missing.
+    #[test]
+    fn what_is_not_taken_in_time_is_left_out_and_counted() {
+        let (near, far) = UnixStream::pair().unwrap();
+        let most = 4 * PIECE_LEN;
+        let mut record = Recording::with_most("slow", OwnedFd::from(near).into(), most).unwrap();
+        let events = 10 * most / 2;
+        (0..events).for_each(|_| record.write(Event::Tick));
+        record.finish_within(SHORT);
+        let left_out = record.left_out;
+        assert!(left_out > events / 2, "{left_out}");
+        let reader = thread::spawn(|| read_all(far));
+        record.finish_within(LONG);
+        record.write(Event::Tables);
+        record.finish_within(LONG);
+        let written = record.written();
+        drop(record);
+        let text = reader.join().unwrap();
+        let wanted = format!("# {left_out} lines are missing here: the record was too slow\n# I\n");
+        assert_eq!((text.len() as u64, text.matches("T\n").count()), (written, events - left_out));
+        assert!(text.ends_with(&wanted), "{}", &text[text.len() - 200..]);
     }
 }

@@ -1,14 +1,20 @@
 //! What is told to people on standard error. Where the journal of systemd reads it, a line begins with its level
 //! (sd-daemon(3)), and the journal has the time; else lines of what happened begin with the time, in UTC.
+//!
+//! While the bridge serves, it waits for no line to be written: what standard error doesn't take is dropped, counted
+//! and told.
 use std::fmt;
+use std::fs::File;
 use std::io::{self, Write};
 use std::os::unix::fs::MetadataExt;
-use std::sync::atomic::{AtomicU8, Ordering};
-use std::sync::{Mutex, PoisonError};
+use std::os::unix::io::AsFd;
+use std::sync::{Mutex, MutexGuard, PoisonError};
 use std::time::{Duration, UNIX_EPOCH};
 
 use humantime::format_rfc3339_seconds;
 
+use crate::control::faults::Fault;
+use crate::os::background_writer::BackgroundWriter;
 use crate::os::clock::{wall_now, Nanos, SECOND};
 
 /// How many lines are written in a second at most that stations of one network can cause.
@@ -16,16 +22,34 @@ const MOST_OF_NETWORK: u64 = 50;
 /// How many lines are written in a second at most that stations can cause, of all networks: where there are more than
 /// four, each has an equal part of these. So no other network's lines keep those of one out.
 const MOST_A_SECOND: u64 = 200;
+/// How many octets of lines wait at most until standard error takes them: the tables of 16 networks of 2,007 stations
+/// are half of that.
+const MOST_WAITING: usize = 4 << 20;
+/// How long what waits is written at the end.
+const TO_FINISH: Duration = Duration::from_secs(2);
 
-/// By which name a person has begun this, once that is known.
-static NAME: Mutex<Option<String>> = Mutex::new(None);
-/// The name as long as it isn't.
+/// The name as long as it isn't known by which one a person has begun this.
 pub const UNNAMED: &str = "bridge";
+
+static LOG: Mutex<Log> = Mutex::new(Log { name: None, stream: None, writer: None, dropped: 0 });
+
+/// How lines begin, and where they go.
+#[derive(Debug)]
+struct Log {
+    name: Option<String>,
+    stream: Option<Stream>,
+    /// By what lines are written that nobody waits for; without it each is written at once.
+    writer: Option<BackgroundWriter>,
+    /// How many lines had no room since one had.
+    dropped: u64,
+}
+
 /// What standard error is.
-static STREAM: AtomicU8 = AtomicU8::new(UNKNOWN);
-const UNKNOWN: u8 = 0;
-const JOURNAL: u8 = 1;
-const OTHER: u8 = 2;
+#[derive(Debug, Clone, Copy, PartialEq, Eq)]
+enum Stream {
+    Journal,
+    Other,
+}
 
 /// How much a line matters.
 #[derive(Debug, Clone, Copy, PartialEq, Eq)]
@@ -51,46 +75,115 @@ impl Level {
 
 /// Writes a line of this bridge. Where nobody reads it any more, nothing is to be done.
 pub fn write(level: Level, text: impl fmt::Display) {
-    let start = if is_journal() { format!("<{}>", level.number()) } else { String::new() };
-    write_line(&format!("{start}{}: {text}\n", name()));
+    let mut log = log();
+    let line = log.line(level, String::new(), text);
+    log.write(line);
 }
 
 /// Writes a line of what happened now.
 pub fn write_event(level: Level, text: impl fmt::Display) {
-    let start = if is_journal() { format!("<{}>", level.number()) } else { format!("{} ", date(wall_now())) };
-    write_line(&format!("{start}{}: {text}\n", name()));
+    let mut log = log();
+    let line = log.event(level, text);
+    log.write(line);
 }
 
 /// Writes a line of the program as it stands.
 pub fn write_plain(line: &str) {
-    write_line(&format!("{line}\n"));
-}
-
-fn write_line(line: &str) {
-    let _ = io::stderr().write_all(line.as_bytes());
-}
-
-/// Whether standard error is the journal's. It is looked at once, before the bridge may look at no file any more.
-fn is_journal() -> bool {
-    match STREAM.load(Ordering::Relaxed) {
-        UNKNOWN => {
-            let found = looks_like_journal();
-            STREAM.store(if found { JOURNAL } else { OTHER }, Ordering::Relaxed);
-            found
-        }
-        stream => stream == JOURNAL,
-    }
+    log().write(format!("{line}\n"));
 }
 
 /// Learns what standard error is, and by which name lines are told from now on.
 pub fn begin(name: &str) {
-    is_journal();
-    *NAME.lock().unwrap_or_else(PoisonError::into_inner) = Some(name.to_owned());
+    let mut log = log();
+    log.stream();
+    log.name = Some(name.to_owned());
 }
 
-/// The name that a line begins with.
-fn name() -> String {
-    NAME.lock().unwrap_or_else(PoisonError::into_inner).clone().unwrap_or_else(|| UNNAMED.to_owned())
+/// From now on nobody waits for a line to be written.
+pub fn write_in_background() -> Result<(), Fault> {
+    let stream = io::stderr().as_fd().try_clone_to_owned().map_err(|fault| Fault::of("standard error", &fault))?;
+    write_in_background_to(stream.into())
+}
+
+/// By a thread that writes to this stream.
+pub fn write_in_background_to(stream: File) -> Result<(), Fault> {
+    let writer = BackgroundWriter::start(MOST_WAITING, write_to(stream));
+    log().writer = Some(writer.map_err(|fault| Fault::of("no thread for the log", &fault))?);
+    Ok(())
+}
+
+/// From now on each line is written before one goes on.
+#[cfg(test)]
+pub fn write_at_once() {
+    log().writer = None;
+}
+
+/// Writes pieces whole. What this stream doesn't take is lost: nobody is left who could be told.
+fn write_to(mut stream: File) -> impl FnMut(&[u8]) + Send {
+    move |piece| drop(stream.write_all(piece))
+}
+
+/// Writes what still waits, for a bounded time.
+pub fn finish() {
+    log().finish(TO_FINISH);
+}
+
+fn log() -> MutexGuard<'static, Log> {
+    LOG.lock().unwrap_or_else(PoisonError::into_inner)
+}
+
+impl Log {
+    /// A line of what happened now. The journal has the time by itself.
+    fn event(&mut self, level: Level, text: impl fmt::Display) -> String {
+        let date = format!("{} ", date(wall_now()));
+        self.line(level, date, text)
+    }
+
+    /// A line with this start where standard error isn't the journal's.
+    fn line(&mut self, level: Level, start: String, text: impl fmt::Display) -> String {
+        let start = match self.stream() {
+            Stream::Journal => format!("<{}>", level.number()),
+            Stream::Other => start,
+        };
+        format!("{start}{}: {text}\n", self.name.as_deref().unwrap_or(UNNAMED))
+    }
+
+    /// What standard error is. It is looked at once, before the bridge may look at no file any more.
+    fn stream(&mut self) -> Stream {
+        let found = self.stream.unwrap_or_else(|| if looks_like_journal() { Stream::Journal } else { Stream::Other });
+        self.stream = Some(found);
+        found
+    }
+
+    fn write(&mut self, line: String) {
+        self.tell_dropped();
+        match &self.writer {
+            None => drop(io::stderr().write_all(line.as_bytes())),
+            Some(writer) if self.dropped == 0 && writer.push(line.into_bytes()).is_ok() => {}
+            Some(_) => self.dropped += 1,
+        }
+    }
+
+    /// Tells how many lines had no room, once there is some again.
+    fn tell_dropped(&mut self) {
+        if self.dropped > 0 {
+            let lines = self.dropped;
+            let line = self.event(Level::Warning, format_args!("{lines} lines are missing here: nothing took them"));
+            if self.writer.as_ref().map_or(false, |writer| writer.push(line.into_bytes()).is_ok()) {
+                self.dropped = 0;
+            }
+        }
+    }
+
+    fn finish(&mut self, most: Duration) {
+        let left = self.writer.as_ref().map_or(0, |writer| writer.finish(most));
+        if left == 0 && self.dropped > 0 {
+            self.tell_dropped();
+            if let Some(writer) = &self.writer {
+                writer.finish(most);
+            }
+        }
+    }
 }
 
 /// Whether the variable names the device and inode of standard error.
@@ -150,6 +243,10 @@ impl Bounded {
 #[cfg(test)]
 mod tests {
     use super::*;
+    use crate::testing::samples::read_all;
+    use std::os::unix::io::OwnedFd;
+    use std::os::unix::net::UnixStream;
+    use std::thread;
 
     #[test]
     fn moments_are_written_as_dates() {
@@ -164,6 +261,58 @@ mod tests {
         ] {
             assert_eq!(date(seconds * SECOND), wanted);
         }
+    }
+
+    /// A log that writes by a thread to this stream, of which so many octets wait at most.
+    fn log_to(stream: UnixStream, most_waiting: usize) -> Log {
+        let writer = BackgroundWriter::start(most_waiting, write_to(OwnedFd::from(stream).into())).unwrap();
+        Log { name: Some("live".to_owned()), stream: Some(Stream::Other), writer: Some(writer), dropped: 0 }
+    }
+
+    const LINES: usize = 50_000;
+
+    fn line_of(number: usize) -> String {
+        format!("{number:99}\n")
+    }
+
+    /// As where a terminal is paused. What fits waits, and is written once it goes on; the gap is told.
+    #[test]
+    fn where_nobody_reads_no_line_waits() {
+        let (near, far) = UnixStream::pair().unwrap();
+        let mut log = log_to(near, 10_000);
+        (0..LINES).for_each(|number| log.write(line_of(number)));
+        log.finish(Duration::from_millis(20));
+        assert!(log.dropped > 1000, "{}", log.dropped);
+        let reader = thread::spawn(|| read_all(far));
+        log.finish(Duration::from_secs(20));
+        assert_eq!(log.dropped, 0);
+        log.write(line_of(LINES));
+        log.finish(Duration::from_secs(20));
+        drop(log);
+        let mut next = 0;
+        for line in reader.join().unwrap().lines() {
+            let told = line.strip_suffix(" lines are missing here: nothing took them");
+            next += match told.and_then(|told| told.split_once("Z live: ")) {
+                Some((_, number)) => number.parse().unwrap(),
+                None => {
+                    assert_eq!(line, line_of(next).trim_end());
+                    1
+                }
+            };
+        }
+        assert_eq!(next, LINES + 1);
+    }
+
+    #[test]
+    fn lines_that_nobody_reads_any_more_are_lost() {
+        let (near, far) = UnixStream::pair().unwrap();
+        drop(far);
+        let mut log = log_to(near, 10_000);
+        for number in 0..1000 {
+            log.write(line_of(number));
+            log.finish(Duration::from_secs(20));
+        }
+        assert_eq!(log.dropped, 0);
     }
 
     #[test]

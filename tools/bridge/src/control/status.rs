@@ -1,12 +1,16 @@
 //! What is going on, as one line of JSON.
 use std::collections::{BTreeMap, VecDeque};
-use std::fmt::{self, Display, Write};
+use std::io;
+
+use serde::ser::{Serialize, SerializeMap, Serializer};
+use serde_json::ser::Formatter;
 
 use crate::apctl::recording::Recording;
-use crate::apctl::tables::Tables;
+use crate::apctl::tables::{Table, Tables};
 use crate::control::by::By;
+use crate::formats::frames::Address;
 use crate::network::Network;
-use crate::os::clock::{Nanos, MILLISECOND, SECOND};
+use crate::os::clock::{Nanos, MILLISECOND};
 use crate::outbound::air::account::Account;
 use crate::run::intervals::BeaconDelays;
 use crate::stations::station::{State, Station};
@@ -19,6 +23,7 @@ pub const VERSION: &str = match option_env!("BRIDGE_VERSION") {
 };
 /// How many stations of a network are listed at most.
 const MOST_STATIONS: usize = 1000;
+const MICROSECOND: Nanos = 1000;
 /// How many faults of the program are kept.
 const MOST_FAULTS: usize = 32;
 
@@ -89,185 +94,241 @@ pub struct Status<'a> {
 impl Status<'_> {
     /// The line, without its end.
     pub fn line(&self) -> String {
-        let mut line = String::new();
-        // A string takes all that is written to it.
-        let _ = self.write_all(&mut line);
-        line
+        line_of(self)
     }
 
-    fn write_all(&self, to: &mut String) -> fmt::Result {
-        write!(to, "{{\"version\":{},\"since\":{}", Text(VERSION), Seconds(self.now.saturating_sub(self.began)))?;
-        write!(to, ",\"phy\":{},\"channel\":{}", Text(self.phy), self.channel)?;
-        self.write_radio(to)?;
-        to.push_str(",\"faults\":");
-        let faults = self.faults.0.iter().rev();
-        list(to, faults, |to, (since, text)| {
-            write!(to, "{{\"seconds\":{},\"text\":{}}}", Seconds(self.now.saturating_sub(*since)), Text(text))
-        })?;
-        write!(to, ",\"record\":{}", Maybe(self.record.map(Recorded)))?;
-        let BeaconDelays { sent, .. } = *self.beacons;
-        let (mean, worst, missed) = (self.beacons.mean(), self.beacons.worst, self.beacons.missed);
-        write!(to, ",\"beacons\":{{\"sent\":{sent},\"late_ms_mean\":{},", Milliseconds(mean))?;
-        write!(to, "\"late_ms_worst\":{},\"missed\":{missed}}},\"drops\":", Milliseconds(worst))?;
-        named(to, &self.drops)?;
-        to.push_str(",\"left_out\":");
-        named(to, &self.left_out)?;
-        to.push_str(",\"networks\":");
-        list(to, 0..self.networks.len(), |to, place| self.write_network(to, place))?;
-        to.push('}');
-        Ok(())
-    }
-
-    fn write_radio(&self, to: &mut String) -> fmt::Result {
-        if let Some(by) = self.by {
-            write!(to, ",\"by\":{}", Text(&by.to_string()))?;
-        }
-        let OfRadio { down_since, unsent_since, elsewhere, heard_elsewhere } = self.radio;
-        let ago = |moment: Option<Nanos>| Maybe(moment.map(|moment| Seconds(self.now.saturating_sub(moment))));
-        write!(to, ",\"radio\":{{\"down\":{},\"unsent\":{}", ago(down_since), ago(unsent_since))?;
-        write!(to, ",\"elsewhere\":{},\"heard_elsewhere\":{heard_elsewhere}}}", Maybe(elsewhere))
-    }
-
-    fn write_network(&self, to: &mut String, place: usize) -> fmt::Result {
-        let (network, table) = (&self.networks[place], self.tables.last().and_then(|tables| tables.get(place)));
-        let (ssid, wire) = (Maybe(table.map(|table| Text(&table.ssid))), Maybe(network.wire.as_deref().map(Text)));
-        write!(to, "{{\"bssid\":{},\"ssid\":{ssid},\"wire\":{wire},", Text(&network.bssid.to_string()))?;
-        let down = self.wires_down.get(place).copied().flatten();
-        let down = Maybe(down.map(|since| Seconds(self.now.saturating_sub(since))));
-        write!(to, "\"wire_down\":{down},\"air\":")?;
-        self.write_air(to, place)?;
-        to.push_str(",\"counts\":");
-        match table {
-            Some(table) => named(to, &table.counts.iter().cloned().collect())?,
-            None => to.push_str("null"),
-        }
-        to.push_str(",\"refusals\":");
-        let refusals = self.table.refusals(place).iter();
-        named(to, &refusals.map(|(status, number)| (status.to_string(), *number)).collect())?;
-        let stations = self.table.stations_of(place);
-        write!(to, ",\"known\":{},\"stations\":", stations.len())?;
-        list(to, stations.into_iter().take(MOST_STATIONS), |to, (address, station)| {
-            write!(to, "{{\"address\":{},", Text(&address.to_string()))?;
-            self.write_station(to, station)?;
-            let kept = table.and_then(|table| table.stations.get(&address)).map(|(_, kept)| kept);
-            write!(to, ",\"kept\":{}}}", Maybe(kept))
-        })?;
-        to.push('}');
-        Ok(())
-    }
-
-    fn write_air(&self, to: &mut String, place: usize) -> fmt::Result {
-        let Account { used, waiting, unsent, .. } = &self.accounts[place];
-        write!(to, "{{\"weight\":{},\"seconds\":{}", self.networks[place].weight, Seconds(*used))?;
-        write!(to, ",\"waiting\":{waiting},\"unsent\":")?;
-        named(to, &unsent.iter().map(|(why, number)| (why.to_string(), *number)).collect())?;
-        to.push('}');
-        Ok(())
-    }
-
-    fn write_station(&self, to: &mut String, station: &Station) -> fmt::Result {
-        let (state, aid) = match station.state {
-            State::Authenticated => ("authenticated", None),
-            State::Associated(aid) => ("associated", Some(aid)),
-        };
-        let ago = |moment: Nanos| Seconds(self.now.saturating_sub(moment));
-        write!(to, "\"state\":{},\"aid\":{},\"dozes\":{}", Text(state), Maybe(aid), station.dozes)?;
-        write!(to, ",\"since\":{},\"heard\":{}", ago(station.since), ago(station.heard))?;
-        let (sent, heard) = (&station.to, &station.from);
-        write!(to, ",\"signal\":{},\"rate_to\":{}", Maybe(station.signal), Maybe(sent.rate))?;
-        write!(to, ",\"rate_from\":{},\"octets_to\":{}", Maybe(heard.rate), sent.octets)?;
-        write!(to, ",\"octets_from\":{},\"frames_to\":{}", heard.octets, sent.frames)?;
-        write!(to, ",\"frames_from\":{}", heard.frames)
+    fn ago(&self, moment: Nanos) -> Decimal {
+        Decimal::seconds(self.now.saturating_sub(moment))
     }
 }
 
 /// An answer that says why a question isn't answered.
 pub fn error(text: &str) -> String {
-    format!("{{\"error\":{}}}", Text(text))
+    line_of(&BTreeMap::from([("error", text)]))
 }
 
-fn list<T>(
-    to: &mut String,
-    parts: impl Iterator<Item = T>,
-    mut write_one: impl FnMut(&mut String, T) -> fmt::Result,
-) -> fmt::Result {
-    to.push('[');
-    for (place, part) in parts.enumerate() {
-        if place > 0 {
-            to.push(',');
-        }
-        write_one(to, part)?;
+/// A document in one line of ASCII, which any reader takes.
+fn line_of(document: &impl Serialize) -> String {
+    let mut line = Vec::new();
+    let outcome = document.serialize(&mut serde_json::Serializer::with_formatter(&mut line, Ascii));
+    debug_assert!(outcome.is_ok(), "every name is a text, and a vector takes all");
+    String::from_utf8(line).unwrap_or_default()
+}
+
+/// Letters beyond ASCII are escaped, and numbers with a point have three places behind it.
+struct Ascii;
+
+impl Formatter for Ascii {
+    fn write_f64<W: ?Sized + io::Write>(&mut self, to: &mut W, number: f64) -> io::Result<()> {
+        write!(to, "{number:.3}")
     }
-    to.push(']');
-    Ok(())
-}
 
-fn named(to: &mut String, counts: &Named) -> fmt::Result {
-    to.push('{');
-    for (place, (name, number)) in counts.iter().enumerate() {
-        write!(to, "{}{}:{number}", if place > 0 { "," } else { "" }, Text(name))?;
-    }
-    to.push('}');
-    Ok(())
-}
-
-/// A text between quotation marks; all but the letters of ASCII is written in a way that any reader takes.
-struct Text<'a>(&'a str);
-
-impl Display for Text<'_> {
-    fn fmt(&self, to: &mut fmt::Formatter<'_>) -> fmt::Result {
-        to.write_char('"')?;
-        for letter in self.0.chars() {
-            match letter {
-                '"' | '\\' => write!(to, "\\{letter}")?,
-                ' '..='~' => to.write_char(letter)?,
-                _ => {
-                    for half in letter.encode_utf16(&mut [0; 2]) {
-                        write!(to, "\\u{half:04x}")?;
-                    }
-                }
-            }
-        }
-        to.write_char('"')
+    fn write_string_fragment<W: ?Sized + io::Write>(&mut self, to: &mut W, text: &str) -> io::Result<()> {
+        text.chars().try_for_each(|letter| match letter {
+            ' '..='~' => write!(to, "{letter}"),
+            _ => letter.encode_utf16(&mut [0; 2]).iter().try_for_each(|half| write!(to, "\\u{half:04x}")),
+        })
     }
 }
 
-/// What may be missing.
-struct Maybe<T>(Option<T>);
+/// A number with three places behind the point.
+#[derive(Debug, Clone, Copy)]
+struct Decimal {
+    thousandths: u64,
+}
 
-impl<T: Display> Display for Maybe<T> {
-    fn fmt(&self, to: &mut fmt::Formatter<'_>) -> fmt::Result {
-        match &self.0 {
-            Some(found) => write!(to, "{found}"),
-            None => write!(to, "null"),
+impl Decimal {
+    /// A time in seconds.
+    fn seconds(time: Nanos) -> Decimal {
+        Decimal { thousandths: time / MILLISECOND }
+    }
+
+    /// A time in milliseconds.
+    fn milliseconds(time: Nanos) -> Decimal {
+        Decimal { thousandths: time / MICROSECOND }
+    }
+}
+
+impl Serialize for Decimal {
+    fn serialize<S: Serializer>(&self, to: S) -> Result<S::Ok, S::Error> {
+        to.serialize_f64(self.thousandths as f64 / 1000.0)
+    }
+}
+
+/// Writes an object of these members, in this order.
+macro_rules! object {
+    ($to:expr, $($name:literal: $value:expr,)+) => {{
+        let mut object = $to.serialize_map(None)?;
+        $(object.serialize_entry($name, &$value)?;)+
+        object.end()
+    }};
+}
+
+/// A list of what this gives.
+struct List<I>(I);
+
+impl<I: Iterator + Clone> Serialize for List<I>
+where
+    I::Item: Serialize,
+{
+    fn serialize<S: Serializer>(&self, to: S) -> Result<S::Ok, S::Error> {
+        to.collect_seq(self.0.clone())
+    }
+}
+
+impl Serialize for Status<'_> {
+    fn serialize<S: Serializer>(&self, to: S) -> Result<S::Ok, S::Error> {
+        let faults = self.faults.0.iter().rev();
+        let networks = 0..self.networks.len();
+        let mut object = to.serialize_map(None)?;
+        object.serialize_entry("version", VERSION)?;
+        object.serialize_entry("since", &self.ago(self.began))?;
+        object.serialize_entry("phy", self.phy)?;
+        object.serialize_entry("channel", &self.channel)?;
+        if let Some(by) = self.by {
+            object.serialize_entry("by", &by.to_string())?;
         }
+        object.serialize_entry("radio", &RadioPart(self))?;
+        object.serialize_entry("faults", &List(faults.map(|(since, text)| FaultPart(self.ago(*since), text))))?;
+        object.serialize_entry("record", &self.record.map(RecordPart))?;
+        object.serialize_entry("beacons", &BeaconsPart(self.beacons))?;
+        object.serialize_entry("drops", &self.drops)?;
+        object.serialize_entry("left_out", &self.left_out)?;
+        object.serialize_entry("networks", &List(networks.map(|place| NetworkPart { status: self, place })))?;
+        object.end()
+    }
+}
+
+struct RadioPart<'a>(&'a Status<'a>);
+
+impl Serialize for RadioPart<'_> {
+    fn serialize<S: Serializer>(&self, to: S) -> Result<S::Ok, S::Error> {
+        let OfRadio { down_since, unsent_since, elsewhere, heard_elsewhere } = self.0.radio;
+        object!(to,
+            "down": down_since.map(|since| self.0.ago(since)),
+            "unsent": unsent_since.map(|since| self.0.ago(since)),
+            "elsewhere": elsewhere,
+            "heard_elsewhere": heard_elsewhere,
+        )
+    }
+}
+
+struct FaultPart<'a>(Decimal, &'a str);
+
+impl Serialize for FaultPart<'_> {
+    fn serialize<S: Serializer>(&self, to: S) -> Result<S::Ok, S::Error> {
+        object!(to, "seconds": self.0, "text": self.1,)
     }
 }
 
 /// How many octets were recorded, and why no more are.
-struct Recorded<'a>(&'a Recording);
+struct RecordPart<'a>(&'a Recording);
 
-impl Display for Recorded<'_> {
-    fn fmt(&self, to: &mut fmt::Formatter<'_>) -> fmt::Result {
-        write!(to, "{{\"octets\":{},\"fault\":{}}}", self.0.written(), Maybe(self.0.fault().map(Text)))
+impl Serialize for RecordPart<'_> {
+    fn serialize<S: Serializer>(&self, to: S) -> Result<S::Ok, S::Error> {
+        object!(to, "octets": self.0.written(), "fault": self.0.fault(),)
     }
 }
 
-/// A time in seconds, to the millisecond.
-struct Seconds(Nanos);
+struct BeaconsPart<'a>(&'a BeaconDelays);
 
-impl Display for Seconds {
-    fn fmt(&self, to: &mut fmt::Formatter<'_>) -> fmt::Result {
-        write!(to, "{}.{:03}", self.0 / SECOND, self.0 % SECOND / MILLISECOND)
+impl Serialize for BeaconsPart<'_> {
+    fn serialize<S: Serializer>(&self, to: S) -> Result<S::Ok, S::Error> {
+        object!(to,
+            "sent": self.0.sent,
+            "late_ms_mean": Decimal::milliseconds(self.0.mean()),
+            "late_ms_worst": Decimal::milliseconds(self.0.worst),
+            "missed": self.0.missed,
+        )
     }
 }
 
-/// A time in milliseconds, to the microsecond.
-struct Milliseconds(Nanos);
+/// The network of this place.
+#[derive(Clone, Copy)]
+struct NetworkPart<'a> {
+    status: &'a Status<'a>,
+    place: usize,
+}
 
-impl Display for Milliseconds {
-    fn fmt(&self, to: &mut fmt::Formatter<'_>) -> fmt::Result {
-        write!(to, "{}.{:03}", self.0 / MILLISECOND, self.0 % MILLISECOND / 1000)
+impl<'a> NetworkPart<'a> {
+    fn network(&self) -> &'a Network {
+        &self.status.networks[self.place]
+    }
+
+    /// What the program said of it last.
+    fn table(&self) -> Option<&'a Table> {
+        self.status.tables.last().and_then(|tables| tables.get(self.place))
+    }
+}
+
+impl Serialize for NetworkPart<'_> {
+    fn serialize<S: Serializer>(&self, to: S) -> Result<S::Ok, S::Error> {
+        let (network, table, place) = (self.network(), self.table(), self.place);
+        let down_since = self.status.wires_down.get(place).copied().flatten();
+        let refusals = self.status.table.refusals(place).iter();
+        let stations = self.status.table.stations_of(place);
+        object!(to,
+            "bssid": network.bssid.to_string(),
+            "ssid": table.map(|table| &table.ssid),
+            "wire": network.wire,
+            "wire_down": down_since.map(|since| self.status.ago(since)),
+            "air": AirPart(*self),
+            "counts": table.map(|table| table.counts.iter().cloned().collect::<Named>()),
+            "refusals": refusals.map(|(status, number)| (status.to_string(), *number)).collect::<Named>(),
+            "known": stations.len(),
+            "stations": List(stations.iter().take(MOST_STATIONS).map(|(address, station)| StationPart {
+                network: *self,
+                address: *address,
+                station,
+            })),
+        )
+    }
+}
+
+struct AirPart<'a>(NetworkPart<'a>);
+
+impl Serialize for AirPart<'_> {
+    fn serialize<S: Serializer>(&self, to: S) -> Result<S::Ok, S::Error> {
+        let Account { used, waiting, unsent, .. } = &self.0.status.accounts[self.0.place];
+        object!(to,
+            "weight": self.0.network().weight,
+            "seconds": Decimal::seconds(*used),
+            "waiting": waiting,
+            "unsent": unsent.iter().map(|(why, number)| (why.to_string(), *number)).collect::<Named>(),
+        )
+    }
+}
+
+struct StationPart<'a> {
+    network: NetworkPart<'a>,
+    address: Address,
+    station: &'a Station,
+}
+
+impl Serialize for StationPart<'_> {
+    fn serialize<S: Serializer>(&self, to: S) -> Result<S::Ok, S::Error> {
+        let (station, status) = (self.station, self.network.status);
+        let (state, aid) = match station.state {
+            State::Authenticated => ("authenticated", None),
+            State::Associated(aid) => ("associated", Some(aid)),
+        };
+        let kept = self.network.table().and_then(|table| table.stations.get(&self.address)).map(|(_, kept)| kept);
+        object!(to,
+            "address": self.address.to_string(),
+            "state": state,
+            "aid": aid,
+            "dozes": station.dozes,
+            "since": status.ago(station.since),
+            "heard": status.ago(station.heard),
+            "signal": station.signal,
+            "rate_to": station.to.rate,
+            "rate_from": station.from.rate,
+            "octets_to": station.to.octets,
+            "octets_from": station.from.octets,
+            "frames_to": station.to.frames,
+            "frames_from": station.from.frames,
+            "kept": kept,
+        )
     }
 }
 
@@ -275,6 +336,7 @@ impl Display for Milliseconds {
 mod tests {
     use super::*;
     use crate::apctl::tables::Asker;
+    use crate::os::clock::SECOND;
     use crate::outbound::air::account::Unsent;
     use crate::testing::samples::{network, OTHER, OURS, STATION};
 
@@ -283,18 +345,20 @@ mod tests {
         for (text, wanted) in [
             ("a b", r#""a b""#),
             ("a\"\\", r#""a\"\\""#),
-            ("\n\u{e9}\u{1f600}\u{7f}", r#""\u000a\u00e9\ud83d\ude00\u007f""#),
+            ("\n\u{e9}\u{1f600}\u{7f}", r#""\n\u00e9\ud83d\ude00\u007f""#),
         ] {
-            assert_eq!(Text(text).to_string(), wanted);
+            assert_eq!(line_of(&text), wanted);
         }
         assert_eq!(error("no \"x\""), r#"{"error":"no \"x\""}"#);
     }
 
     #[test]
     fn numbers_are_decimal() {
-        assert_eq!(Seconds(12_345_678_901).to_string(), "12.345");
-        assert_eq!(Milliseconds(412_999).to_string(), "0.412");
-        assert_eq!(Maybe::<u8>(None).to_string() + &Maybe(Some(-30)).to_string(), "null-30");
+        for (time, wanted) in [(12_345_678_901, "12.345"), (999_999, "0.000"), (Nanos::MAX, "18446744073.709")] {
+            assert_eq!(line_of(&Decimal::seconds(time)), wanted);
+        }
+        assert_eq!(line_of(&Decimal::milliseconds(412_999)), "0.412");
+        assert_eq!(line_of(&[None, Some(-30)]), "[null,-30]");
     }
 
     #[test]
@@ -322,7 +386,7 @@ mod tests {
         }
         faults.push("fault L2 line 3", SECOND);
         faults.push("fault L1 line 4", 2 * SECOND);
-        let record = Recording::new("today", std::fs::File::open("/dev/null").unwrap());
+        let record = Recording::new("today", std::fs::File::open("/dev/null").unwrap()).unwrap();
         let mut beacons = BeaconDelays::default();
         beacons.count(2 * MILLISECOND);
         beacons.count(4 * MILLISECOND);
@@ -364,7 +428,7 @@ mod tests {
             r#""counts":{},"refusals":{"1":1},"known":0,"stations":[]}]}"#,
         ];
         let (line, wanted) = (status.line(), wanted.concat());
-        assert!(line.starts_with(&format!("{{\"version\":{}", Text(VERSION))), "{line}");
+        assert!(line.starts_with(&format!("{{\"version\":{}", line_of(&VERSION))), "{line}");
         assert!(line.ends_with(&wanted), "{line}\n{wanted}");
     }
 

@@ -1,4 +1,3 @@
-//! How octets are laid out that several folders read: frames of the air, radiotap headers, and hexadecimal digits.
-pub mod digits;
+//! How octets are laid out that several folders read: frames of the air and radiotap headers.
 pub mod frames;
 pub mod radiotap;

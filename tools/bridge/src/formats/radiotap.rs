@@ -189,7 +189,7 @@ mod tests {
         let longer = [data(), vec![1, 2, 3, 4]].concat();
         assert_eq!(captured(&radiotap(&longer, 1 << 1, &[HAS_FCS])).unwrap().frame, data());
         assert_eq!(captured(&radiotap(&longer, 1 << 1, &[0])).unwrap().frame, longer);
-        assert_eq!(captured(&radiotap(&[1, 2], 1 << 1, &[HAS_FCS])).unwrap().frame, []);
+        assert!(captured(&radiotap(&[1, 2], 1 << 1, &[HAS_FCS])).unwrap().frame.is_empty());
     }
 
     #[test]

@@ -2,7 +2,6 @@
 //! has written.
 use std::fmt::Write;
 
-use crate::formats::digits;
 use crate::formats::frames::{Address, Frame};
 use crate::handover::state::{NetworkState, Setting, State};
 use crate::stations::meaning::{from_station, FromStation};
@@ -27,10 +26,10 @@ impl State {
         for network in &self.networks {
             let NetworkState { bssid, ssid, rates, units, waiting, stations } = network;
             let units = units.map_or_else(|| "-".to_owned(), |units| units.to_string());
-            let (ssid, rates) = (digits_of(ssid), digits_of(rates));
+            let (ssid, rates) = (hex::encode(ssid), hex::encode(rates));
             let _ = writeln!(text, "network {bssid} {ssid} {rates} {units} {waiting}");
             for KeptStation { address, aid, listen, dozes, has_dozed, request } in stations {
-                let (dozes, has_dozed, request) = (u8::from(*dozes), u8::from(*has_dozed), digits_of(request));
+                let (dozes, has_dozed, request) = (u8::from(*dozes), u8::from(*has_dozed), hex::encode(request));
                 let _ = writeln!(text, "station {address} {aid} {listen} {dozes} {has_dozed} {request}");
             }
         }
@@ -64,12 +63,6 @@ impl State {
     }
 }
 
-fn digits_of(octets: &[u8]) -> String {
-    let mut text = Vec::new();
-    digits::push(octets, &mut text);
-    String::from_utf8_lossy(&text).into_owned()
-}
-
 fn sum_of(octets: &[u8]) -> u64 {
     octets.iter().fold(SUM_OF_NOTHING, |sum, octet| (sum ^ u64::from(*octet)).wrapping_mul(SUM_FACTOR))
 }
@@ -100,8 +93,8 @@ fn read_network(words: &[&str]) -> Option<NetworkState> {
     match words {
         [_, bssid, ssid, rates, units, waiting] => Some(NetworkState {
             bssid: bssid.parse().ok()?,
-            ssid: digits::read(ssid.as_bytes())?,
-            rates: digits::read(rates.as_bytes())?,
+            ssid: hex::decode(ssid).ok()?,
+            rates: hex::decode(rates).ok()?,
             units: if *units == "-" { None } else { Some(units.parse().ok()?) },
             waiting: waiting.parse().ok()?,
             stations: Vec::new(),
@@ -120,7 +113,7 @@ fn read_station(words: &[&str], bssid: Address) -> Option<KeptStation> {
                 listen: listen.parse().ok()?,
                 dozes: read_flag(dozes)?,
                 has_dozed: read_flag(has_dozed)?,
-                request: digits::read(request.as_bytes())?,
+                request: hex::decode(request).ok()?,
             };
             let asks = Frame::of(&kept.request)
                 .filter(|frame| frame.receiver() == bssid && frame.transmitter() == Some(kept.address))

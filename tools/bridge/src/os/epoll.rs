@@ -1,16 +1,29 @@
-//! Waiting for several descriptors at once (epoll(7)), for which std has nothing. What is unsafe here are its calls of
-//! the system.
+//! Waiting for several descriptors at once (epoll(7)), or for one and a short time (ppoll(2)), for which std has
+//! nothing. What is unsafe here are these calls of the system.
 #![allow(unsafe_code)]
 use std::io;
 use std::os::unix::io::{AsRawFd, FromRawFd, OwnedFd, RawFd};
-use std::ptr::null_mut;
+use std::ptr::{null, null_mut};
 
-use libc::{c_int, epoll_event};
+use libc::{c_int, epoll_event, pollfd, timespec};
 
+use crate::os::clock::{Nanos, SECOND};
 use crate::os::sockets::checked;
 
 /// How many events are taken by one call.
 const AT_A_TIME: usize = 32;
+
+/// Waits until this descriptor can be read or was closed, for so long at most: to less than a millisecond. A signal may
+/// end the wait before.
+pub fn wait_for_one(descriptor: RawFd, most: Nanos) -> io::Result<()> {
+    let mut wanted = pollfd { fd: descriptor, events: libc::POLLIN, revents: 0 };
+    let most = timespec { tv_sec: (most / SECOND) as _, tv_nsec: (most % SECOND) as _ };
+    // SAFETY: the kernel reads the time, and reads and writes one descriptor; no set of signals is handed over.
+    match checked(unsafe { libc::ppoll(&mut wanted, 1, &most, null()) }) {
+        Err(fault) if fault.kind() != io::ErrorKind::Interrupted => Err(fault),
+        _ => Ok(()),
+    }
+}
 
 /// What came of the descriptor that was added with this number.
 #[derive(Debug, Clone, Copy, PartialEq, Eq)]

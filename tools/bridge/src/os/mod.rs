@@ -1,4 +1,5 @@
-//! What the bridge takes of Linux: sockets, a poller, clocks, and a sandbox.
+//! What the bridge takes of Linux: sockets, a poller, clocks, threads that write, and a sandbox.
+pub mod background_writer;
 pub mod clock;
 mod epoll;
 mod landlock;

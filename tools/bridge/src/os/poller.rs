@@ -2,8 +2,8 @@
 use std::os::unix::io::RawFd;
 
 use crate::control::faults::Fault;
-use crate::os::clock::Nanos;
-use crate::os::epoll::Epoll;
+use crate::os::clock::{now, Nanos};
+use crate::os::epoll::{wait_for_one, Epoll};
 use crate::os::timer::Timer;
 
 /// What is waited for.
@@ -115,6 +115,11 @@ impl Poller {
         Ok(())
     }
 
+    /// Waits until this time, or until this descriptor alone can be read: all else that comes may gather.
+    pub fn gather(&self, descriptor: RawFd, until: Nanos) -> Result<(), Fault> {
+        Ok(wait_for_one(descriptor, until.saturating_sub(now()))?)
+    }
+
     /// Waits until something comes, or for so many milliseconds at most.
     pub fn wait(&mut self, most: Option<u16>, found: &mut Vec<Ready>) -> Result<(), Fault> {
         found.clear();
@@ -134,7 +139,7 @@ impl Poller {
 #[cfg(test)]
 mod tests {
     use super::*;
-    use crate::os::clock::{now, MILLISECOND};
+    use crate::os::clock::{MILLISECOND, SECOND};
     use std::io::Write;
     use std::os::unix::io::AsRawFd;
     use std::os::unix::net::UnixStream;
@@ -167,5 +172,20 @@ mod tests {
         poller.change(one.as_raw_fd(), Token::Wire(7), false, false).unwrap();
         poller.wait(Some(1), &mut found).unwrap();
         assert_eq!(found, []);
+    }
+
+    #[test]
+    fn what_gathers_ends_no_wait() {
+        let ((one, mut other), (wanted, mut asks)) = (UnixStream::pair().unwrap(), UnixStream::pair().unwrap());
+        let poller = Poller::new().unwrap();
+        poller.add(one.as_raw_fd(), Token::Wire(7), true, false).unwrap();
+        other.write_all(b"x").unwrap();
+        let begun = now();
+        poller.gather(wanted.as_raw_fd(), begun + 20 * MILLISECOND).unwrap();
+        assert!(now() - begun >= 20 * MILLISECOND);
+        poller.gather(wanted.as_raw_fd(), begun).unwrap();
+        asks.write_all(b"x").unwrap();
+        poller.gather(wanted.as_raw_fd(), now() + 100 * SECOND).unwrap();
+        assert!(now() - begun < 50 * SECOND);
     }
 }

@@ -1,3 +1,5 @@
+use std::io::{Read, Write};
+use std::os::unix::net::UnixStream;
 use std::os::unix::process::ExitStatusExt;
 use std::path::Path;
 use std::process::{ExitStatus, Stdio};
@@ -5,6 +7,7 @@ use std::process::{ExitStatus, Stdio};
 use libc::c_long;
 
 use super::*;
+use crate::os::background_writer::BackgroundWriter;
 use crate::os::landlock::is_linked;
 
 const ROOM: u64 = 1 << 30;
@@ -198,4 +201,30 @@ fn a_script_has_another_that_loads_it() {
     assert!(is_linked(&path).unwrap());
     std::fs::remove_file(path).unwrap();
     assert!(is_linked("/bin/true".as_ref()).unwrap());
+}
+
+/// A thread that writes still does once its process keeps to the list, and it keeps to the list too.
+#[test]
+fn a_thread_that_writes_keeps_to_the_calls_of_the_bridge() {
+    let process = |is_allowed: bool| {
+        process_that(move || {
+            let (near, mut far) = UnixStream::pair()?;
+            let mut to = near;
+            let writer = BackgroundWriter::start(1 << 20, move |piece| {
+                // SAFETY: no memory is handed over.
+                let _ =
+                    is_allowed || unsafe { libc::syscall(libc::SYS_socket, libc::AF_INET, libc::SOCK_STREAM, 0) } < 0;
+                to.write_all(&[piece, &vec![7; 1 << 20]].concat()).unwrap();
+            })?;
+            no_new_privileges();
+            Calls::of(OF_BRIDGE.iter().chain(ANY)).take_on()?;
+            assert_eq!(writer.push(vec![7; 1 << 16]), Ok(()));
+            let mut octets = vec![0; (1 << 16) + (1 << 20)];
+            far.read_exact(&mut octets)?;
+            // SAFETY: it ends this process.
+            unsafe { libc::_exit(i32::from(octets.iter().any(|octet| *octet != 7))) }
+        })
+    };
+    assert_eq!(process(true).unwrap().code(), Some(0));
+    assert_eq!(process(false).unwrap().signal(), Some(libc::SIGSYS));
 }

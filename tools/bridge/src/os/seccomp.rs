@@ -25,6 +25,7 @@ pub enum Rule {
 // Of <linux/seccomp.h> and <linux/audit.h>, as far as the crate libc hasn't them everywhere.
 const ALLOW: u32 = 0x7fff_0000;
 const ERRNO: u32 = 0x0005_0000;
+const FOR_ALL_THREADS: c_ulong = 1;
 const KILL_PROCESS: u32 = 0x8000_0000;
 #[cfg(target_arch = "x86_64")]
 const ARCHITECTURE: u32 = 0xc000_003e;
@@ -229,12 +230,19 @@ impl Calls {
         self.answer(without);
     }
 
-    /// This process, and what it starts, keeps to the list from now on. It allocates nothing.
+    /// All threads of this process, and what it starts, keep to the list from now on. It allocates nothing.
     pub fn take_on(&self) -> io::Result<()> {
         let program = libc::sock_fprog { len: self.0.len() as u16, filter: self.0.as_ptr() as *mut sock_filter };
         // SAFETY: the kernel reads as many steps as the list has.
-        checked(unsafe { libc::syscall(libc::SYS_seccomp, libc::SECCOMP_SET_MODE_FILTER, 0 as c_ulong, &program) })?;
-        Ok(())
+        let answer = checked(unsafe {
+            libc::syscall(libc::SYS_seccomp, libc::SECCOMP_SET_MODE_FILTER, FOR_ALL_THREADS, &program)
+        })?;
+        // Else it is the number of a thread that can't.
+        if answer == 0 {
+            Ok(())
+        } else {
+            Err(io::Error::from_raw_os_error(libc::EBUSY))
+        }
     }
 }
 

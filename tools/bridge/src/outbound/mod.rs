@@ -58,6 +58,7 @@ impl<P: Port> Outbound<P> {
     pub fn counts(&self) -> Counts {
         let mut counts = self.counts.clone();
         self.monitor.counts().iter().for_each(|(what, number)| count(&mut counts, what, *number));
+        self.wires.iter().flatten().for_each(|wire| wire.count_dropped(&mut counts));
         let Unacknowledged { again, lost } = self.air.unacknowledged();
         let of_wires = self.wires.iter().flatten().map(Wire::sent_frames).sum();
         for (what, number) in [
@@ -136,7 +137,7 @@ impl<P: Port> Outbound<P> {
         match &mut self.wires[place] {
             None => count(&mut self.counts, "lost, of networks without --wire", 1),
             Some(_) if is_tagged(&octets) => count(&mut self.counts, "not sent, since they have a VLAN's tag", 1),
-            Some(exit) => exit.push(octets, now, &mut self.counts),
+            Some(exit) => exit.push(octets, now),
         }
         Ok(())
     }

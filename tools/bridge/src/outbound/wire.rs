@@ -24,17 +24,31 @@ pub struct Wire<P> {
     leaving: VecDeque<Leaving>,
     pub(super) octets: usize,
     sent: u64,
+    /// How many frames were dropped for want of room, and because they had waited too long.
+    without_room: u64,
+    late: u64,
 }
 
 impl<P: Port> Wire<P> {
     /// Nothing waits.
     pub fn new(port: P) -> Wire<P> {
-        Wire { gate: Gate::new(port), leaving: VecDeque::new(), octets: 0, sent: 0 }
+        Wire { gate: Gate::new(port), leaving: VecDeque::new(), octets: 0, sent: 0, without_room: 0, late: 0 }
     }
 
     /// How many frames were sent.
     pub fn sent_frames(&self) -> u64 {
         self.sent
+    }
+
+    /// Adds what was dropped to these counts.
+    pub fn count_dropped(&self, counts: &mut Counts) {
+        let interface = self.gate.port.interface();
+        if self.without_room > 0 {
+            count(counts, &format!("dropped, since no more could wait for {interface}"), self.without_room);
+        }
+        if self.late > 0 {
+            count(counts, &format!("dropped, of data that had waited too long for {interface}"), self.late);
+        }
     }
 
     /// Whether nothing waits, for room or to be sent.
@@ -48,13 +62,13 @@ impl<P: Port> Wire<P> {
     }
 
     /// A frame waits from now on. What has no room beside it is dropped, the oldest first.
-    pub fn push(&mut self, octets: Vec<u8>, now: Nanos, counts: &mut Counts) {
+    pub fn push(&mut self, octets: Vec<u8>, now: Nanos) {
         while self.octets + octets.len() > MOST_OCTETS {
             match self.leaving.pop_front() {
                 Some(dropped) => self.octets -= dropped.octets.len(),
                 None => break,
             }
-            count(counts, &format!("dropped, since no more could wait for {}", self.gate.port.interface()), 1);
+            self.without_room += 1;
         }
         self.octets += octets.len();
         self.leaving.push_back(Leaving { octets, since: now });
@@ -64,7 +78,7 @@ impl<P: Port> Wire<P> {
     pub fn flush(&mut self, now: Nanos, until: Nanos, counts: &mut Counts) {
         let mut time = now;
         while !self.gate.is_blocked() && !self.leaving.is_empty() && time < until {
-            self.drop_late(now, counts);
+            self.drop_late(now);
             let mut frames: [&[u8]; AT_A_TIME] = [&[]; AT_A_TIME];
             frames.iter_mut().zip(&self.leaving).for_each(|(frame, leaving)| *frame = &leaving.octets);
             let number = self.leaving.len().min(AT_A_TIME);
@@ -86,14 +100,10 @@ impl<P: Port> Wire<P> {
         }
     }
 
-    fn drop_late(&mut self, now: Nanos, counts: &mut Counts) {
-        let before = self.leaving.len();
+    fn drop_late(&mut self, now: Nanos) {
         while self.leaving.front().map_or(false, |frame| now.saturating_sub(frame.since) > LONGEST) {
             self.octets -= self.leaving.pop_front().map_or(0, |frame| frame.octets.len());
-        }
-        if self.leaving.len() < before {
-            let what = format!("dropped, of data that had waited too long for {}", self.gate.port.interface());
-            count(counts, &what, (before - self.leaving.len()) as u64);
+            self.late += 1;
         }
     }
 

@@ -1,6 +1,6 @@
 use std::fs::{self, Permissions};
 use std::io::{self, BufRead, BufReader, Write};
-use std::os::unix::fs::{MetadataExt, PermissionsExt};
+use std::os::unix::fs::{MetadataExt, OpenOptionsExt, PermissionsExt};
 use std::os::unix::io::{AsRawFd, OwnedFd, RawFd};
 use std::os::unix::net::{UnixDatagram, UnixListener, UnixStream};
 use std::path::PathBuf;
@@ -14,6 +14,7 @@ use libc::sock_filter;
 use super::staying::{left_state, RESTORED_FROM, RESTORED_TO};
 use super::*;
 use crate::apctl::recording::Recording;
+use crate::control::log;
 use crate::formats::radiotap::sending_header;
 use crate::handover::state::State;
 use crate::network::Network;
@@ -338,7 +339,7 @@ fn run_with(
     let clients = Clients::new(UnixListener::bind(stage.folder.join("socket")).unwrap()).unwrap();
     let outcome = thread::scope(|scope| {
         let name = surroundings.record.map_or_else(|| stage.folder.join("record"), PathBuf::from);
-        let record = Recording::new("record", fs::File::create(name).unwrap());
+        let record = Recording::new("record", fs::File::create(name).unwrap()).unwrap();
         scope.spawn(|| {
             if let Some(state) = surroundings.state {
                 hand(&stage.requests, b"state\n", &files_of(state)).unwrap();
@@ -569,6 +570,54 @@ fn a_full_disk_ends_the_recording_alone() {
     assert_eq!(outcome, Ok(()));
     let wanted = r#""record":{"octets":0,"fault":"No space left on device"}"#;
     assert!(status.contains(wanted), "{status}");
+    assert_eq!(*stage.sent_on_wire.lock().unwrap(), [data()]);
+    assert!(stage.sent.lock().unwrap().len() >= 6);
+}
+
+/// A pipe that is full, and whose reader doesn't read: its path, and both ends of it.
+fn stuck_pipe(name: &str) -> (&'static str, fs::File) {
+    let path = format!("{}/{name}-{}", std::env::temp_dir().display(), std::process::id());
+    assert!(std::process::Command::new("mkfifo").arg(&path).status().unwrap().success());
+    let mut pipe = fs::File::options().read(true).write(true).custom_flags(libc::O_NONBLOCK).open(&path).unwrap();
+    while pipe.write(&[b'x'; 4096]).is_ok() {}
+    (Box::leak(path.into()), pipe)
+}
+
+/// A record that takes nothing makes nobody wait: frames and beacons go on, and the bridge ends.
+#[test]
+fn a_stuck_record_keeps_no_beacon_waiting() {
+    let (path, pipe) = stuck_pipe("record");
+    let surroundings = Surroundings { record: Some(path), ..Surroundings::default() };
+    let mut status = String::new();
+    let (outcome, stage) = run_with(ONE, surroundings, |stage| {
+        stage.hear(&data());
+        thread::sleep(Duration::from_millis(400));
+        status = ask(stage, "status");
+        end(stage);
+    });
+    drop(pipe);
+    fs::remove_file(path).unwrap();
+    assert_eq!(outcome, Ok(()));
+    assert!(status.contains(r#""record":{"octets":0,"fault":null}"#), "{status}");
+    assert_eq!(*stage.sent_on_wire.lock().unwrap(), [data()]);
+    assert!(stage.sent.lock().unwrap().len() >= 6);
+}
+
+/// A terminal that is paused makes nobody wait either.
+#[test]
+fn a_stuck_log_keeps_no_beacon_waiting() {
+    let (path, pipe) = stuck_pipe("log");
+    log::write_in_background_to(fs::File::options().write(true).open(path).unwrap()).unwrap();
+    let (outcome, stage) = run_with(ONE, Surroundings::default(), |stage| {
+        (0..100_000).for_each(|number| log::write(log::Level::Info, format_args!("{number:99}")));
+        stage.hear(&data());
+        thread::sleep(Duration::from_millis(400));
+        end(stage);
+    });
+    log::write_at_once();
+    drop(pipe);
+    fs::remove_file(path).unwrap();
+    assert_eq!(outcome, Ok(()));
     assert_eq!(*stage.sent_on_wire.lock().unwrap(), [data()]);
     assert!(stage.sent.lock().unwrap().len() >= 6);
 }

@@ -41,7 +41,7 @@ impl<P: OfSocket> Bridge<P> {
             self.send()?;
         }
         self.feeder.close();
-        self.feeder.flush_record();
+        self.feeder.finish_record();
         Ok(())
     }
 }

@@ -19,9 +19,6 @@ mod telling;
 mod timing;
 mod tuning;
 
-use std::thread::sleep;
-use std::time::Duration;
-
 use running::Running;
 
 use crate::apctl::feeder::Feeder;
@@ -43,7 +40,7 @@ const TO_END: Nanos = 20 * SECOND;
 const TO_READY: Nanos = 20 * SECOND;
 /// How many batches of one socket are read, and pieces of the program's output, before something else is looked at.
 const IN_A_ROW: usize = 4;
-/// So long before a beacon interval begins frames gather no more: a sleep may end some 50 µs late.
+/// So long before a beacon interval begins frames gather no more: a wait may end some 50 µs late.
 const BEFORE_TICK: Nanos = MILLISECOND / 5;
 /// How often `tools/live` is told at most that the program answers.
 const ALIVE_EVERY: Nanos = SECOND;
@@ -172,7 +169,7 @@ impl<P: OfSocket> Bridge<P> {
 
     /// Waits for what comes first, and does what is to be done then.
     fn step(&mut self, open: &mut impl FnMut(Handed) -> Result<Outbound<P>, Fault>) -> Result<(), Fault> {
-        self.gather();
+        self.gather()?;
         self.poller.set_due(self.due())?;
         self.wait(self.most_wait())?;
         for place in 0..self.ready.len() {
@@ -215,15 +212,18 @@ impl<P: OfSocket> Bridge<P> {
         }
     }
 
-    /// Lets frames gather where many come, but never where a beacon is awaited.
-    fn gather(&mut self) {
+    /// Lets frames gather where many come, but never where a beacon is awaited. What `tools/live` asks ends that.
+    fn gather(&mut self) -> Result<(), Fault> {
         let running = match &mut self.running {
             Some(running) if self.phase == Phase::Running && running.is_answered => running,
-            _ => return,
+            _ => return Ok(()),
         };
-        if let Some(until) = running.batching.until(self.time) {
-            let until = until.min(running.ticks.due().saturating_sub(BEFORE_TICK));
-            sleep(Duration::from_nanos(until.saturating_sub(now())));
+        match running.batching.until(self.time) {
+            Some(until) => {
+                let until = until.min(running.ticks.due().saturating_sub(BEFORE_TICK));
+                self.poller.gather(self.requests.descriptor(), until)
+            }
+            None => Ok(()),
         }
     }
 

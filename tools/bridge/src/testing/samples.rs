@@ -1,6 +1,7 @@
 //! Frames that several tests use, and a port that keeps what is sent by it.
-use std::io::{self, Write};
+use std::io::{self, Read, Write};
 use std::os::unix::io::RawFd;
+use std::os::unix::net::UnixStream;
 
 use libc::sock_filter;
 
@@ -77,6 +78,13 @@ pub fn tell_not_run(why: &str) {
     let thread = std::thread::current();
     let mut told = io::stderr();
     writeln!(told, "not run: {}: {why}", thread.name().unwrap_or("a test")).unwrap();
+}
+
+/// All that comes by this stream until its other end is closed.
+pub fn read_all(mut stream: UnixStream) -> String {
+    let mut text = String::new();
+    stream.read_to_string(&mut text).unwrap();
+    text
 }
 
 /// Numbers that look random, always the same from one seed (SplitMix64).
