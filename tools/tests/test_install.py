@@ -342,17 +342,21 @@ class CompletionOfTools(ToolTest):
         self.assertEqual(self.completed("waltigon-explain", "--"), ["--program", "--said", "--help", "--version"])
         self.assertEqual(sorted(self.completed("waltigon-picture", "")), ["a.trace", "my.toml"])
         self.assertEqual(sorted(self.completed("waltigon-live", "")),
-                         ["a.trace", "check-networks", "kick", "my.toml", "reload", "status"])
+                         ["a.trace", "check-networks", "check-radio", "kick", "my.toml", "reload", "status"])
         self.assertEqual(self.completed("waltigon-live", "ki"), ["kick"])
         self.assertEqual(sorted(self.completed("waltigon-explain", "my.toml", "")), ["a.trace", "my.toml"])
         self.assertEqual(self.completed("waltigon-trace-from-capture", "--fcs", "a"), ["auto"])
         self.assertEqual(self.completed("waltigon-picture", "--from", ""), [])
+        self.assertEqual(self.completed("waltigon-live", "my.toml", "--by", "a"), ["active-monitors", "access-points"])
 
     def test_words_without_files_are_offered_none(self):
         """Behind `kick`, `reload` and `status` no file is offered, and the options are theirs."""
         for name in ("my.toml", "a.trace"):
             with open(self.path(name), "w", encoding="ascii"):
                 pass
+        radios = sorted(os.listdir("/sys/class/ieee80211")) if os.path.isdir("/sys/class/ieee80211") else []
+        self.assertEqual(sorted(self.completed("waltigon-live", "check-radio", "")), radios)
+        self.assertEqual(self.completed("waltigon-live", "check-radio", "--"), ["--by", "--help", "--version"])
         for words in (["kick"], ["kick", "02:00:00:00:01:01"], ["reload"], ["status"]):
             self.assertEqual(self.completed("waltigon-live", *words, ""), [], words)
         self.assertEqual(self.completed("waltigon-live", "kick", "--"), ["--phy", "--help", "--version"])
@@ -398,7 +402,7 @@ class Completion(ToolTest):
             with open(self.path(name), "w", encoding="ascii"):
                 pass
         self.completed("waltigon-report-to-json --w", "waltigon-report-to-json --without-frames")
-        self.completed("waltigon-live ", "kick", "reload", "status", "check-networks", "my.toml")
+        self.completed("waltigon-live ", "kick", "reload", "status", "check-networks", "check-radio", "my.toml")
         for typed in ("kick ", "kick 02:00:00:00:01:01 ", "reload ", "status "):
             self.assertNotIn("my.toml", self.completed(f"waltigon-live {typed}", BELL), typed)
         self.completed("waltigon-live check-networks ", "my.toml")

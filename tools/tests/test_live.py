@@ -1222,12 +1222,12 @@ class Running(WithFiles):
             self.run_bridge(does=does, after=after, ways=(Way.ACCESS_POINTS,))
 
     def test_beacons_and_channel(self):
-        """What the bridge tells of them is told to people."""
+        """For what the bridge tells of them the radio is set up anew, each time once."""
         does = SENDS + "; [ $request = open ] && (sleep 0.3; echo unsent; sleep 0.3; echo sending; echo elsewhere 2412; sleep 0.3; echo here)"
-        self.run_bridge(lambda: self.end_once_told("is on 2437 MHz again"), does=does)
+        self.run_bridge(lambda: self.end_once(lambda: self.told.getvalue().count("phy0 was set up anew") == 2), does=does)
         told = self.told.getvalue()
-        places = [told.index(text) for text in ("phy0 has told no beacon", "phy0 was set up anew", "phy0 sends again",
-                                                "phy0 is on 2412 MHz, and not on 2437 MHz", "phy0 is on 2437 MHz again")]
+        places = [told.index(text) for text in ("phy0 sends nothing", "phy0 was set up anew",
+                                                "it is set back to 2437 MHz")]
         self.assertEqual(places, sorted(places))
 
     def test_does_not_begin_anew_with_a_fault(self):

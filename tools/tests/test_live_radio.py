@@ -374,12 +374,12 @@ class Watched(OnMachine):
     def test_no_beacon_is_sent(self):
         """It is told, and all is set up anew once; that beacons go again is told too."""
         self.bridge.is_unsent = True
-        self.assertIn("phy9 has told no beacon as sent", self.look())
+        self.assertIn("phy9 sends nothing: its interfaces are taken down and up once", self.look())
         self.assertEqual(self.commands, self.ANEW)
         self.assertEqual(self.status[-1], "2 networks are on channel 6; no beacon is told as sent")
         self.assertEqual((self.look(), len(self.commands)), ("", len(self.ANEW)))
         self.bridge.is_unsent = False
-        self.assertIn("phy9 sends again", self.look())
+        self.assertEqual((self.look(), len(self.commands)), ("", len(self.ANEW)))
         self.assertEqual(self.status[-1], "2 networks are on channel 6")
 
     def test_no_beacon_is_sent_beside_another_interface(self):
@@ -395,11 +395,12 @@ class Watched(OnMachine):
     def test_elsewhere(self):
         """Both frequencies are told, and the radio gets its channel back."""
         self.bridge.elsewhere = 2412
-        self.assertIn("phy9 is on 2412 MHz, and not on 2437 MHz", self.look())
+        self.assertIn("phy9 is on 2412 MHz, so no station finds the networks: it is set back to 2437 MHz", self.look())
         self.assertEqual(self.commands, self.ANEW)
         self.assertEqual(self.status[-1], "2 networks are on channel 6; the radio is on 2412 MHz")
         self.bridge.elsewhere = None
-        self.assertIn("phy9 is on 2437 MHz again", self.look())
+        self.assertEqual((self.look(), len(self.commands)), ("", len(self.ANEW)))
+        self.assertEqual(self.status[-1], "2 networks are on channel 6")
 
 
 if __name__ == "__main__":

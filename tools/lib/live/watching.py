@@ -83,23 +83,21 @@ class RadioWatch:
                      f"keep what has set it up away from this radio ({PAGE})", WARNING, plan)
 
     def look_at_bridge(self, bridge: Bridge, plan: Plan) -> None:
-        """Whether beacons go, and on which channel the radio is."""
-        if bridge.is_unsent != self.is_silent:
-            self.is_silent = bridge.is_unsent
-            if self.is_silent:
-                self.say(f"{self.wanted.phy} has told no beacon as sent for some seconds, so stations lose their networks",
-                         WARNING, plan)
-                self.is_due = True
-            else:
-                self.say(f"{self.wanted.phy} sends again", NOTICE, plan)
-        if bridge.elsewhere != self.elsewhere:
-            self.elsewhere = bridge.elsewhere
-            if self.elsewhere is not None:
-                self.say(f"{self.wanted.phy} is on {self.elsewhere} MHz, and not on {plan.settings.frequency} MHz: "
-                         "something else has moved it, and no station finds the networks", WARNING, plan)
-                self.is_due = True
-            else:
-                self.say(f"{self.wanted.phy} is on {plan.settings.frequency} MHz again", NOTICE, plan)
+        """Whether beacons go, and on which channel the radio is. The bridge has told that in the log; here stands what is
+        done about it, once each time."""
+        if (bridge.is_unsent, bridge.elsewhere) == (self.is_silent, self.elsewhere):
+            return
+        became_silent = bridge.is_unsent and not self.is_silent
+        went_away = bridge.elsewhere is not None and bridge.elsewhere != self.elsewhere
+        self.is_silent, self.elsewhere = bridge.is_unsent, bridge.elsewhere
+        self.service.status(self.status(plan))
+        if became_silent and not self.others:
+            tell(f"{self.wanted.phy} sends nothing: its interfaces are taken down and up once; where that doesn't help, "
+                 f"`dmesg` and `iw dev` may say why ({PAGE})", WARNING)
+        if went_away and not self.others:
+            tell(f"{self.wanted.phy} is on {self.elsewhere} MHz, so no station finds the networks: it is set back to "
+                 f"{plan.settings.frequency} MHz ({PAGE})", WARNING)
+        self.is_due |= became_silent or went_away
 
     def set_up_anew(self, plan: Plan) -> None:
         """Takes the radio's interfaces down and up again; where that fails it is tried again."""
