@@ -1,16 +1,14 @@
 # shellcheck shell=bash
 # Read by scripts in bash: how they build and test with Debian's own cargo and rustc.
 
-# From here on Debian's own cargo and rustc are used, whatever else stands on the path, and what is built goes to this
-# folder; no settings of a home are taken in.
+# Goes to the folder of a crate. From here on Debian's own cargo and rustc are used, whatever else stands on the path,
+# and what is built goes to the second folder; no settings of a home are taken in. Where Debian has other versions of
+# the crates by now than those that cargo once chose, as after an upgrade, it may choose anew.
 use_debians_cargo() {
-    export PATH=/usr/bin:/bin CARGO_TARGET_DIR=$1 RUSTC=/usr/bin/rustc
+    export PATH=/usr/bin:/bin CARGO_TARGET_DIR=$2 RUSTC=/usr/bin/rustc
     unset RUSTFLAGS RUSTUP_TOOLCHAIN
-}
-
-# Forgets which crates the one in this folder was built with: Debian has one version of each, and the next Debian another.
-forget_crates() {
-    rm -f Cargo.lock
+    cd "$1" || return
+    /usr/bin/cargo metadata --format-version 1 --offline --locked >/dev/null 2>&1 || rm -f Cargo.lock
 }
 
 # Runs the tests of the crate in this folder. A test that can't run here says `not run:` and isn't counted. The last

@@ -17,9 +17,11 @@ def tshark(path, *words):
 
 
 def fields(path, *names):
-    """The values of some fields, a list for each frame."""
+    """The values of some fields, a list for each frame. Of a bit the tshark of Debian 13 says True or False."""
     words = [word for name in names for word in ("-e", name)]
-    return [line.split("\t") for line in tshark(path, "-T", "fields", *words).splitlines()]
+    bits = {"True": "1", "False": "0"}
+    return [[bits.get(value, value) for value in line.split("\t")]
+            for line in tshark(path, "-T", "fields", *words).splitlines()]
 
 
 def units_of(lines):

@@ -4,6 +4,7 @@ import json
 import os
 import re
 import xml.etree.ElementTree as tree
+import zlib
 from collections import Counter
 from typing import NamedTuple
 
@@ -715,9 +716,12 @@ class Forms(PictureTest):
         self.assertEqual(pages[1], 1)
 
     def pages_of(self, path):
-        """How many pages a PDF has."""
+        """How many pages a PDF has. On Debian 13 the object that says so is in a packed stream of objects."""
         with open(path, "rb") as file:
-            return int(re.search(rb"/Count (\d+)", file.read())[1])
+            text = file.read()
+        for packed in re.findall(rb"/ObjStm.*?>>\s*stream\r?\n(.*?)endstream", text, re.DOTALL):
+            text += zlib.decompressobj().decompress(packed)
+        return int(re.search(rb"/Count (\d+)", text)[1])
 
     @needs_program
     def test_png_that_would_be_too_high(self):

@@ -368,23 +368,6 @@ class Beacons(ToolTest):
             write_pcap(self.path("air"), PLAIN_80211, list(enumerate(frames)))
             self.refused("trace-from-capture", self.path("air"), *words, says=says)
 
-    def test_files_that_are_no_captures(self):
-        """A file that isn't there, that is no capture, that is damaged, or of a wire is refused. Of one that was cut
-        the frames before are read."""
-        self.refused("trace-from-capture", self.path("none"), says="No such file")
-        self.refused("trace-from-capture", os.path.join(THREE, "input"), says="no pcap or pcapng")
-        self.refused("trace-from-capture", os.path.join(THREE, "wire.3.pcapng"), says="no capture in monitor mode")
-        with open(SAMPLE, "rb") as file:
-            whole = file.read()
-        for name, octets in (("cut", whole[:-6]), ("damaged", whole[:-4] + bytes(4) + whole)):
-            with open(self.path(name), "wb") as file:
-                file.write(octets)
-        self.refused("trace-from-capture", self.path("damaged"), says="it is damaged")
-        status, _, stderr = tool("trace-from-capture", self.path("cut"))
-        self.assertEqual(status, 0)
-        self.assertIn("the file ends within a frame", stderr)
-        self.assertIn("cut: 58 frames", stderr)
-
 
 class Ticks(ToolTest):
     """When beacon intervals begin."""

@@ -11,8 +11,8 @@ const TO_DOUBT: Nanos = 5 * SECOND / 2;
 /// What is told of the radio.
 #[derive(Debug, Clone, Copy, PartialEq, Eq)]
 pub enum Told {
-    /// It has shown none of its beacons as sent for this long.
-    Unsent(Nanos),
+    /// It shows no beacon as sent any more.
+    Unsent,
     /// It shows them again, after this long.
     Sending(Nanos),
 }
@@ -83,7 +83,7 @@ impl BeaconWatch {
         let silent = now.saturating_sub(unseen.since);
         let is_unsent = silent >= self.limit && unseen.looked_at > self.networks;
         self.unsent_since = is_unsent.then_some(unseen.since);
-        is_unsent.then_some(Told::Unsent(silent))
+        is_unsent.then_some(Told::Unsent)
     }
 
     /// Since when the radio has shown no beacon as sent, where that was told.
@@ -130,7 +130,7 @@ mod tests {
     fn a_radio_that_stops_is_told_after_five_seconds_and_once() {
         let mut watch = BeaconWatch::new(INTERVAL, 1, false);
         let found = run(&mut watch, 0..200, INTERVAL, |number| number < 10);
-        assert_eq!(found, [(59, Told::Unsent(49 * INTERVAL))]);
+        assert_eq!(found, [(59, Told::Unsent)]);
         assert_eq!(watch.unsent_since(), Some(10 * INTERVAL));
         assert!(watch.wants_each(200 * INTERVAL) && watch.due(200 * INTERVAL).is_none());
     }
@@ -140,7 +140,7 @@ mod tests {
         let mut watch = BeaconWatch::new(INTERVAL, 1, false);
         let found = run(&mut watch, 0..200, INTERVAL, |number| !(10..100).contains(&number));
         let again = Told::Sending(90 * INTERVAL + MILLISECOND);
-        assert_eq!(found, [(59, Told::Unsent(49 * INTERVAL)), (100, again)]);
+        assert_eq!(found, [(59, Told::Unsent), (100, again)]);
         assert!(!watch.wants_each(200 * INTERVAL) && watch.unsent_since().is_none());
     }
 
@@ -148,7 +148,7 @@ mod tests {
     fn where_beacons_are_rare_three_intervals_are_waited_for() {
         let (length, mut watch) = (4 * SECOND, BeaconWatch::new(4 * SECOND, 1, true));
         assert_eq!(run(&mut watch, 1..5, length, |number| number == 1), []);
-        assert_eq!(run(&mut watch, 5..6, length, |_| false), [(5, Told::Unsent(12 * SECOND))]);
+        assert_eq!(run(&mut watch, 5..6, length, |_| false), [(5, Told::Unsent)]);
     }
 
     /// Also where it makes those of one interval from time to time, of which none is drawn.
@@ -161,7 +161,7 @@ mod tests {
         give(&mut watch, 60 * SECOND);
         assert_eq!(watch.look(70 * SECOND), None);
         give(&mut watch, 70 * SECOND);
-        assert_eq!(watch.look(70 * SECOND), Some(Told::Unsent(69 * SECOND)));
+        assert_eq!(watch.look(70 * SECOND), Some(Told::Unsent));
     }
 
     #[test]

@@ -52,7 +52,7 @@ pub enum Notice {
     Down(usize),
     /// The first beacon was seen as sent, or one again behind `Unsent`.
     Sending,
-    /// The radio has shown no beacon as sent for five seconds, or for three beacon intervals where these last longer.
+    /// The radio shows no beacon as sent any more (`beacon_watch`).
     Unsent,
     /// The radio hears on this frequency, in MHz, which isn't its channel's.
     Elsewhere(u16),

@@ -7,11 +7,13 @@ from fractions import Fraction
 from itertools import count
 from typing import NamedTuple, Optional
 
+from captures.blocks import Damaged, WholeBlocks
+
 logging.getLogger("scapy").setLevel(logging.CRITICAL)
 try:
     from scapy.error import Scapy_Exception
     from scapy.layers.dot11 import RadioTap
-    from scapy.utils import RawPcapNgWriter, RawPcapReader, RawPcapWriter
+    from scapy.utils import RawPcapNgReader, RawPcapNgWriter, RawPcapReader, RawPcapWriter
     HAS_SCAPY = True
 except ImportError:
     HAS_SCAPY = False
@@ -31,23 +33,6 @@ def need_scapy():
     """Ends a tool where scapy is missing: once its words are read, so that `--help` always answers."""
     if not HAS_SCAPY:
         raise SystemExit("python3-scapy is missing: `sudo apt install python3-scapy` installs it")
-
-
-class Watched:
-    """A file that remembers whether it ended before all was there that was asked for."""
-
-    def __init__(self, file):
-        self.file, self.is_cut = file, False
-
-    def read(self, size):
-        """So many octets, or what is left."""
-        octets = self.file.read(size)
-        self.is_cut = self.is_cut or 0 < len(octets) < size
-        return octets
-
-    def close(self):
-        """Closes it."""
-        self.file.close()
 
 
 class Captured(NamedTuple):
@@ -78,21 +63,21 @@ def read_capture(path):
     still written does, it yields those before, and says so on standard error."""
     try:
         reader = RawPcapReader(path)
-    except (OSError, Scapy_Exception, EOFError) as fault:
-        reason = fault.strerror if isinstance(fault, OSError) else "it is no pcap or pcapng file"
+    except (OSError, Scapy_Exception, EOFError, zlib.error) as fault:
+        reason = getattr(fault, "strerror", None) or "it is no pcap or pcapng file"
         raise CaptureError(f"{path}: {reason}") from None
-    reader.f = Watched(reader.f)
+    blocks = reader.f = WholeBlocks(reader, isinstance(reader, RawPcapNgReader))
     for number in count(1):
         try:
             octets, told = reader._read_packet()
-        except EOFError as end:
-            if str(end):
-                raise CaptureError(f"{path}: it is damaged: {end}") from None
-            if reader.f.is_cut:
-                print(f"{path}: the file ends within a frame: those before it were read", file=sys.stderr)
-            reader.close()
-            return
+        except (EOFError, Scapy_Exception, Damaged) as fault:
+            if not blocks.has_ended:
+                raise CaptureError(f"{path}: it is damaged: {str(fault) or 'a block lacks a part'}") from None
+            break
         yield captured(path, reader, octets, told, number)
+    if blocks.is_cut:
+        print(f"{path}: the file ends within a frame: those before it were read", file=sys.stderr)
+    reader.close()
 
 
 def captured(path, reader, octets, told, number):

@@ -182,13 +182,10 @@ fn tell_beacons(told: Told) {
             );
             say(&Notice::Sending);
         }
-        Told::Unsent(after) => {
+        Told::Unsent => {
             log::write_event(
                 Level::Warning,
-                format_args!(
-                    "the radio has shown no beacon as sent for {} (docs/OPERATING.md, 'The radio')",
-                    Seconds(after)
-                ),
+                "the radio shows no beacon as sent any more (docs/OPERATING.md, 'The radio')",
             );
             say(&Notice::Unsent);
         }

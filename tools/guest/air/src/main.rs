@@ -114,9 +114,9 @@ fn hear(socket: &Socket, to: &Sender<Woken>) {
     let _ = to.send(Woken::End);
 }
 
-/// Gives on the lines of standard input, and its end.
+/// Gives on the lines of standard input up to its end, or up to one that can't be read.
 fn read(to: &Sender<Woken>) {
-    for line in io::stdin().lock().lines().flatten() {
+    for line in io::stdin().lock().lines().map_while(Result::ok) {
         if to.send(Woken::Line(line)).is_err() {
             return;
         }

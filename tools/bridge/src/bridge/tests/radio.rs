@@ -104,7 +104,8 @@ fn a_monitor_interface_that_was_down_for_a_moment_changes_nothing() {
 fn a_radio_that_stops_sending_is_told_and_so_is_one_that_sends_again() {
     let mut found = Vec::new();
     let (outcome, stage) = run_with(Face::Text, TWO, AIR, |stage| {
-        for (is_silent, wanted) in [(false, r#""unsent":null"#), (true, r#""unsent":5."#), (false, r#""unsent":null"#)] {
+        for (is_silent, wanted) in [(false, r#""unsent":null"#), (true, r#""unsent":5."#), (false, r#""unsent":null"#)]
+        {
             stage.air_is_silent.store(is_silent, Ordering::SeqCst);
             found.push((wanted, ask_until(stage, wanted)));
         }

@@ -1,0 +1,55 @@
+"""Tests of tools/lib/cargo.sh, by which the bridge and the air of the guest are built of Debian's crates."""
+import glob
+import os
+import shutil
+import subprocess
+import unittest
+
+from common import TOOLS, ToolTest
+
+AIR = os.path.join(TOOLS, "guest", "air")
+# A version that Debian has no more.
+CHOSEN = """version = 3
+
+[[package]]
+name = "air"
+version = "0.1.0"
+dependencies = ["libc"]
+
+[[package]]
+name = "libc"
+version = "0.2.1"
+source = "registry+https://github.com/rust-lang/crates.io-index"
+"""
+needs_crate = unittest.skipUnless(os.path.exists("/usr/bin/cargo") and glob.glob("/usr/share/cargo/registry/libc-*"),
+                                  "cargo or librust-libc-dev isn't there (.ci/packages installs them)")
+
+
+class Cargo(ToolTest):
+    """Which versions cargo takes."""
+
+    @needs_crate
+    def test_crates_of_another_debian(self):
+        """Versions that cargo chose once and that are gone, as after an upgrade of Debian, are chosen anew. Those that
+        are there stay chosen."""
+        crate = shutil.copytree(AIR, self.path("air"))
+        lock = os.path.join(crate, "Cargo.lock")
+        with open(lock, "w", encoding="ascii") as file:
+            file.write(CHOSEN)
+        self.begin(crate)
+        self.assertNotIn('"0.2.1"', self.text_of(lock))
+        before = os.stat(lock)
+        self.begin(crate)
+        self.assertEqual((os.stat(lock).st_ino, os.stat(lock).st_mtime_ns), (before.st_ino, before.st_mtime_ns))
+
+    def begin(self, crate):
+        """Lets cargo choose, as a build does first."""
+        script = f'. {TOOLS}/lib/cargo.sh; use_debians_cargo "$1" "$2"; cargo metadata --format-version 1 --offline'
+        done = subprocess.run(["bash", "-c", script, "bash", crate, self.path("target")], capture_output=True, text=True,
+                              check=False)
+        self.assertEqual(done.returncode, 0, done.stderr)
+
+    def text_of(self, path):
+        """What a file has."""
+        with open(path, encoding="utf-8") as file:
+            return file.read()
