@@ -8,7 +8,12 @@ _waltigon() {
     waltigon-capture-from-report) options='--network --out' ;;
     waltigon-capture-from-run) options='--clutter --out' ;;
     waltigon-config-from-hostapd) ;;
-    waltigon-explain) options='--program --said' offered='check run play live' ;;
+    waltigon-explain) options='--program --said --lines' offered='check run play live' ;;
+    waltigon-frame)
+        options='--config --ssid --rates --listen --current --algorithm --number --reason --payload --aid --aid-octets'
+        options+=' --to --body --duration --sequence --direct --doze --retry --more'
+        offered='probe auth join rejoin disassoc deauth data null poll' takes_files=''
+        ;;
     waltigon-live)
         options='--phy --wire --wires --share --monitor --by --country --idle --program --bridge --record --tables --status --as-root --json --watch'
         offered='kick reload status check-networks check-radio'
@@ -31,8 +36,11 @@ _waltigon() {
     COMPREPLY=()
     case $before in
     --by) mapfile -t COMPREPLY < <(compgen -W 'active-monitors managed access-points' -- "$word") ;;
+    --config) mapfile -t COMPREPLY < <(compgen -f -- "$word") ;;
     --fcs) mapfile -t COMPREPLY < <(compgen -W 'auto yes no' -- "$word") ;;
     --phy) mapfile -t COMPREPLY < <(compgen -W "$(ls /sys/class/ieee80211 2>/dev/null)" -- "$word") ;;
+    --ssid | --rates | --listen | --current | --algorithm | --number | --reason | --payload | --aid | --aid-octets | \
+        --body | --duration | --sequence) ;;
     --network | --beacons-of | --station | --stations | --from | --to | --channel | --every | --said | --wire | --share | \
         --monitor | --country | --idle | --tables | --status) ;;
     *)
@@ -46,5 +54,5 @@ _waltigon() {
     esac
 }
 complete -o filenames -F _waltigon waltigon-capture-from-report waltigon-capture-from-run waltigon-config-from-hostapd \
-    waltigon-explain waltigon-live waltigon-live-demo waltigon-picture waltigon-report-to-json \
+    waltigon-explain waltigon-frame waltigon-live waltigon-live-demo waltigon-picture waltigon-report-to-json \
     waltigon-trace-from-capture

@@ -79,10 +79,7 @@ class Section:
 
 
 def text_of(answers: bytes) -> str:
-    """What the program wrote, as lines of text, whichever face it has (docs/PROTOCOL.md); a record that was cut is left
-    out."""
-    if not answers.startswith(b"O"):
-        return answers.decode("ascii")
+    """The records that the program wrote, as lines of text (docs/PROTOCOL.md); a record that was cut is left out."""
     lines, place = [], 0
     while place + RECORD_HEADER.size <= len(answers):
         kind, bssid, length = RECORD_HEADER.unpack_from(answers, place)

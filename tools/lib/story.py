@@ -26,6 +26,8 @@ LETTERS = {PROBE_REQUEST: "P", AUTHENTICATION: "A", ASSOCIATION_REQUEST: "J", RE
 RESPONSES = {ASSOCIATION_REQUEST: ASSOCIATION_RESPONSE, REASSOCIATION_REQUEST: REASSOCIATION_RESPONSE}
 
 
+# The mark of a line that brought nothing.
+NOTHING = "nothing"
 # What a network hears, in kinds.
 REQUESTS, DATA_FRAMES, POLLS, FROM_WIRE, UNREAD = "requests", "data", "polls", "from the wire", "unread"
 
@@ -124,6 +126,7 @@ class Story:
             unit = unit_from_wire(line.octets)
             self.heard.append(Heard(line.number, FROM_WIRE if unit else UNREAD, line.octets[:6]))
             self.deliver(unit, False) if unit else self.count_unread(None)
+            self.note_silence(WIRE, "")
         else:
             request = request_of(bssid, line.octets)
             kind = {MODE: DATA_FRAMES, POLL: POLLS}.get(request.kind, REQUESTS) if request else UNREAD
@@ -131,6 +134,7 @@ class Story:
             self.answer(request) if request else self.count_unread(line.octets[10:16])
             if request:
                 self.note_state(request.station)
+                self.note_silence(request.station, LETTERS[request.kind])
 
     def mark(self, what, whom=None, text="", letter="", sender=None):
         """Remembers what this line brought about."""
@@ -216,7 +220,8 @@ class Story:
         elif request.kind == DISASSOCIATION:
             self.disassociate(station, link)
         elif request.kind == POLL:
-            if link.doze and link.aid == request.aid:
+            if link.doze and link.aid == request.aid and any(kept.whom == station for kept in self.kept):
+                self.mark("answered", station, letter=LETTERS[POLL])
                 self.release(station, 1)
         else:
             self.set_mode(request, link)
@@ -317,6 +322,13 @@ class Story:
         for name in ("marks", "heard", "frames", "wires"):
             setattr(self, name, [found for found in getattr(self, name) if found[0] not in lines])
         return self
+
+    def note_silence(self, whom, letter):
+        """Marks a line that this network read and that brought nothing: neither a frame, nor another state."""
+        is_marked = bool(self.marks) and self.marks[-1].line == self.line
+        has_ended = bool(self.spans) and self.spans[-1].ends == self.line
+        if not is_marked and not has_ended and self.open.get(whom, (None, None, None))[2] != self.line:
+            self.mark(NOTHING, whom, letter=letter)
 
     def note_state(self, station):
         """Where a request has changed the state of its station, ends the span of that and begins a new one."""

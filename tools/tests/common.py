@@ -71,6 +71,21 @@ class ToolTest(unittest.TestCase):
         self.assertNotIn("Traceback", stderr)
 
 
+def mutated(draw, octets):
+    """A frame with up to three changes: an octet that is another, octets that are missing, or too many."""
+    changed = bytearray(octets)
+    for _ in range(draw.randrange(1, 4)):
+        at = draw.randrange(len(changed) + 1)
+        kind = draw.randrange(3)
+        if kind == 0 and at < len(changed):
+            changed[at] = draw.choice((0, 1, 0xFF, draw.randrange(256)))
+        elif kind == 1:
+            del changed[at:at + draw.choice((1, 2, 6))]
+        else:
+            changed[at:at] = bytes(draw.randrange(256) for _ in range(draw.choice((1, 2))))
+    return bytes(changed)
+
+
 def heard(control, body="", receiver="020000000001", sender="02aa00000001", third=None, sequence="0000"):
     """A line of a trace: a frame of a station to a network."""
     return " ".join(filter(None, ["A", control, receiver, sender, third or receiver, sequence, body]))

@@ -261,7 +261,7 @@ def main():
     config, found = os.path.join(folder, "radio.toml"), {}
     wires = ((OURS, "wire1"),)
     wanted = Wanted(config, program, bridge, "phy0", "mon0", wires, os.path.join(folder, "record"), None, status=9617)
-    plan = Plan(read_settings(config), wires, "octets")
+    plan = Plan(read_settings(config), wires)
     log = os.open(os.path.join(folder, "log"), os.O_WRONLY | os.O_CREAT | os.O_APPEND, 0o644)
     os.dup2(log, 2)
     # The attacker is another thread: signals are handled by this one, as ever.

@@ -154,14 +154,14 @@ def main():
     config = os.path.join(folder, "radio.toml")
     wires = ((OURS, "wire1"),)
     wanted = Wanted(config, program, bridge, "phy0", "mon0", wires, os.path.join(folder, "record"), None)
-    plan = Plan(read_settings(config), wires, "octets")
+    plan = Plan(read_settings(config), wires)
     log = os.open(os.path.join(folder, "log"), os.O_WRONLY | os.O_CREAT | os.O_APPEND, 0o644)
     os.dup2(log, 2)
     thread = threading.Thread(target=case.run, daemon=True)
     thread.start()
     with (mock.patch.object(changes, "RUN", os.path.join(folder, "run")), mock.patch.object(serving, "SettingUp", NoRadio),
           mock.patch.object(serving, "check", lambda *_: plan), mock.patch.object(serving, "MOST_MEMORY", confined.MEMORY),
-          mock.patch.object(serving, "check_again", lambda *_: Plan(read_settings(config), wires, "octets"))):
+          mock.patch.object(serving, "check_again", lambda *_: Plan(read_settings(config), wires))):
         try:
             serving.serve(wanted)
             thread.join()

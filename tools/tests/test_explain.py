@@ -40,12 +40,26 @@ WORDS = [
     (["run", "my.toml"], "fault words", ["TRACE is missing", "run CONFIG TRACE"]),
     (["run", "my.toml", "my.trace", "my.trace"], "fault words", ["two words", "play CONFIG TRACE..."]),
     (["check", "my.toml", "my.trace"], "fault words", ["one word", "run CONFIG TRACE"]),
-    (["chekc", "my.toml"], "fault words", ["no word `chekc`", "check CONFIG"]),
-    (["--", "my.toml", "my.trace"], "fault words", ["is no first word", "run my.toml TRACE"]),
+    (["chekc", "my.toml"], "fault words", ["no word `chekc`", "write `check my.toml`"]),
+    (["RUN", "my.toml", "my.trace"], "fault words", ["no word `RUN`", "write `run my.toml my.trace`"]),
+    (["--", "my.toml", "run", "my.trace"], "fault words", ["the command comes first", "write `run my.toml my.trace`"]),
+    (["run", "-c", "my.toml", "-t", "my.trace"], "fault words", ["`-c` begins with `-`",
+                                                                 "write `run my.toml my.trace`"]),
+    (["live", "my.toml", "my.trace"], "fault words", ["from standard input", "write `live my.toml < my.trace`"]),
+    (["live", "my.toml", "--phy", "phy0"], "fault words", ["`--phy` is an option of tools/live"]),
+    (["--", "my.toml", "my.trace"], "fault words", ["is no first word", "write `run my.toml my.trace`"]),
+    (["--", "my.toml"], "fault words", ["is no first word", "write `check my.toml`"]),
+    (["--", "new.toml", "new.trace"], "fault words", ["is no first word", "write `run new.toml new.trace`"]),
+    (["--", "--config", "my.toml"], "fault words", ["no word `--config`", "write `check my.toml`"]),
+    (["--", "-c", "my.toml", "my.trace"], "fault words", ["no word `-c`", "write `run my.toml my.trace`"]),
+    (["run", "--verbose", "my.toml", "my.trace"], "fault words", ["`run` has no options",
+                                                                  "write `run my.toml my.trace`"]),
+    (["run", "--help"], "fault words", ["no word `--help`", "run CONFIG TRACE"]),
     (["check", "-v"], "fault words", ["begins with `-`", "check -- -v"]),
     (["play", "my.toml"], "fault words", ["TRACE is missing"]),
     (["live", "--octets"], "fault words", ["CONFIG is missing", "live --octets CONFIG"]),
-    (["live", "--octet", "my.toml"], "fault words", ["no option but `--octets`", "live -- --octet my.toml"]),
+    (["live", "--octet", "my.toml"], "fault words", ["no option but `--octets`", "write `live --octets my.toml`",
+                                                              "live -- --octet my.toml"]),
     (["--", "explode"], "fault words", ["no word `explode`"]),
     (["check", b"\xff.toml"], "fault words", ["isn't UTF-8"]),
 ]
@@ -126,11 +140,12 @@ RUNS = [
     (JOIN + [heard(QOS, f"0000 {UNIT}"), heard(DATA, UNIT)], ["data frames of QoS (WMM), unread (U3): 1 of 2"]),
     (["T"] * 101, ["its history is full, `max_events = 100`", "my.trace:101:1", "left out: 1"]),
     ([heard("b0000000", "0000 0100 0000", sender=f"02aa000000{number:02x}") for number in range(17)],
-     ["refused with status 1: 1 (`max_known = 16` is reached"]),
+     ["an authentication is refused with status 1, of 02:aa:00:00:00:10: `max_known = 16` is reached"]),
     ([line.replace(STATION, f"02aa000000{number:02x}") for number in range(9) for line in JOIN],
-     ["refused with status 17: 1 (`max_stations = 8` is reached"]),
-    ([JOIN[0], JOIN[1].replace("010482840b16", "010102")], ["status 18", "hasn't a basic rate"]),
-    ([JOIN[0], JOIN[1].replace("6c6162", "4c6162")], ["they named another SSID, `Lab`, than `lab`"]),
+     ["an association is refused with status 17, of 02:aa:00:00:00:08: `max_stations = 8` is reached"]),
+    ([JOIN[0], JOIN[1].replace("010482840b16", "010102")], ["status 18", "it lacks the basic rate 2 Mb/s"]),
+    ([JOIN[0], JOIN[1].replace("6c6162", "4c6162")], ["status 1", "no network is called `Lab`; `lab` is the same but "
+                                                      "for"]),
     ([JOIN[0].replace("0000 0100 0000", "0100 0100 0000")], ["status 13", "Open System"]),
     (list(map(with_fcs, [*JOIN, heard(DATA, UNIT)])), ["the last four octets of 3 of 3 frames", "my.trace:1:",
                                                        "tools/trace-from-capture"]),
@@ -149,11 +164,12 @@ RUNS = [
      ["frames on the air that no network took: 3 of 5", "02:99:00:00:00:01 (3)", "--heard-only", "my.trace:3:1"]),
     (list(map(with_radiotap, JOIN)), ["radiotap", "tools/trace-from-capture takes it off"]),
     ([heard(DATA, UNIT)], ["reason 7", "it joined before the trace begins"]),
-    (JOIN + [heard("08410000", "0100002000000000 a1b2")], ["events unread (U4): 1 of 3 (encrypted"]),
+    (JOIN + [heard("08410000", "0100002000000000 a1b2")], ["my.trace:3:5", "lab can't read it (U4): it is encrypted"]),
     (JOIN + [heard("08010000", UNIT, sequence="1000"), heard("08090000", UNIT, sequence="1000")],
      ["frames sent again: 1", "my.trace:4:1"]),
-    (JOIN + [heard("48110000")] + [f"W {LAB} {STATION} 02bb00000001 0800 01"] * 9, ["units lost: 1", "quota = 8"]),
-    ([heard("80000000", "00" * 12, "ffffffffffff", OURS)], ["unread (U3)"]),
+    (JOIN + [heard("48110000")] + [f"W {LAB} {STATION} 02bb00000001 0800 01"] * 9,
+     ["my.trace:12:1", "lab loses a unit", "above the quota: `quota = 8`"]),
+    ([heard("80000000", "00" * 12, "ffffffffffff", OURS)], ["(U3)", "a beacon, which the network sends itself"]),
     ([heard("40000000", "0000", "ffffffffffff", OURS)], ["frames that it sent itself, unread (U6): 1"]),
     (JOIN + [line.replace(OURS, GUEST.replace(":", "")).replace("00036c6162", "00056775657374") for line in JOIN],
      ["is associated in several networks: lab, guest"]),
@@ -364,6 +380,15 @@ class Mistakes(ToolTest):
         self.assertIn("all zeros", odd_config.odd(source)[0].text)
 
     @needs_program
+    def test_files_in_the_wrong_order(self):
+        """Where the trace comes first, the order is told."""
+        self.folder_with_files()
+        status, found = self.run_tool("run", "my.trace", "my.toml")
+        self.assertEqual((status, found.split("\n")[0]), (1, "fault C1"))
+        self.assertIn("my.trace is a trace, and my.toml a configuration", found)
+        self.assertIn("write `run my.toml my.trace`", found)
+
+    @needs_program
     def test_ways_to_give_texts(self):
         """A configuration, with a trace, both in one file, both on standard input, and lines for `live`."""
         self.folder_with_files()
@@ -452,6 +477,29 @@ class OddConfigs(ToolTest):
         for words in ("ok 2\n", "my.toml:20:8", "the networks 0, 1 have one SSID, `lab`", "an SSID of its own"):
             self.assertIn(words, found)
         self.assertEqual(self.explained(CONFIG), "ok 2")
+
+    def test_names_that_end_with_a_blank(self):
+        """A blank at an end of a name is a part of it, and nobody sees it."""
+        for name, says in (("lab ", "ends with a blank"), ("\u00a0lab", "begins with a blank")):
+            found = self.explained(CONFIG.replace('"lab"', f'"{name}"'))
+            for words in ("my.toml:8:8", f"the SSID of the network 0 {says}", 'write `ssid = "lab"`'):
+                self.assertIn(words, found)
+
+    def test_channel_14(self):
+        """It is there in Japan alone."""
+        found = self.explained(CONFIG.replace("channel = 6", "channel = 14"))
+        for words in ("my.toml:2:11", "in Japan alone", "`channel = 6`"):
+            self.assertIn(words, found)
+
+    def test_beacon_intervals_that_no_station_expects(self):
+        """Beacons that fill the air, or that come too seldom to be found."""
+        for interval, says in (("1", "a beacon each 1.024 ms: beacons fill the air"), ("14", "14.34 ms"),
+                               ("5000", "a beacon each 5,120 ms: stations that look")):
+            found = self.explained(CONFIG.replace("interval = 100", f"interval = {interval}"))
+            for words in ("my.toml:3:12", says, "`interval = 100`"):
+                self.assertIn(words, found)
+        for interval in ("15", "1000"):
+            self.assertEqual(self.explained(CONFIG.replace("interval = 100", f"interval = {interval}")), "ok 2")
 
     def test_networks_without_a_basic_rate(self):
         """Rates of which none is basic are shown, and what to write."""

@@ -17,11 +17,12 @@ from small import SmallRepository
 SECONDS = 60
 BELL = "\a"
 COMMANDS = {f"waltigon-{name}": name for name in ("capture-from-report", "capture-from-run",
-                                                  "config-from-hostapd", "explain", "live", "live-demo", "picture",
-                                                  "report-to-json", "trace-from-capture")}
+                                                  "config-from-hostapd", "explain", "frame", "live", "live-demo",
+                                                  "picture", "report-to-json", "trace-from-capture")}
 # Words of each that lead to a fault: none of these files is there.
 FAULTS = {"capture-from-report": ["none"], "capture-from-run": ["none", "none", "--out", "made"],
           "config-from-hostapd": ["none"], "explain": ["--program", "none", "check", "none"],
+          "frame": ["none"],
           "live": ["none", "--phy", "phy0"], "live-demo": ["--program", "none"], "picture": ["none", "none"],
           "report-to-json": ["none"], "trace-from-capture": ["none"]}
 OPTION = re.compile(r"(?<![\w-])--[a-z][a-z-]*")
@@ -187,7 +188,8 @@ class WhatIsInstalled(SmallRepository):
         self.install()
         for path in glob.glob(os.path.join(ROOT, "share", "networks", "*")):
             with open(path, encoding="utf-8") as file:
-                self.assertEqual(self.read(f"share/doc/waltigon/examples/networks/{os.path.basename(path)}"), file.read())
+                self.assertEqual(self.read(f"share/doc/waltigon/examples/networks/{os.path.basename(path)}"),
+                                 file.read())
 
     def test_package_is_refused_at_once(self):
         """Where no program is built, or nothing tells of what, packing says so before it builds anything."""
@@ -285,7 +287,7 @@ class Pages(ToolTest):
     def test_pages_have_no_warning(self):
         """`man` renders each page without a warning, with all sections that a page of its kind has."""
         pages = glob.glob(os.path.join(ROOT, "share", "man", "man*", "*"))
-        self.assertEqual(len(pages), 11)
+        self.assertEqual(len(pages), 12)
         for page in pages:
             done = self.page(page)
             self.assertEqual((done.returncode, done.stderr), (0, ""), page)
@@ -339,13 +341,17 @@ class CompletionOfTools(ToolTest):
             with open(self.path(name), "w", encoding="ascii"):
                 pass
         self.assertEqual(self.completed("waltigon-report-to-json", "--w"), ["--without-frames"])
-        self.assertEqual(self.completed("waltigon-explain", "--"), ["--program", "--said", "--help", "--version"])
+        self.assertEqual(self.completed("waltigon-explain", "--"), ["--program", "--said", "--lines", "--help",
+                                                                    "--version"])
         self.assertEqual(sorted(self.completed("waltigon-picture", "")), ["a.trace", "my.toml"])
         self.assertEqual(sorted(self.completed("waltigon-live", "")),
                          ["a.trace", "check-networks", "check-radio", "kick", "my.toml", "reload", "status"])
         self.assertEqual(self.completed("waltigon-live", "ki"), ["kick"])
         self.assertEqual(sorted(self.completed("waltigon-explain", "my.toml", "")), ["a.trace", "my.toml"])
         self.assertEqual(self.completed("waltigon-trace-from-capture", "--fcs", "a"), ["auto"])
+        self.assertEqual(self.completed("waltigon-frame", "jo"), ["join"])
+        self.assertEqual(sorted(self.completed("waltigon-frame", "--config", "")), ["a.trace", "my.toml"])
+        self.assertEqual(self.completed("waltigon-frame", "join", ""), [])
         self.assertEqual(self.completed("waltigon-picture", "--from", ""), [])
         self.assertEqual(self.completed("waltigon-live", "my.toml", "--by", "a"), ["active-monitors", "access-points"])
 

@@ -26,7 +26,7 @@ from live import (asking, changes, checks, keeping, machine, record, rights, run
 from live.bridge import Bridge, Signals
 from live.changes import Change, Changes
 from live.checks import (Plan, Wanted, check_bridge, check_config, check_left, check_names, check_port,
-                         check_program, check_record, check_wires, face_of, read_wires, set_country)
+                         check_program, check_record, check_wires, read_wires, set_country)
 from live.faults import Fault
 from live.machine import Interface
 from live.record import make_record
@@ -84,7 +84,7 @@ class Machine(OnMachine):
     def plan(self, bssids=(OURS, OTHER), wires=(), channel=6, ways=(Way.ACTIVE_MONITORS,)):
         """A plan of networks with these addresses."""
         networks = tuple(Network(bssid, b"\x82") for bssid in bssids)
-        return Plan(Settings(channel, 100, networks), wires, "text", ways=ways)
+        return Plan(Settings(channel, 100, networks), wires, ways=ways)
 
     def test_radio(self):
         """The channel is set while the monitor interface is alone; what was added is deleted, and nothing else."""
@@ -337,7 +337,7 @@ class HandedOn(OnMachine):
         with contextlib.redirect_stderr(io.StringIO()) as told, ExitStack() as stack:
             stack.callback(made.close)
             ways = checks.check_radio(wanted, settings, made, stack)
-            setting_up.SettingUp(wanted, made, stack).follow(Plan(settings, wires, "text", ways=ways))
+            setting_up.SettingUp(wanted, made, stack).follow(Plan(settings, wires, ways=ways))
             done, self.commands = self.commands, []
             if hands_on:
                 made.hand_on(checks.as_set_up(settings, Way.ACTIVE_MONITORS))
@@ -448,7 +448,7 @@ class WiresThatGo(OnMachine):
             self.addCleanup(patch.stop)
         self.setting_up = setting_up.SettingUp(self.WANTED, self.made, ExitStack())
         self.wires = wires.Wires(self.setting_up)
-        self.plan = Plan(self.SETTINGS, ((OTHER, "nowire1"),), "octets")
+        self.plan = Plan(self.SETTINGS, ((OTHER, "nowire1"),))
         os.makedirs(self.interfaces)
 
     def read_file(self, *path):
@@ -528,7 +528,7 @@ class WiresThatGo(OnMachine):
         self.wires.went_down(1)
         self.assertTrue(self.opened[1].is_closed)
         self.look()
-        self.plan = Plan(self.SETTINGS, (), "octets")
+        self.plan = Plan(self.SETTINGS, ())
         self.assertEqual(self.follow()[0], {})
         self.assertEqual([opened.is_closed for opened in self.opened], [True] * 3)
         self.wires.close()
@@ -935,14 +935,14 @@ class WhatStays(WithFiles):
     def test_changed_networks(self):
         """Of those that are gone, or are others to their stations."""
         one, two = Network(OURS, b"\x82", ssid=b"a"), Network(OTHER, b"\x82", ssid=b"b")
-        before = Plan(Settings(6, 100, (one, two)), (), "octets")
+        before = Plan(Settings(6, 100, (one, two)), ())
         for networks, wanted in (((one, two), []), ((two, one), []), ((one,), [1]), ((), [0, 1]),
                                  ((replace(one, ssid=b"c"), two), [0]), ((one, replace(two, rates=b"\x84")), [1]),
                                  ((replace(one, max_known=9, max_stations=3, max_events=5), two), [])):
-            after = Plan(Settings(6, 100, networks), ((OURS, "wire1"),), "octets")
+            after = Plan(Settings(6, 100, networks), ((OURS, "wire1"),))
             self.assertEqual(keeping.changed_networks(before, after), wanted, networks)
         for settings in (Settings(7, 100, (one, two)), Settings(6, 99, (one, two))):
-            self.assertEqual(keeping.changed_networks(before, Plan(settings, (), "octets")), [0, 1])
+            self.assertEqual(keeping.changed_networks(before, Plan(settings, ())), [0, 1])
 
 
 class Reloaded(WithFiles):
@@ -1073,7 +1073,7 @@ class Running(WithFiles):
                     (serving, "check_rights", mock.Mock()), (serving, "SettingUp", lambda *_: setting_up),
                     (serving, "rights_of", lambda _: Rights()), (serving, "open_radio", lambda _: []),
                     (serving, "Wires", lambda _: mock.Mock(are_missing=False, open=lambda plan: {})),
-                    (serving, "check", lambda *_: Plan(read_settings(self.config), wires, "octets", ways=ways)),
+                    (serving, "check", lambda *_: Plan(read_settings(self.config), wires, ways=ways)),
                     (serving, "check_again", lambda _, before: self.check_again(before))):
                 stack.enter_context(mock.patch.object(where, name, value))
             stack.enter_context(mock.patch.object(running.RunFile, "reloaded", lambda _, fault: self.outcomes.append(fault)))
@@ -1120,7 +1120,7 @@ class Running(WithFiles):
             self.end()
         self.run_bridge(later)
         self.assertRegex(self.read("words"),
-                         "^--name live --face octets --phy phy0 --channel 6 --monitor mon0 --interval 100 --by active-monitors --idle 300 --socket [0-9]+ "
+                         "^--name live --phy phy0 --channel 6 --monitor mon0 --interval 100 --by active-monitors --idle 300 --socket [0-9]+ "
                          f"--record [0-9]+:{self.path('a.trace')} --bounds [0-9]+ --network 02:00:00:00:01:01/6c6162/82840b16/8/16/1/wire1 apctl {self.config}\n$")
         self.assertEqual(self.read("asked"), "state\nopen\ntables\n")
         self.assertRegex(self.told.getvalue(), "^live: 1 networks are on channel 6, by active monitor interfaces; Ctrl-C ends it, .*\nlive: the program "
@@ -1285,7 +1285,7 @@ class Running(WithFiles):
             self.run_bridge(lambda: self.end_once(lambda: os.path.exists(self.path("page-words"))), port=9617)
         self.assertEqual(self.read("page-words"), f"9617 {self.folder}/phy0.sock\n")
         self.assertIn(" --alive ", self.read("words"))
-        self.assertIn("--name live --face ", self.read("words"))
+        self.assertIn("--name live --phy ", self.read("words"))
         self.write("page", "#!/bin/sh\nexit 3\n", 0o755)
         does = SENDS + "; [ $request = open ] && (sleep 0.3; echo alive)"
         with mock.patch.object(serving, "STATUS_PROGRAM", page):
@@ -1335,12 +1335,6 @@ class Running(WithFiles):
             with self.assertRaisesRegex(Fault, "missing isn't there: in a checkout of the source `make bridge` builds"):
                 check_bridge(missing)
         check_bridge(self.write("there", "", 0o755))
-
-    def test_face(self):
-        """Octets where the program has them: it refuses words that it doesn't know with status 2."""
-        for status, face in ((2, "text"), (0, "octets"), (1, "octets")):
-            path = self.write("program", f"#!/bin/sh\n[ \"$*\" = 'live --octets {self.config}' ] && exit {status}\n", 0o755)
-            self.assertEqual(face_of(self.wanted(path)), face)
 
 
 if __name__ == "__main__":

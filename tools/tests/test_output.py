@@ -7,7 +7,8 @@ from common import THREE, TOOLS, ToolTest
 
 INPUT, REPORT, AIR = (os.path.join(THREE, name) for name in ("input", "stdout", "air.pcapng"))
 CALLS = {"report-to-json": [REPORT], "picture": [INPUT, REPORT], "trace-from-capture": [AIR],
-         "explain": ["--program", "/bin/true", INPUT], "capture-from-report": [REPORT, "--out", "made"],
+         "explain": ["--program", "/bin/true", INPUT], "frame": ["c0000000", "020000000001"],
+         "capture-from-report": [REPORT, "--out", "made"],
          "capture-from-run": [INPUT, REPORT, "--out", "made"]}
 FULL, CLOSED = 'exec "$@" >/dev/full', 'exec "$@" >&-'
 # The reader has ended before the tool begins.

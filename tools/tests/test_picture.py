@@ -13,7 +13,7 @@ from PIL import Image, ImageFont
 from common import (CASES, DEVICES, GUEST, OFFICE, PROGRAM, ROOT, THREE, ToolTest, heard, input_of, needs_program,
                     report_of, run_program, tool, with_report)
 from drawing.columns import Clock
-from drawing.fields import fields_on_air, fields_on_wire
+from fields import fields_on_air, fields_on_wire
 from drawing.overview import stretches_of
 from story import stories
 from texts import Line, Origin, read_config, read_report, read_text, read_trace
@@ -36,7 +36,8 @@ MARKS = {GUEST: [("answered", PHONE, 2, "A"), ("answered", PHONE, 3, "J"), ("lef
                   ("wired", "wire", 18, LAPTOP), ("wired", "wire", 30, PRINTER)],
          DEVICES: [("answered", SENSOR, 10, "A"), ("answered", SENSOR, 11, "J"), ("kept", SENSOR, 20, "wire"),
                    ("kept", SENSOR, 21, "wire"), ("kept", "group", 22, "wire"), ("delivered", SENSOR, 28, ""),
-                   ("delivered", SENSOR, 32, ""), ("delivered", "group", 35, ""), ("beacon", "beacons", 26, ""),
+                   ("delivered", SENSOR, 32, ""), ("answered", SENSOR, 28, "S"), ("answered", SENSOR, 32, "S"),
+                   ("delivered", "group", 35, ""), ("beacon", "beacons", 26, ""),
                    ("DTIM beacon", "beacons", 35, "")]}
 WORDS = {(OFFICE, 6): "aid 1", (OFFICE, 8): "aid 2", (GUEST, 3): "aid 1", (DEVICES, 11): "aid 1",
          (DEVICES, 26): "aid 1", (DEVICES, 35): "group"}
@@ -281,6 +282,79 @@ class Picture(PictureTest):
         found = self.of_example("frames_of_unknown_stations").of(what="turned away")
         self.assertEqual({group.findall(f"{SVG}text")[1].text for group in found}, {"6", "7"})
 
+    def test_polls_are_told_from_waking(self):
+        """A poll that brings a unit has its letter beside it; units that a station gets since it wakes have none."""
+        shapes = self.of_example("station_dozes_and_polls")
+        polls = {group.get("data-lines") for group in shapes.of(what="answered", letter="S")}
+        self.assertEqual(polls, {group.get("data-lines") for group in shapes.of(what="delivered")})
+        for line in polls:
+            [poll], [unit] = shapes.of(lines=line, letter="S"), shapes.of(lines=line, what="delivered")
+            self.assertGreater(middle_of(unit)[0], middle_of(poll)[0] + 10)
+        shapes = self.of_example("station_wakes")
+        self.assertEqual(shapes.of(what="answered", letter="S"), [])
+        self.assertNotEqual(shapes.of(what="delivered"), [])
+
+    def test_frames_that_bring_nothing_are_rings(self):
+        """A poll, a departure and a frame of the wire that bring nothing have an empty ring in their row; so has a
+        probe that nobody answers, within a quiet stretch."""
+        for name, rings in (("station_dozes_and_polls", {("10", "S"), ("13", "S")}),
+                            ("frames_of_unknown_stations", {("8", "D"), ("14", "D")}),
+                            ("wired_frames_without_a_station", {("4", ""), ("5", "")}),
+                            ("probe_for_another_name_is_not", {("1", "P")})):
+            shapes = self.of_example(name)
+            found = shapes.of(what="nothing")
+            self.assertEqual({(group.get("data-lines"), group.get("data-letter")) for group in found}, rings, name)
+            for group in found:
+                self.assertEqual(group.find(f"{SVG}circle").get("fill"), "none")
+                self.assertIn("brings nothing", group.find(f"{SVG}title").text)
+            self.assertEqual(shapes.overlapping(), [])
+            self.assertIn("brings nothing", shapes.words())
+
+    def test_frame_to_all_is_for_one_network(self):
+        """What one network answers is no silence of the others, which heard it too."""
+        shapes = self.of_example("guest_office_and_devices")
+        self.assertEqual({group.get("data-lines") for group in shapes.of(what="nothing")} & {
+            group.get("data-lines") for group in shapes.of(what="answered")}, set())
+
+    def test_short_runs_fill_the_width(self):
+        """The last mark of a run of one strip stands near the right end, and the bars of states end there."""
+        for name in ("three_networks_over_some_intervals", "first_trace", "station_dozes_and_polls"):
+            shapes = self.of_example(name)
+            self.assertGreater(max(middle_of(group)[0] for group in shapes.marks()), 0.9 * WIDTH, name)
+            self.assertEqual(shapes.overlapping(), [], name)
+
+    def test_tooltips_are_words(self):
+        """What a pointer shows of a mark says who did what, and what came of it."""
+        shapes = self.of_three()
+        for wanted, title in (({"lines": "3", "what": "answered"}, "line 3: 02:aa:00:00:00:01 asks to associate, and "
+                               "is answered: identifier 1"),
+                              ({"lines": "20", "what": "kept"}, "line 20: a unit from the wire for 02:aa:00:00:00:04 "
+                               "is kept"),
+                              ({"lines": "28", "what": "answered"}, "line 28: 02:aa:00:00:00:04 polls for a unit that "
+                               "is kept, and is answered"),
+                              ({"lines": "35", "what": "delivered"}, "line 35: a unit for the group that was kept is "
+                               "sent"),
+                              ({"lines": "26", "what": "beacon"}, "line 26: a beacon says that units wait for "
+                               "identifier 1")):
+            [group] = shapes.of(**wanted)
+            self.assertEqual(group.find(f"{SVG}title").text, title)
+        group = self.of_example("statuses_in_order").of(what="refused", letter="J")[0]
+        self.assertRegex(group.find(f"{SVG}title").text, r"asks to associate, and is refused: status \d+ \(")
+        for group in self.of_example("frames_of_unknown_stations").of(what="turned away"):
+            self.assertRegex(group.find(f"{SVG}title").text, r", and isn't associated: reason [67] \(class ")
+
+    def test_dark_ground(self):
+        """Each colour of the ground, of texts and of lines has another one on a dark ground, and a picture says so."""
+        shapes = self.of_three()
+        [style] = shapes.root.iter(f"{SVG}style")
+        self.assertTrue(style.text.startswith("@media (prefers-color-scheme: dark){"))
+        for element in shapes.root.iter():
+            for kind in ("fill", "stroke"):
+                colour = element.get(kind, "none")
+                is_ink = element.tag == f"{SVG}text" and kind == "fill" and colour != "white"
+                if is_ink or colour in ("#c9ced6", "#e6e8eb", "#f0f0f0"):
+                    self.assertIn(f'[{kind}="{colour}"]{{', style.text)
+
     def test_station_of_two_networks_is_joined(self):
         """A station that is associated in two networks has its rows joined by a line, and its mark names the other
         network; one that left the first has not."""
@@ -409,17 +483,18 @@ class Choices(PictureTest):
         self.assertEqual(len(shapes.of(row=PHONE, what="associated", span="4-39")), 1)
         self.assertEqual(shapes.of(row=PHONE, what="authenticated") + shapes.of(row=PHONE, what="answered"), [])
         self.assertNotIn("02aa00000001 020000000101 0000 0000", read_text(self.drawn(*words, name="made.html")))
-        self.assertEqual(len(self.shapes(*words, "--station", "02:aa:00:00:00:01", "--to", "8").of(what="associated")), 1)
+        self.assertEqual(len(self.shapes(*words, "--station", "02:aa:00:00:00:01", "--to", "8").of(what="associated")),
+                         1)
 
     def test_times(self):
         """Times are those of the beacon clock, or the capture's own where the trace tells them."""
         words = self.of_three().words()
-        self.assertLessEqual({"0.000", "0.102", "0.205", "0.410", "beacons, s"}, words)
+        self.assertLessEqual({"0.000", "0.102", "0.205", "0.410", "time, s"}, words)
         text = input_of(THREE)[0].replace("\nA ", "\n# frame 7, 12.345 s\nA ", 1)
         with open(self.path("input"), "w", encoding="ascii") as file:
             file.write(text)
         words = self.shapes(self.path("input"), os.path.join(THREE, "stdout")).words()
-        self.assertLessEqual({"12.345", "capture, s"}, words)
+        self.assertLessEqual({"12.345", "time, s"}, words)
 
 
 class Crowds(PictureTest):

@@ -62,6 +62,35 @@ class Asked(ToolTest):
             self.assertLessEqual(self.browser.value(table), width)
         self.assertEqual(self.browser.faults, [])
 
+    def test_names_stay_in_sight(self):
+        """Where the picture is wider than the window, the names of networks and rows stay at its left, above the
+        shapes."""
+        self.browser.size(390, 844)
+        self.browser.value("document.getElementById('picture').scrollLeft = 400")
+        lefts = "[...document.querySelectorAll('#picture text.name')].map(name => name.getBoundingClientRect().left)"
+        self.browser.wait(f"Math.min(...{lefts}) >= 0")
+        found = self.browser.value(lefts)
+        self.assertGreater(len(found), 10)
+        self.assertLess(max(found), 150)
+        box = "document.querySelector('#picture text.name:last-of-type').getBoundingClientRect()"
+        top = f"box = {box}, document.elementFromPoint((box.left + box.right) / 2, (box.top + box.bottom) / 2).tagName"
+        self.assertEqual(self.browser.value(top), "text")
+        self.assertEqual(self.browser.faults, [])
+
+    def test_it_is_dark_where_the_reader_is(self):
+        """Page and picture have a dark ground, with light texts, where the browser asks for that, and else a light
+        one."""
+        ground = "getComputedStyle(document.querySelector('#picture svg > rect')).fill"
+        text = "getComputedStyle(document.querySelector('#picture svg > text')).fill"
+        page = "getComputedStyle(document.body).backgroundColor + getComputedStyle(document.body).color"
+        for width in (390, 1280):
+            self.browser.size(width, 844, True)
+            self.assertEqual([self.browser.value(asked) for asked in (ground, text, page)],
+                             ["rgb(21, 24, 29)", "rgb(228, 230, 234)", "rgb(21, 24, 29)rgb(228, 230, 234)"])
+            self.browser.size(width, 844, False)
+            self.assertEqual([self.browser.value(asked) for asked in (ground, text)],
+                             ["rgb(255, 255, 255)", "rgb(34, 34, 34)"])
+
     def test_it_finds_what_is_asked_for(self):
         """An address is found from one line to the next, and what isn't there is not."""
         ask = ("box = document.getElementById('ask'); box.value = '{}';"

@@ -1,130 +1,98 @@
 //! The bridge between the program's word `live` and a Linux machine's radio and wired ports: the way of a frame.
-//! `tools/live` checks all, sets the interfaces up, starts this, and takes down what it set up; docs/BRIDGE.md tells how.
+//! `tools/live` checks all, sets the interfaces up, starts this, and takes down what it set up; docs/BRIDGE.md tells
+//! how.
 //!
 //! ```text
 //!      what comes                                                                        the program
 //!
-//!  mon0 ───▶ filter ───▶ recvmmsg ──▶ receiving ──▶ waiting: two lanes   ──▶ Feeder ═══▶ ┌────────────────┐
-//!            (kernel)    8 at most    judged, or    of each network, one     pipe of 32  │                │
-//!  wire1 ──────────────▶ a call       counted as    of the air for all,      events at   │   apctl live   │
-//!  wire2 ──────────────▶              left out      which take turns         most unread │   [--octets]   │
-//!                                                                              ▲         │                │
-//!  the clock, `tables` of tools/live ──────────────────────────────────────────┘         │                │
-//!                                                                                        │                │
-//!  wire1 ◀─┬─ sendmmsg ◀─────── sending: each wire in order;         ◀════════════════════ │                │
-//!  wire2 ◀─┘  8 at most a call                                                  Answers  │                │
-//!  mon0 ◀──── beacons, at once ◀─ transmitting                                           └────────────────┘
-//!  mon0 ◀──── as much as the  ◀── shares: whose turn it is, of the networks and of a network's receivers
-//!             radio sends in      stations: at which rate, and again where it is lost
-//!             8 milliseconds  ◀── flight: what the radio has at once
+//!  mon0 ───▶ filter ───▶ recvmmsg ──▶ judging  ──▶ queue: two of each     ──▶ feeder ═══▶ ┌────────────────┐
+//!            (kernel)    8 at most    goes on, or  network, one of the        pipe of 32  │                │
+//!  wire1 ──────────────▶ a call       is left out  air for all, which take    events at   │   apctl live   │
+//!  wire2 ──────────────▶              and counted  turns                      most unread │   --octets     │
+//!                                                                                 ▲       │                │
+//!  the clock, `tables` of tools/live ─────────────────────────────────────────────┘       │                │
+//!                                                                                         │                │
+//!  wire1 ◀─┬─ sendmmsg ◀─────── wire: each in order;                 ◀═══════════════════ │                │
+//!  wire2 ◀─┘  8 at most a call                                                   records  │                │
+//!  mon0 ◀──── beacons, at once ◀─ air                                                     └────────────────┘
+//!  mon0 ◀──── as much as the  ◀── scheduler: whose turn it is, of the networks and of a network's receivers
+//!             radio sends in      links: at which rate, and again where it is lost
+//!             8 milliseconds  ◀── in_flight: what the radio has at once
 //!  mon0 ───▶ what became of it ─▶ corrects the shares
 //!  people ◀──────────────────── lines of tables and faults
 //! ```
 //!
-//! It promises: frames of the air for one network stay in their order, frames of the air for all networks, and frames of
-//! each wire. What is for all and what is for one network may overtake each other (`waiting`). What is sent by each wire
-//! stays in its order, and on the air to each receiver.
+//! It promises: frames of the air for one network stay in their order, frames of the air for all networks, and frames
+//! of each wire. What is for all and what is for one network may overtake each other (`inbound::queue`). What is sent
+//! by each wire stays in its order, and on the air to each receiver.
 //!
-//! A unit that nobody acknowledged is sent once more, if none went to its
-//! station since. Each frame that comes is given to the program once, or counted as left out or dropped, but for what
-//! the kernel's filter keeps out: control frames, and frames for no network. A beginning of a beacon interval waits for
-//! none of the frames that wait. A beacon goes before all that waits, group frames of its network included; what the
-//! program sends after a beacon never goes before it. While a network has frames waiting for the air, no other one gets
-//! more than its share of it and one frame (`shares`). All memory is bounded. One thread does all by `epoll`, and waits nowhere else but for its ends
-//! of standard error and the record, and where many frames come for a millisecond at most, in which some gather
-//! (`gathering`).
+//! A unit that nobody acknowledged is sent once more, if none went to its station since. Each frame that comes is given
+//! to the program once, or counted as left out or dropped, but for what the kernel's filter keeps out: control frames,
+//! and frames for no network. A beginning of a beacon interval waits for none of the frames that wait. A beacon goes
+//! before all that waits, group frames of its network included; what the program sends after a beacon never goes before
+//! it. While a network has frames waiting for the air, no other one gets more than its share of it and one frame
+//! (`scheduler`). All memory is bounded. One thread does all by `epoll`, and waits nowhere else but for its ends of
+//! standard error and the record, and where many frames come for a millisecond at most, in which some gather
+//! (`batching`).
 //!
 //! It leaves every decision on a frame to the program, and leaves to `tools/live` all that takes rights: it has none of
-//! its own (`rights`). It speaks with that by lines of a Unix socket: it reads `state`, with the files by which stations
-//! stay, `open PLACE...`, once the interfaces are there, with their sockets, `wire PLACE`, with the socket of a wire that
-//! is there again, `tables`, and `dismiss PLACE...`, by which all stations of these networks are told to join again; the
-//! end of its input ends it. It writes `ready`, once the networks are open,
-//! `sending`, once the first beacon was seen as sent, `unsent` where none was for a while, and `sending` again,
-//! `elsewhere MHZ` where the radio hears on another frequency than its channel's, and `here` once it is back, `alive`
-//! while the program answers, `down PLACE` where a wire ended, `dismissed`, `status N` with the status of the program, and
-//! `fault TEXT`, after which it ends with status 1.
+//! its own (`os::sandbox`). It speaks with that by lines of a Unix socket: it reads `state`, with the files by which
+//! stations stay, `open PLACE...`, once the interfaces are there, with their sockets, `wire PLACE`, with the socket of
+//! a wire that is there again, `tables`, and `dismiss PLACE...`, by which all stations of these networks are told to
+//! join again; the end of its input ends it. It writes `ready`, once the networks are open, `sending`, once the first
+//! beacon was seen as sent, `unsent` where none was for a while, and `sending` again, `elsewhere MHZ` where the radio
+//! hears on another frequency than its channel's, and `here` once it is back, `alive` while the program answers, `down
+//! PLACE` where a wire ended, `dismissed`, `status N` with the status of the program, and `fault TEXT`, after which it
+//! ends with status 1.
 //!
-//! Where a bridge takes the place of another one, stations stay (`restoring`). The state that the one before has left in
-//! the files says who is associated, and by which request. The new program is told of these before anything else, and the
-//! record marks that by comments. What it answers to these events is swallowed: that alone of its answers isn't sent. Each
-//! second in which something changed, and at its end, the bridge leaves such a state itself (`keeping`).
+//! Where a bridge takes the place of another one, stations stay (`handover::replay`). The state that the one before
+//! has left in the files says who is associated, and by which request. The new program is told of these before anything
+//! else, and the record marks that by comments. What it answers to these events is swallowed: that alone of its answers
+//! isn't sent. Each second in which something changed, and at its end, the bridge leaves such a state itself
+//! (`handover::state_files`).
 //!
-//! By itself (`operating`) it watches which stations there are, tells what happens to them, and asks those that have
-//! fallen silent whether they are there; for one that isn't, or that doesn't associate where a network is nearly full,
-//! it tells the program that the station left. It answers who connects to its socket (`clients`).
+//! By itself (`stations`) it watches which stations there are, tells what happens to them, and asks those
+//! that have fallen silent whether they are there; for one that isn't, or that doesn't associate where a network is
+//! nearly full, it tells the program that the station left. It answers who connects to its socket (`control::clients`).
 #![deny(unsafe_code)]
 // Shifts go before `&` and `|`, and need no parentheses for that: clippy 1.85 alone asks for them.
 #![allow(clippy::precedence)]
 
-mod airtime;
-mod beacon_watch;
-mod bridge;
-mod by;
-mod clients;
-mod clock;
+mod apctl;
 mod control;
-mod digits;
-mod epoll;
-mod faces;
-mod faults;
-mod filter;
-mod flight;
-mod frames;
-mod gathering;
+mod formats;
+mod handover;
 mod hashing;
-mod keeping;
-mod lanes;
-mod lateness;
-mod link;
-mod log;
-mod meaning;
-#[cfg(test)]
-mod mutator;
-mod operating;
-mod own_frames;
-mod pipes;
-mod poller;
-mod program;
-mod radiotap;
-mod rates;
-mod receiving;
-mod restoring;
-mod rights;
-mod roster;
-#[cfg(test)]
-mod samples;
-mod sending;
-mod shares;
-mod silence;
-mod sockets;
+mod inbound;
+mod network;
+mod os;
+mod outbound;
+mod run;
 mod stations;
-mod status;
-mod tables;
-mod time;
-mod transmitting;
-mod tuning;
-mod waiting;
-mod words;
+#[cfg(test)]
+mod testing;
 
 use std::os::unix::io::{AsFd, RawFd};
 use std::process::ExitCode;
 
-use bridge::{Bridge, Manner};
-use clients::Clients;
-use control::{say, Handed, Notice, Requests};
-use faults::Fault;
-use program::{Program, Record};
-use restoring::Setting;
-use rights::Bounds;
-use sending::Sender;
-use sockets::{inherited, inherited_listener, OfSocket, PacketSocket};
-use time::{Nanos, SECOND};
-use words::Words;
+use crate::apctl::program::Program;
+use crate::apctl::recording::Recording;
+use crate::handover::state::Setting;
+use control::arguments::Arguments;
+use control::clients::Clients;
+use control::faults::{self, Fault};
+use control::log;
+use control::parent::{say, Handed, Notice, Requests};
+use os::clock::{Nanos, SECOND};
+use os::sandbox::{self, Bounds};
+use os::sockets::{inherited, inherited_listener, OfSocket, PacketSocket};
+use outbound::Outbound;
+use run::{Bridge, Manner};
 
 const WRONG_WORDS: u8 = 2;
 
 fn main() -> ExitCode {
-    match Words::read(std::env::args().skip(1)) {
+    match Arguments::read(std::env::args().skip(1)) {
         Err(fault) => {
             faults::tell(fault);
             ExitCode::from(WRONG_WORDS)
@@ -140,15 +108,15 @@ fn main() -> ExitCode {
 }
 
 /// Runs the bridge until it is ended, or until a fault. It serves once it has given up what it doesn't need then.
-fn run(words: &Words) -> Result<(), Fault> {
+fn run(words: &Arguments) -> Result<(), Fault> {
     log::begin(&words.name);
-    rights::give_up_capabilities()?;
+    sandbox::give_up_capabilities()?;
     let requests =
         std::io::stdin().as_fd().try_clone_to_owned().map_err(|fault| Fault::of("standard input", &fault))?;
     let record = words.record.as_ref().map(|(descriptor, name)| record(*descriptor, name)).transpose()?;
     let clients = words.socket.map(listen).transpose()?;
     let bounds = words.bounds.map(|memory| Bounds::of(&words.program, &words.config, memory)).transpose()?;
-    let (program, feeder) = Program::start(&words.program, &words.config, words.face, bounds, record)?;
+    let (program, feeder) = Program::start(&words.program, &words.config, bounds, record)?;
     let manner = Manner {
         setting: Setting { phy: words.phy.clone(), channel: words.channel, interval: words.interval },
         by: words.by,
@@ -156,14 +124,14 @@ fn run(words: &Words) -> Result<(), Fault> {
         tells_alive: words.tells_alive,
     };
     let mut bridge = Bridge::new(program, feeder, Requests::new(requests.into()), clients, manner)?;
-    rights::keep_to_calls()?;
+    sandbox::keep_to_calls()?;
     bridge.serve(|handed| open(words, handed))
 }
 
 /// The file of the record, which `tools/live` has made.
-fn record(descriptor: RawFd, name: &str) -> Result<Record, Fault> {
+fn record(descriptor: RawFd, name: &str) -> Result<Recording, Fault> {
     let file = inherited(descriptor).map_err(|fault| Fault::of(format!("--record {name}"), &fault))?;
-    Ok(Record::new(name, file.into()))
+    Ok(Recording::new(name, file.into()))
 }
 
 /// The socket by which whoever wants asks the bridge.
@@ -172,7 +140,7 @@ fn listen(descriptor: RawFd) -> Result<Clients, Fault> {
 }
 
 /// The sockets of the monitor interface and of each wire, as `tools/live` opened them.
-fn open(words: &Words, handed: Handed) -> Result<Sender<PacketSocket>, Fault> {
+fn open(words: &Arguments, handed: Handed) -> Result<Outbound<PacketSocket>, Fault> {
     let mut sockets = handed.sockets.into_iter();
     let mut next = |interface: &str| match sockets.next() {
         Some(socket) => Ok(PacketSocket::of(interface, socket)),
@@ -185,5 +153,5 @@ fn open(words: &Words, handed: Handed) -> Result<Sender<PacketSocket>, Fault> {
         let wire = wire.ok_or_else(|| Fault::new(format!("the network of the place {place} has no wire")))?;
         wires[place] = Some(next(wire)?);
     }
-    Ok(Sender::new(words.networks.clone(), monitor, beacons, wires).with_acknowledged(acknowledged))
+    Ok(Outbound::new(words.networks.clone(), monitor, beacons, wires).with_acknowledged(acknowledged))
 }

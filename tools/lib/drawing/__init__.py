@@ -1,3 +1,2 @@
 """Draws a run. `picture` draws all of it, `overview` a long one on one screen, and `page` puts a picture into a page of
-HTML; `columns` says what stands where, `svg` writes shapes, and `fields` says what a frame's octets mean. What happened
-in the run comes from `story`."""
+HTML; `columns` says what stands where, and `svg` writes shapes. What happened in the run comes from `story`."""

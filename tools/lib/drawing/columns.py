@@ -6,14 +6,18 @@ from dataclasses import dataclass, field
 
 from drawing.svg import text_width
 from frames import TIME_UNIT
-from story import GROUP, WIRE
+from story import GROUP, NOTHING, WIRE
 
 BEACONS, OTHERS = "beacons", "others"
 SMALL, LETTER_SIZE = 9.5, 10
 SLOT, CIRCLE_SLOT, PAD, LEAST_COLUMN, LEAST_QUIET = 13, 18, 4, 18, 6
+# How much further apart the columns of a short run stand at most.
+MOST_GAP = 120
 # Shorter quiet stretches have no words.
 LEAST_NAMED = 4
-CIRCLED = ("answered", "refused", "turned away", "left")
+CIRCLED = ("answered", "refused", "turned away", "left", NOTHING)
+# Lines that brought nothing and that stations send all the time: probes for other networks, and Nulls.
+USUAL = ("P", "U")
 BEACON_KINDS = ("beacon", "DTIM beacon")
 
 
@@ -91,7 +95,7 @@ class Clock:
     @property
     def name(self):
         """What stands before the times."""
-        return "capture, s" if self.by_capture else "beacons, s"
+        return "time, s"
 
     def text(self, line):
         """The time of a line."""
@@ -135,10 +139,26 @@ def row_of(mark):
     return OTHERS if mark.what == "unread" or mark.whom is None else mark.whom
 
 
+def is_silent(mark):
+    """Whether a mark is of a frame that did nothing, and that isn't worth a column."""
+    return mark.what == "unread" or mark.what == NOTHING and mark.letter in USUAL
+
+
 def is_quiet(mark):
     """Whether a mark says nothing new: a beacon without units that wait, or that says what the one before said; a frame
-    that isn't read."""
-    return mark.what == "unread" or mark.what in BEACON_KINDS and not mark.text
+    that isn't read, or that does nothing as many do."""
+    return is_silent(mark) or mark.what in BEACON_KINDS and not mark.text
+
+
+def drop_silences(lanes):
+    """Takes the marks of frames that brought nothing off lines that brought something in another network: a frame
+    to all is heard by each, and meant for one."""
+    busy = {number for lane in lanes for number, marks in lane.marks.items()
+            if any(mark.what not in (NOTHING, "unread") for mark in marks)}
+    busy |= {number for lane in lanes for number in lane.changes}
+    for lane in lanes:
+        for number in busy & lane.marks.keys():
+            lane.marks[number] = [mark for mark in lane.marks[number] if mark.what != NOTHING]
 
 
 def columns_of(lanes, lines, clock):
@@ -162,9 +182,11 @@ def quiet_column(lanes, lines, clock):
         return []
     items = {}
     for place, lane in enumerate(lanes):
-        count = sum(mark.what == "unread" for line in lines for mark in lane.marks_at(line.number))
-        if count:
-            items[place] = [Item("unread", OTHERS, None, "", "", count)]
+        counts = Counter((mark.what, mark.letter) for line in lines for mark in lane.marks_at(line.number)
+                         if is_silent(mark))
+        if counts:
+            items[place] = place_items([Item(what, OTHERS, None, letter, "", count)
+                                        for (what, letter), count in counts.items()])
     taken = clock.length(lines) if clock.is_known else 0
     labels = (f"⋯ {taken:.1f} s" if taken >= 0.05 else "⋯", f"{len(lines)} lines")
     labels = labels if len(lines) >= LEAST_NAMED else ()
@@ -185,7 +207,17 @@ def strips_of(columns, width):
             for item in items:
                 rows[item.row] = column.x + item.x + item.width + PAD
         strips[-1].append(column)
-    return [Strip(strip) for strip in strips]
+    return [Strip(filled(strip, width) if len(strips) == 1 else strip) for strip in strips]
+
+
+def filled(strip, width):
+    """A strip whose columns stand further apart, so that it is as wide as this; within reason."""
+    gaps = len(strip) - 1
+    room = width - max(column.end for column in strip)
+    each = min(room / gaps, MOST_GAP) if gaps else 0.0
+    for place, column in enumerate(strip):
+        column.x += each * place
+    return strip
 
 
 def left_of(column, before, free):
@@ -218,6 +250,14 @@ class Strip:
             return 0.0
         column = self.columns[bisect.bisect_right(self.firsts, number) - 1]
         return column.x + (0.0 if column.is_quiet else PAD / 2 + SLOT / 2)
+
+    def x_of_mark(self, number, place, what, row):
+        """How far from the left the mark of a line stands that a network has in a row; where there is none, the
+        line."""
+        column = self.columns[bisect.bisect_right(self.firsts, number) - 1] if self.has(number) else None
+        items = column.items.get(place, ()) if column and not column.is_quiet else ()
+        item = next((item for item in items if item.what == what and item.row == row), None)
+        return self.x_of(number) + (item.x if item else 0.0)
 
     def has(self, number):
         """Whether a line stands here."""

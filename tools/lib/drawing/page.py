@@ -2,7 +2,7 @@
 the trace that it is of, and the frames that came and went with them, field by field."""
 import json
 
-from drawing.fields import fields_on_air, fields_on_wire, kind_of
+from fields import fields_on_air, fields_on_wire, kind_of
 
 PAGE = """<!DOCTYPE html>
 <html lang="en"><head><meta charset="utf-8">
@@ -23,6 +23,14 @@ body {{ margin: 0; font: 14px "DejaVu Sans", Verdana, sans-serif; color: #222; d
   #told {{ flex: 2; height: auto; min-height: 0; min-width: 0; border-left: none; border-top: 1px solid #c9ced6; }}
 }}
 #ask {{ width: 100%; box-sizing: border-box; font: inherit; margin-top: 12px; padding: 4px; }}
+text.name {{ paint-order: stroke; stroke: white; stroke-width: 5px; stroke-linejoin: round; }}
+@media (prefers-color-scheme: dark) {{
+  text.name {{ stroke: #15181d; }}
+  :root {{ color-scheme: dark; }}
+  body {{ background: #15181d; color: #e4e6ea; }}
+  #told, #told td {{ border-color: #3c434d; }}
+  #told h3 {{ color: #9aa0a8; }}
+}}
 g[data-lines], g[data-span] {{ cursor: pointer; }}
 g.asked > circle, g.asked > rect, g.asked > path {{ stroke: #c8202d; stroke-width: 3; }}
 </style></head><body><div id="picture">{picture}</div><div id="told">
@@ -109,8 +117,13 @@ document.getElementById("ask").addEventListener("keydown", event => {{
   found.textContent = groups.length ? "find " + (at % groups.length + 1) + " of " + groups.length : "nothing found";
   if (groups.length) mark(groups[at % groups.length]);
 }});
-document.getElementById("picture").addEventListener("mouseover", point);
-document.getElementById("picture").addEventListener("click", point);
+const shown = document.getElementById("picture"), names = [...document.querySelectorAll("#picture text.name")];
+// Names stay in sight where the picture is wider than its window, above the shapes.
+names.forEach(name => name.ownerSVGElement.appendChild(name));
+shown.addEventListener("scroll", () =>
+  names.forEach(name => name.setAttribute("transform", "translate(" + shown.scrollLeft + " 0)")));
+shown.addEventListener("mouseover", point);
+shown.addEventListener("click", point);
 </script></body></html>
 """
 

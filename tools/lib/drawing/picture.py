@@ -4,12 +4,13 @@ as well."""
 import bisect
 from contextlib import nullcontext
 
-from drawing.colours import DARK, GREEN, GREY, GRID, ORANGE, PALE, PURPLE, RED, STATES, YELLOW
+from drawing.colours import (DARK, GREEN, GREY, GRID, GROUND, ORANGE, PALE, PURPLE, QUIET, RED, RULE, STATES, YELLOW)
 from drawing.columns import (BEACON_KINDS, BEACONS, CIRCLE_SLOT, CIRCLED, OTHERS, PAD, SLOT, SMALL, Lane, columns_of,
-                             strips_of)
+                             drop_silences, strips_of)
 from drawing.overview import Overview
 from drawing.svg import Canvas, text_width
-from story import ASSOCIATED, DOZING, GROUP, WIRE
+from drawing.words import mark_text
+from story import ASSOCIATED, DOZING, GROUP, NOTHING, WIRE
 
 WIDTH, MARGIN, LEFT = 1000, 12, 146
 BODY = WIDTH - LEFT - MARGIN
@@ -24,10 +25,11 @@ ARROWS = {"sent": DARK, "kept": ORANGE, "lost": RED, "wired": GREEN}
 LETTERS = (("P", "probe request"), ("A", "authentication"), ("J", "association (joins)"), ("R", "reassociation"),
            ("D", "departure"), ("U", "data"), ("S", "PS-Poll"))
 MEANINGS = {
-    "answered": "request answered", "refused": "refused: its status", "turned away": "class not allowed: its reason",
+    "answered": "request answered", "refused": "refused: its status", "turned away": "refused: not associated",
     "left": "station leaves", "beacon": "beacon, for whom units wait", "DTIM beacon": "beacon with a DTIM",
     "sent": "unit sent at once, from whom to whom", "kept": "unit kept", "delivered": "kept unit delivered",
-    "dropped": "kept unit dropped", "lost": "unit lost", "wired": "unit put on the wire", "unread": "frames not read"}
+    "dropped": "kept unit dropped", "lost": "unit lost", "wired": "unit put on the wire", "unread": "frames not read",
+    NOTHING: "brings nothing"}
 FIXED_ROWS = {BEACONS: "beacons", GROUP: "for the group", WIRE: "the wire", OTHERS: "others"}
 
 
@@ -76,6 +78,7 @@ class Picture:
     def __init__(self, stories, clock, chosen=(), most_stations=40):
         names = [story.section.name for story in stories]
         self.lanes = [Lane(story, frozenset(chosen), names.count(story.section.name) == 1) for story in stories]
+        drop_silences(self.lanes)
         self.most_stations = most_stations
         self.roaming = roaming_of(self.lanes)
         self.name_roaming()
@@ -152,7 +155,7 @@ class Picture:
     def begin(self, with_legend=True):
         """A new canvas, with the words above all."""
         self.canvas, self.y = Canvas(WIDTH), float(MARGIN)
-        self.canvas.rectangle(0, 0, WIDTH, 100_000, "white")
+        self.canvas.rectangle(0, 0, WIDTH, 100_000, GROUND)
         if with_legend:
             self.headline()
             self.legend()
@@ -214,9 +217,9 @@ class Picture:
             elif kind == "roaming":
                 self.canvas.line(x + 8, y - 7, x + 8, y + 7, PURPLE, 1.6, stroke_dasharray="3 2")
             elif kind == "quiet":
-                self.canvas.rectangle(x, y - 7, 17, 14, "#f0f0f0")
+                self.canvas.rectangle(x, y - 7, 17, 14, QUIET)
             elif what in CIRCLED:
-                self.circle(x + 8, y, "A", what)
+                self.circle(x + 8, y, {"turned away": "U", NOTHING: ""}.get(what, "A"), what)
             else:
                 if what in ARROWS:
                     self.canvas.line(x, y, x + 8, y, ARROWS[what], 1.2)
@@ -301,33 +304,34 @@ class Picture:
             if column.is_quiet:
                 with self.canvas.group(f"lines {column.numbers}: nothing new", data_lines=column.numbers,
                                        data_what="quiet"):
-                    self.canvas.rectangle(x + 1, top, column.width - 2, height, "#f0f0f0")
+                    self.canvas.rectangle(x + 1, top, column.width - 2, height, QUIET)
             elif column.lines[0].kind == "T":
                 x += PAD / 2 + SLOT / 2
-                self.canvas.line(x, top, x, top + height, "#c9ced6", 0.8)
+                self.canvas.line(x, top, x, top + height, RULE, 0.8)
 
     def lane(self, lane, place, strip):
         """One network in a strip: the height of the middle of each of its rows."""
         rows, without_news, left_out = self.rows_of(lane, place, strip)
-        self.canvas.text(MARGIN, self.y + 12, lane.name, TEXT, weight="bold")
+        self.canvas.text(MARGIN, self.y + 12, lane.name, TEXT, weight="bold", of="name")
         more = [f"{without_news} station{'s' * (without_news > 1)} without news"] * (without_news > 0)
         more += [f"{left_out} stations not shown"] * (left_out > 0)
         more = ", ".join(more or ["nothing here"] * (not rows))
         if more:
             x = max(LEFT + 6, MARGIN + text_width(lane.name, TEXT, "bold") + 10)
             self.canvas.text(x, self.y + 12, more, SMALL, fill=PALE)
-        self.canvas.line(MARGIN, self.y + 0.5, WIDTH - MARGIN, self.y + 0.5, "#c9ced6", 0.8)
+        self.canvas.line(MARGIN, self.y + 0.5, WIDTH - MARGIN, self.y + 0.5, RULE, 0.8)
         middles = {row: self.y + TITLE + ROW * number + MIDDLE for number, row in enumerate(rows)}
         roaming = {other.station for other in self.roaming if strip.overlaps(other.begins, other.ends)
                    and place in other.places}
         for row, y in middles.items():
             self.canvas.line(LEFT, y, LEFT + strip.width, y, GRID)
             name = FIXED_ROWS.get(row) or row.hex(":")
-            self.canvas.text(LEFT - NAME_END, y + 4, name, TEXT, anchor="end", fill=PURPLE if row in roaming else DARK)
+            self.canvas.text(LEFT - NAME_END, y + 4, name, TEXT, anchor="end", fill=PURPLE if row in roaming else DARK,
+                             of="name")
         for span in lane.spans:
             if span.station in middles and strip.overlaps(span.begins, span.ends):
                 self.state(lane, span, strip, middles[span.station])
-        self.kept_bars(lane, strip, middles)
+        self.kept_bars(lane, place, strip, middles)
         for column in strip.columns:
             for item in column.items.get(place, ()):
                 self.item(lane, column, item, middles)
@@ -343,7 +347,7 @@ class Picture:
                                data_row=span.station.hex(), data_span=f"{span.begins}-{span.ends or 'end'}"):
             self.canvas.rectangle(LEFT + begins, y - BAR / 2, ends - begins, BAR, STATES[span.state])
 
-    def kept_bars(self, lane, strip, middles):
+    def kept_bars(self, lane, place, strip, middles):
         """A bar for each unit that is kept, below its row's middle, in a few tracks."""
         free = {}
         for kept in lane.keepings:
@@ -353,7 +357,7 @@ class Picture:
             if row not in middles:
                 continue
             tracks = free.setdefault(row, [0.0] * TRACKS)
-            begins, ends = strip.x_of(kept.begins), strip.x_of(kept.ends)
+            begins, ends = strip.x_of(kept.begins), strip.x_of_mark(kept.ends, place, kept.how, row)
             track = next((place for place, end in enumerate(tracks) if end <= begins), TRACKS - 1)
             tracks[track] = max(tracks[track], ends)
             y = middles[row] - MIDDLE + KEPT_AT + KEPT_PITCH * track
@@ -369,7 +373,7 @@ class Picture:
         row = item.row if item.row in middles else OTHERS
         y, left = middles[row], LEFT + column.x + PAD / 2 + item.x
         x = left + (SLOT if item.what not in CIRCLED else CIRCLE_SLOT - 2) / 2
-        title = f"line {column.numbers}: {MEANINGS[item.what]}{' ' + item.label if item.label else ''}"
+        title = f"{'lines' if len(column.lines) > 1 else 'line'} {column.numbers}: {mark_text(item)}"
         sender = item.sender if item.sender in middles and item.sender != row else None
         with self.canvas.group(title, data_network=lane.section.bssid.hex(), data_what=item.what,
                                data_row=name_of(item.row), data_lines=column.numbers, data_letter=item.letter,
@@ -390,11 +394,13 @@ class Picture:
 
     def circle(self, x, y, letter, what):
         """A request, by its letter."""
-        face, edge = {"refused": (RED, RED), "turned away": (PURPLE, PURPLE), "left": ("white", RED)}.get(
-            what, ("white", DARK))
-        self.canvas.add("circle", cx=x, cy=y, r=RADIUS, fill=face, stroke=edge, stroke_width=1.2)
-        self.canvas.text(x, y + 3.5, letter, 9.5, anchor="middle", weight="bold",
-                         fill="white" if face != "white" else edge)
+        face, edge = {"refused": (RED, RED), "turned away": (PURPLE, PURPLE), "left": ("white", RED),
+                      NOTHING: ("none", DARK)}.get(what, ("white", DARK))
+        dashes = {"stroke_dasharray": "2.5 2"} if what == NOTHING else {}
+        self.canvas.add("circle", cx=x, cy=y, r=RADIUS, fill=face, stroke=edge, stroke_width=1.2, **dashes)
+        if letter:
+            self.canvas.text(x, y + 3.5, letter, 9.5, anchor="middle", weight="bold",
+                             fill="white" if face not in ("white", "none") else edge)
 
     def shape(self, x, y, what, from_above):
         """A mark that isn't a circle."""

@@ -7,6 +7,8 @@ import tempfile
 import xml.etree.ElementTree as tree
 from contextlib import contextmanager
 
+from drawing.colours import INK, dark_style
+
 FAMILY = "DejaVu Sans, Verdana, sans-serif"
 FONTS = {"normal": "DejaVuSans.ttf", "bold": "DejaVuSans-Bold.ttf"}
 MEASURED_AT = 100
@@ -49,6 +51,7 @@ class Canvas:
         self.width = width
         self.root = tree.Element("svg", xmlns="http://www.w3.org/2000/svg")
         self.into = self.root
+        self.add("style").text = dark_style()
 
     def add(self, kind, **attributes):
         """One shape; `_` in a name stands for `-`."""
@@ -86,9 +89,12 @@ class Canvas:
         """A path."""
         self.add("path", d=d, fill=fill, stroke=stroke, **more)
 
-    def text(self, x, y, text, size, anchor="start", weight="normal", fill="#222222", upright=False):
-        """A text, whose baseline is at `y`; where it stands upright it goes up from there."""
+    def text(self, x, y, text, size, anchor="start", weight="normal", fill=INK, upright=False, of=""):
+        """A text, whose baseline is at `y`; where it stands upright it goes up from there. `of` names texts of one kind
+        for who shows the picture."""
         more = {"font_weight": "bold"} if weight == "bold" else {}
+        if of:
+            more["class"] = of
         if upright:
             more["transform"] = f"rotate(-90 {number(x)} {number(y)})"
         self.add("text", x=x, y=y, font_size=size, text_anchor=anchor, fill=fill, **more).text = text

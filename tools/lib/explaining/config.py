@@ -4,7 +4,7 @@ from dataclasses import dataclass, field
 import called
 from explaining import values
 from explaining.answers import Fault
-from explaining.keys import (HOSTAPD, NETWORK_KEYS, NETWORK_LIMITS, OPTIONS, RADIO_KEYS, RADIO_LIMITS, SAMPLES,
+from explaining.keys import (HIDING, HOSTAPD, NETWORK_KEYS, NETWORK_LIMITS, OPTIONS, RADIO_KEYS, RADIO_LIMITS, SAMPLES,
                              is_of_encryption, meant)
 from explaining.source import Finding, Place, Source, quoted
 from explaining.toml_scan import Entry, NoToml, Table, Value, scan
@@ -69,6 +69,16 @@ class Config:
 def keys_of(entries: list[Entry]) -> dict[str, Entry]:
     """Entries by the first part of their keys."""
     return {entry.key[0]: entry for entry in entries}
+
+
+def networks_of(config: Source) -> dict[bytes, NetworkTable]:
+    """The tables of a configuration by their addresses."""
+    try:
+        networks = Config(config).networks
+        return {bytes.fromhex(str(network.entries["bssid"].value.worth).replace(":", "")): network
+                for network in networks}
+    except (NoToml, KeyError, ValueError, RecursionError):
+        return {}
 
 
 def number_of(entry: Entry | None) -> int | None:
@@ -138,6 +148,9 @@ def number_findings(config: Config, entries: dict[str, Entry], key: str, limits:
     if number is None:
         digits = str(value.worth).strip() if value.kind in ("text", "number") else ""
         digits = digits.removesuffix(".0")
+        if key == "channel" and digits.lower() in ("auto", "acs", "acs_survey"):
+            return [Finding("no channel is chosen by itself: `channel` is a number of 1 to 14", config.place(value),
+                            "`iw dev wlan0 scan` shows which are in use; write one of 1, 6 or 11, as `channel = 6`")]
         is_number = digits.isascii() and digits.isdigit() and least <= int(digits) <= most
         return [wrong_kind(config, entry, key, f"a whole number of {least} to {most}",
                            str(int(digits)) if is_number else SAMPLES[key])]
@@ -177,6 +190,11 @@ def unlisted_findings(config: Config) -> list[Finding]:
         found += [(entry.begin, unlisted(config, entry, allowed, RADIO_KEYS, place))
                   for place, network in enumerate(config.networks)
                   for key, entry in network.entries.items() if key not in allowed]
+    again = next((entry for network in config.networks for key, entry in network.entries.items() if key == "version"),
+                 None)
+    if again and "version" in config.top:
+        return [Finding("a second configuration begins here, behind the first", config.place(again),
+                        "leave one of them out; of another network its keys alone stand below a `[[network]]`")]
     findings = [finding for _, finding in sorted(found, key=lambda pair: pair[0])]
     more = len(findings) - MOST_KEYS_SHOWN
     return findings[:MOST_KEYS_SHOWN] + ([Finding(f"and {more} more keys that aren't listed")] if more > 0 else [])
@@ -208,6 +226,11 @@ def unlisted(config: Config, entry: Entry, here: tuple[str, ...], there: tuple[s
     if stands and stands.key in here + there + OPTIONS:
         return Finding(text, place, of_hostapd(config, stands, network))
     like = meant(key, here)
+    if like == "network" and entry.value.kind not in ("array", "table"):
+        return Finding(text, place, "leave it out: each network begins with a line `[[network]]`, and their number is "
+                       "not said")
+    if key.lower() in HIDING:
+        return Finding(text, place, "leave it out: a hidden SSID isn't here, every beacon has its name")
     if like:
         is_there = like in (config.top if network is None else config.networks[network].entries)
         more = ", which is there already: leave this out" if is_there else ""
@@ -243,6 +266,10 @@ def network_findings(config: Config) -> list[Finding]:
     if entry and len(entry.key) > 1:
         return [Finding("this makes `network` one table, and networks are an array of tables", config.place(entry),
                         f"write a line `[[network]]`, and below it `{'.'.join(entry.key[1:])}`")]
+    if entry and entry.value.kind == "text":
+        return [Finding("`network` is an array of tables, and this is a text; OpenWrt's `network` names the interface "
+                        "of a wire", config.place(entry.value), "leave this line out: the wire is named by `--wire` of "
+                        f"{called.fellow('live')}; a network begins with a line `[[network]]`")]
     if entry and entry.value.kind != "array":
         return [Finding(f"`network` is an array of tables, and this is {values.KINDS[entry.value.kind]}",
                         config.place(entry.value), "write a line `[[network]]`, and the network's keys below it")]
@@ -325,6 +352,12 @@ def rates_findings(config: Config, network: NetworkTable) -> list[Finding]:
         listed = entry.value.items if entry.value.kind == "array" else [entry.value]
         written = " ".join(str(item.worth).strip() for item in listed)
         meant_rates = values.rates_of_megabits(values.megabits_among(written))
+        numbers = [item.integer for item in listed if item.integer is not None]
+        if not meant_rates and len(numbers) == len(listed):
+            meant_rates = values.rates_of_octets(numbers)
+        digits = "".join(str(item.text) for item in listed)
+        if not meant_rates and digits and values.rates_fault(digits) is None:
+            meant_rates = digits
         is_digits = entry.value.kind == "integer" and not values.rates_fault(written)
         return [wrong_kind(config, entry, "rates", "a text of hexadecimal digits, two for each rate in units of 500 "
                            "kb/s", f'"{written if is_digits else meant_rates or "82840b16"}"')]

@@ -22,6 +22,7 @@ OTHER_NAMES = {
     "bss": "network", "vap": "network", "chan": "channel", "freq": "channel", "frequency": "channel",
     "queue_length": "queue", "queue_size": "queue", "events": "max_events", "history": "max_events",
     "max_history": "max_events", "buffer": "quota", "max_kept": "quota", "max_queue": "queue"}
+HIDING = ("hidden", "hide_ssid", "ssid_hidden", "hide", "broadcast_ssid")
 ENCRYPTION = ("wpa", "psk", "pass", "key_mgmt", "rsn", "encrypt", "wep", "sae", "ieee80211w", "auth_algs", "security")
 HOSTAPD = ("interface", "driver", "bridge", "hw_mode", "ctrl_interface", "wmm_enabled", "country_code", "ht_capab",
            "ieee80211n", "ieee80211ac", "ieee80211d", "logger_syslog", "macaddr_acl", "ignore_broadcast_ssid",

@@ -8,7 +8,8 @@ import called
 from explaining import values
 from explaining.keys import (HOSTAPD, NETWORK_KEYS, NETWORK_LIMITS, OPTIONS, RADIO_KEYS, RADIO_LIMITS, SAMPLES,
                              TEXT_KEYS)
-from explaining.source import Finding, Place, Source, odd_blank, quoted
+from explaining.pasted import entity, foreign
+from explaining.source import Finding, Place, Source, odd_blank, plain_text, quoted
 from explaining.toml_scan import NoToml, scan
 from hostapd import line_for
 
@@ -25,6 +26,10 @@ TRUTHS = {"yes": "true", "on": "true", "y": "true", "true": "true", "no": "false
 QUOTES = re.compile("[\u2018-\u201f\u00ab\u00bb\u2039\u203a`\u00b4]")
 REMARK = re.compile(r"\s*(?:;|//|--|/\*|!|%|REM\b)")
 WORD = re.compile(r"[A-Za-z_][A-Za-z0-9_-]*")
+WORD_BEFORE_KEY = re.compile(r"(export|set|let|var|local|const|uci set)\s+([\w-]+)\s*=\s*(.+)")
+TAG = re.compile(r"</?[a-z]+ ?/?>")
+# What stands for a value in a template, or for a variable of a shell.
+UNFILLED = re.compile(r"\{\{.*|\$\{?\w+\}?|%\w+%|@\w+@|<[\w -]+>")
 
 
 def explain(source: Source, wants_trace: bool) -> list[Finding]:
@@ -107,7 +112,8 @@ def of_line(source: Source, fault: NoToml, wants_trace: bool) -> Finding:
     """Why the text stops being TOML in this line."""
     place = source.at(fault.begin, fault.end)
     line = source.line(place.line)
-    finding = of_trace(source, place, line, wants_trace)
+    finding = foreign(source, place.line) or of_trace(source, place, line, wants_trace) or of_entity(place, line) or \
+        of_template(source, place.line)
     if finding:
         return finding
     by_expected = {"`=` after a key": of_key, "a key": of_key, "a value": of_value, "the line's end": of_rest,
@@ -129,6 +135,23 @@ def of_line(source: Source, fault: NoToml, wants_trace: bool) -> Finding:
                        else f"{fault.expected} is missing", place,
                        "write `[[network]]`" if "network" in line else None)
     return Finding(f"expected: {fault.expected}", place)
+
+
+def of_entity(place: Place, line: str) -> Finding | None:
+    """A line that was copied out of the source of a page."""
+    meant = entity(line)
+    return None if meant is None else Finding("this line was copied out of a page of HTML, which writes `&quot;` for "
+                                              "`\"`",
+                                              place, f"write `{meant.strip()}`")
+
+
+def of_template(source: Source, number: int) -> Finding | None:
+    """A key whose value is a place of a template, in braces, which TOML takes for a table."""
+    match = re.match(r"\s*([\w-]+)\s*=\s*(\{\{.*)", source.line(number))
+    return None if match is None else Finding(
+        f"{quoted(match[2])} stands for a value that nothing has put here: this text is a template",
+        source.place(number, match.start(2) + 1, len(match[2].rstrip())), f"write a value, as `{match[1]} = "
+        f"{SAMPLES.get(match[1], '..')}`")
 
 
 def of_trace(source: Source, place: Place, line: str, wants_trace: bool) -> Finding | None:
@@ -157,9 +180,16 @@ def of_key(place: Place, line: str, fault: NoToml, source: Source) -> Finding:
     if REMARK.match(line):
         return Finding(f"{quoted(text, 12)}: a remark begins with `#`", place, f"write `# {text.lstrip(';/-*!% ')}`")
     words = WORD.match(text)
+    behind = WORD_BEFORE_KEY.match(text)
+    if behind and behind[2] in RADIO_KEYS + NETWORK_KEYS + OPTIONS:
+        return Finding(f"`{behind[1]}` stands before the key, and a line begins with its key", place,
+                       f"write `{behind[2]} = {behind[3]}`")
+    if is_yaml(source, place.line):
+        return Finding("this is YAML, and a configuration is TOML", place, "write `channel = 6`, a line for each key, "
+                       "and a line `[[network]]` before the keys of each network")
     if words and re.match(r"\s*:", text[words.end():]):
         return Finding("`:` stands where TOML has `=`", place,
-                       f"write `{words[0]} = {text[words.end():].lstrip(': ').rstrip(',')}`")
+                       f"write `{words[0]} = {text[words.end():].lstrip(':= ').rstrip(',')}`")
     if words and words[0] in RADIO_KEYS + NETWORK_KEYS:
         rest = text[words.end():].strip()
         if not rest:
@@ -174,6 +204,27 @@ def of_key(place: Place, line: str, fault: NoToml, source: Source) -> Finding:
     return Finding("a line is a key, `=` and a value, or a table's header", place, "a remark begins with `#`")
 
 
+def of_copied(place: Place, text: str, name: str) -> Finding | None:
+    """A value with what another language or a page has around it, or with what stands for a value in a template."""
+    if text.startswith("="):
+        return Finding("`=` stands twice", place, f"write `{name} = {text.lstrip('= ')}`")
+    if TAG.search(text) and not TAG.fullmatch(text):
+        return Finding("this line was copied out of a page of HTML", place,
+                       f"write `{name} = {TAG.sub('', text).strip()}`")
+    if re.fullmatch(r'\\".*\\"', text):
+        return Finding("quotes stand without a backslash before them", place, f'write `{name} = "{text[2:-2]}"`')
+    if UNFILLED.search(text):
+        return Finding(f"{quoted(text)} stands for a value that nothing has put here: this text is a template", place,
+                       f"write a value, as `{name} = {SAMPLES[name]}`" if name in SAMPLES else None)
+    return None
+
+
+def is_yaml(source: Source, number: int) -> bool:
+    """Whether a line is a name and `:` alone, and what follows it is indented or begins with `-`."""
+    line, behind = source.line(number).rstrip(), source.line(number + 1)
+    return bool(re.fullmatch(r"\s*[\w-]+:", line) and re.match(r"\s+\S|- ", behind))
+
+
 def of_value(place: Place, line: str, fault: NoToml, source: Source) -> Finding:
     """A value that is none."""
     text, key = source.text[fault.begin:fault.end].strip(), fault.key
@@ -183,9 +234,14 @@ def of_value(place: Place, line: str, fault: NoToml, source: Source) -> Finding:
     name = key or "the key"
     if not text:
         return Finding(f"`{name}` has no value", place, f"write `{key} = {SAMPLES[key]}`" if key in SAMPLES else None)
+    copied = of_copied(place, text, name)
+    if copied:
+        return copied
     if QUOTES.search(text):
         plain = QUOTES.sub('"', text)
         return Finding("these quotes are of print, and TOML's are `\"` and `'`", place, f"write `{name} = {plain}`")
+    if re.fullmatch(r"[^;]+;\s*", text):
+        return Finding("a line ends without `;`", place, f"write `{name} = {text.rstrip('; ')}`")
     remark = re.search(r"\s*(?:;|//|--).*", text)
     if remark and remark.start() > 0:
         return with_more(place, text[:remark.start()], text[remark.start():].strip(), name)
@@ -208,6 +264,9 @@ def of_value(place: Place, line: str, fault: NoToml, source: Source) -> Finding:
 
 def of_number(place: Place, text: str, name: str) -> Finding:
     """What should be a number and is none."""
+    if plain_text(text) != text:
+        return Finding(f"{quoted(text)} has characters that look like digits and are others", place,
+                       f"write `{name} = {plain_text(text)}`")
     if re.fullmatch(r"[+-]?0\d+", text):
         return Finding("a number doesn't begin with a zero", place, f"write `{name} = {int(text)}`")
     if re.fullmatch(r"[+-]?\d+", text):
@@ -245,6 +304,8 @@ def of_rest(place: Place, line: str, fault: NoToml, source: Source) -> Finding:
         return Finding(f"{quoted(text, 12)}: a remark begins with `#`", place, f"write `# {text.lstrip(';/-*!% ')}`")
     if re.match(r"[A-Za-z_]+\s*=", text):
         return Finding("two keys stand in one line", place, "write each in a line of its own")
+    if re.fullmatch(r"[,;]\s*", text):
+        return Finding(f"a line ends without `{text[0]}`", place, f"write `{line.rstrip(',; ')}`")
     if text.startswith("\r"):
         return Finding("a CR that isn't followed by LF ends no line", place, "`tr '\\r' '\\n'` writes line ends anew")
     return Finding(f"nothing stands after a value, and here {quoted(text)} does", place,
@@ -265,6 +326,13 @@ def of_key_twice(place: Place, line: str, fault: NoToml, source: Source) -> Find
 
 def of_table_twice(place: Place, line: str, fault: NoToml, source: Source) -> Finding:
     """A table that is there already."""
+    value = re.compile(rf"^[ \t]*{re.escape(fault.key)}\s*=.*", re.MULTILINE).search(source.text)
+    if value and value.start() < fault.begin:
+        number = source.text.count("\n", 0, value.start()) + 1
+        return Finding(f"`{fault.key}` has a value here, so it can't be an array of tables in line "
+                       f"{place.line + source.first - 1}; in OpenWrt that key names the interface of a wire",
+                       source.place(number, 1, len(value[0])), "leave that line out: the wire is named by `--wire` of "
+                       f"{called.fellow('live')}")
     earlier = re.compile(rf"^[ \t]*\[{{1,2}}\s*{re.escape(fault.key)}\s*\]", re.MULTILINE).search(source.text)
     line_text = ""
     if earlier and earlier.start() < fault.begin:

@@ -1,10 +1,13 @@
 """What is odd in a configuration that has no fault."""
 from explaining import values
-from explaining.config import Config, NetworkTable
+from explaining.config import Config, NetworkTable, number_of
 from explaining.source import Finding, Source, quoted
 from explaining.toml_scan import NoToml
+from frames import TIME_UNIT
 
 NO_ADDRESS = "00:00:00:00:00:00"
+JAPANESE_CHANNEL = 14
+LEAST_INTERVAL, MOST_INTERVAL = 15, 1000  # hostapd has none below 15
 
 
 def odd(source: Source | None) -> list[Finding]:
@@ -13,7 +16,32 @@ def odd(source: Source | None) -> list[Finding]:
         config = Config(source) if source else None
     except (NoToml, RecursionError):
         return []
-    return [*of_addresses(config), *of_names(config), *of_rates(config)] if config else []
+    return [*of_radio(config), *of_addresses(config), *of_names(config), *of_blanks(config), *of_rates(config)] \
+        if config else []
+
+
+def of_radio(config: Config) -> list[Finding]:
+    """A channel that few stations look at, and a beacon interval that fills the air or that stations don't wait for."""
+    channel, interval = (number_of(config.top.get(key)) for key in ("channel", "interval"))
+    findings = []
+    if channel == JAPANESE_CHANNEL:
+        findings.append(Finding("channel 14 is there in Japan alone, for 11 Mb/s and less: stations elsewhere don't "
+                                "look at it", config.place(config.top["channel"].value),
+                                "write one of 1 to 11, as `channel = 6`"))
+    if interval is not None and not LEAST_INTERVAL <= interval <= MOST_INTERVAL:
+        why = "beacons fill the air" if interval < LEAST_INTERVAL else "stations that look for networks wait less"
+        findings.append(Finding(f"a beacon each {interval * TIME_UNIT / 1000:,.4g} ms: {why}",
+                                config.place(config.top["interval"].value), "the usual one is `interval = 100`, 102.4 "
+                                "ms"))
+    return findings
+
+
+def of_blanks(config: Config) -> list[Finding]:
+    """Names with a blank at an end, which nobody sees."""
+    return [Finding(f"the SSID of the network {place} {'begins' if name[0].isspace() else 'ends'} with a blank, which "
+                    f"is a part of it: a station that asks for {quoted(name.strip())} isn't answered",
+                    config.place(network.entries["ssid"].value), f'write `ssid = "{name.strip()}"`')
+            for place, network, name in texts_of(config, "ssid") if name != name.strip()]
 
 
 def texts_of(config: Config, key: str) -> list[tuple[int, NetworkTable, str]]:
@@ -25,7 +53,8 @@ def texts_of(config: Config, key: str) -> list[tuple[int, NetworkTable, str]]:
 
 def of_addresses(config: Config) -> list[Finding]:
     """Networks whose address is all zeros."""
-    return [Finding(f"the address of the network {place} is all zeros, which no radio has: stations may take it for none",
+    return [Finding(f"the address of the network {place} is all zeros, which no radio has: stations may take it for "
+                    "none",
                     config.place(network.entries["bssid"].value), "write one of its own, as 02:00:00:00:00:01")
             for place, network, text in texts_of(config, "bssid") if text == NO_ADDRESS]
 

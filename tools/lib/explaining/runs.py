@@ -7,14 +7,15 @@ from dataclasses import dataclass, field
 import called
 from explaining import odd_config
 from explaining.check_sequences import FCS_LEN, LEAST_LEN, ends_with_fcs, octets_too_many
-from explaining.config import Config, NetworkTable, number_of
+from explaining.config import NetworkTable, networks_of, number_of
+from explaining.line_by_line import steps
+from explaining.outcomes import Outcomes, What
 from explaining.source import Finding, Source, quoted
-from explaining.toml_scan import NoToml
 from frames import (ASSOCIATION_REQUEST, ASSOCIATION_RESPONSE, AUTHENTICATION, BROADCAST, DATA, DEAUTHENTICATION,
                     DISASSOCIATION, HEADER_LEN, MANAGEMENT, REASSOCIATION_REQUEST, REASSOCIATION_RESPONSE, SSID,
                     Frame, address_text, elements, first_of, is_group, number)
 from progress import Progress
-from reading import hears, unread_kind, wired_unread_kind
+from reading import SNAP, hears, unread_kind, wired_unread_kind
 from texts import Line, Section, frames_text, read_report, trace_line
 
 MOST_NAMED = 3
@@ -76,8 +77,10 @@ class Hearing:
                 self.unread.setdefault(kind, []).append(line)
 
 
-def odd(config: Source, traces: list[Source], output: str, has_separator: bool) -> list[Finding]:
-    """What is odd, the weightiest first; nothing where all is as it should be. TextError where a text can't be read."""
+def odd(config: Source, traces: list[Source], output: str, has_separator: bool,
+        program: str | None = None) -> list[Finding]:
+    """What is odd, the weightiest first; nothing where all is as it should be. TextError where a text can't be
+    read. Where there is a program, and one trace, it is asked line by line."""
     with Progress(sum(len(trace.lines) for trace in traces)) as progress:
         progress.say("reading the report")
         tables = networks_of(config)
@@ -87,21 +90,28 @@ def odd(config: Source, traces: list[Source], output: str, has_separator: bool) 
             lines.append(line)
             for hearing in hearings:
                 hearing.take(line)
+        outcomes = None
+        if program and len(traces) == 1:
+            progress.say("asking the program line by line")
+            outcomes = outcomes_of(config, traces[0], lines, hearings, program)
         progress.say("looking for what is odd")
-        findings = of_trace(lines, hearings, has_separator, traces)
+        untaken = outcomes.numbers_told(What.UNTAKEN) if outcomes else set()
+        findings = of_trace(lines, hearings, has_separator, traces, untaken)
         for hearing in hearings:
-            findings += of_network(hearing, traces)
+            findings += of_network(hearing, traces, outcomes)
+        findings += outcomes.findings() if outcomes else []
         return findings + of_roaming(hearings) + odd_config.odd(config)
 
 
-def networks_of(config: Source) -> dict[bytes, NetworkTable]:
-    """The tables of a configuration by their addresses."""
-    try:
-        networks = Config(config).networks
-        return {bytes.fromhex(str(network.entries["bssid"].value.worth).replace(":", "")): network
-                for network in networks}
-    except (NoToml, KeyError, ValueError, RecursionError):
-        return {}
+def outcomes_of(config: Source, trace: Source, lines: list[Line], hearings: list[Hearing], program: str) -> Outcomes:
+    """What became of single lines, by what the program answers to each."""
+    outcomes = Outcomes(trace, {hearing.section.bssid: hearing.table for hearing in hearings if hearing.table})
+    first_left = {hearing.section.bssid: hearing.past_history[0].number for hearing in hearings if hearing.past_history}
+    count = 0
+    for count, step in enumerate(steps(program, config.octets, lines), 1):
+        outcomes.take(step, frozenset(bssid for bssid, number in first_left.items() if step.line.number >= number))
+    outcomes.left_out = lines[count:]
+    return outcomes
 
 
 def lines_of(trace: Source, progress: Progress) -> Iterator[Line]:
@@ -120,8 +130,9 @@ def place_of(traces: list[Source], line: Line):
     return traces[0].place(line.number, 1, len(traces[0].line(line.number).rstrip()))
 
 
-def of_trace(lines: list[Line], hearings: list[Hearing], has_separator: bool, traces: list[Source]) -> list[Finding]:
-    """What is odd in the trace as a whole."""
+def of_trace(lines: list[Line], hearings: list[Hearing], has_separator: bool, traces: list[Source],
+             told: set[int]) -> list[Finding]:
+    """What is odd in the trace as a whole; of the lines of these numbers it is told why no network took them."""
     if not lines:
         return [Finding("the trace is empty: no line `---` stands after the configuration" if not has_separator else
                         "the trace has no line `A`, `W` or `T`", None,
@@ -133,15 +144,15 @@ def of_trace(lines: list[Line], hearings: list[Hearing], has_separator: bool, tr
         findings.append(Finding("the frames begin with the capture's own header (radiotap), and a trace has frames "
                                 "without it", place_of(traces, front), f"{MAKES_TRACES} takes it off"))
     else:
-        findings += of_receivers(frames, hearings, traces) + of_ethernet(frames, hearings, traces)
-    findings += of_check_sequences(lines, traces)
+        findings += of_receivers(frames, hearings, traces, told) + of_ethernet(frames, hearings, traces)
+    findings += of_check_sequences(lines, traces) + of_wired_types(lines, traces)
     if not any(line.kind == "T" for line in lines):
         findings.append(Finding("no line `T` begins a beacon interval: no beacon is sent, and units for the group that "
                                 "are kept stay so"))
     return findings
 
 
-def of_receivers(frames: list[Line], hearings: list[Hearing], traces: list[Source]) -> list[Finding]:
+def of_receivers(frames: list[Line], hearings: list[Hearing], traces: list[Source], told: set[int]) -> list[Finding]:
     """No frame is to any of these networks, or none to some of them; frames that none of them took."""
     to_one = [line for line in frames if not is_group(line.octets[4:10])]
     alone = [hearing for hearing in hearings if not hearing.has_frames_of_its_own()]
@@ -150,7 +161,7 @@ def of_receivers(frames: list[Line], hearings: list[Hearing], traces: list[Sourc
     findings = [Finding(f"{hearing.name}: no frame of this trace is to it, on the air or on its wire; it took "
                         f"{frames_text(hearing.count('A'))} to all, and lines T: {hearing.count('T')}")
                 for hearing in alone if len(alone) < len(hearings)]
-    return findings + of_untaken(frames, hearings, traces)
+    return findings + of_untaken([line for line in frames if line.number not in told], hearings, traces)
 
 
 def of_other_networks(to_one: list[Line], hearings: list[Hearing], traces: list[Source]) -> Finding:
@@ -201,6 +212,25 @@ def of_ethernet(frames: list[Line], hearings: list[Hearing], traces: list[Source
                     f"a frame that came over the wire of a network stands behind `W` and its BSSID, as `W {bssid}`")]
 
 
+def of_wired_types(lines: list[Line], traces: list[Source]) -> list[Finding]:
+    """Frames of a wire with something else where their type stands, which are passed on all the same."""
+    parts = ((lambda octets: octets[12:18] == SNAP, "LLC and SNAP (`aaaa03000000`) stand",
+              "on a wire the type follows the "
+              "addresses at once: leave them out"),
+             (lambda octets: octets[13:11:-1] in TYPES and octets[12:14] not in TYPES,
+              "a type with its octets the wrong way "
+              "round stands", "IPv4 is `0800`, and ARP `0806`"),
+             (lambda octets: octets[12:14] == b"\x45\0", "an IPv4 packet (`4500`) stands",
+              "write the type `0800` before it"))
+    findings = []
+    for is_it, what, advice in parts:
+        found = [line for line in lines if line.kind == "W" and is_it(line.octets)]
+        if found:
+            findings.append(Finding(f"{what} where the type does in {frames_text(len(found))} of a wire: these octets "
+                                    "are passed on as a type", place_of(traces, found[0]), advice))
+    return findings
+
+
 def of_check_sequences(lines: list[Line], traces: list[Source]) -> list[Finding]:
     """Frame check sequences that were left on."""
     findings = []
@@ -240,17 +270,17 @@ def last_octets(traces: list[Source], line: Line):
     return traces[0].place(line.number, begin + 1, len(text) - begin)
 
 
-def of_network(hearing: Hearing, traces: list[Source]) -> list[Finding]:
-    """What is odd in one network."""
+def of_network(hearing: Hearing, traces: list[Source], outcomes: Outcomes | None) -> list[Finding]:
+    """What is odd in one network; what is told of single lines isn't told of their sum."""
     section, findings = hearing.section, []
     if hearing.past_history:
         first = hearing.past_history[0]
         findings.append(Finding(f"{hearing.name}: its history is full, `max_events = {section.events}`: it takes "
                                 f"nothing more from this line on; left out: {len(hearing.past_history)}",
                                 place_of(traces, first), "as many as the trace has lines are always enough"))
-    findings += of_unread(hearing, traces)
-    findings += of_statuses(hearing)
-    if section.lost:
+    findings += of_unread(hearing, traces, outcomes) + of_full_table(hearing)
+    findings += [] if outcomes else of_statuses(hearing)
+    if section.lost and not outcomes:
         quota = hearing.limit("quota")
         findings.append(Finding(f"{hearing.name}: units lost: {section.lost} (above `quota = {quota}`, too old where "
                                 "units age, or without a wired form)"))
@@ -262,8 +292,8 @@ def of_network(hearing: Hearing, traces: list[Source]) -> list[Finding]:
     return findings
 
 
-def of_unread(hearing: Hearing, traces: list[Source]) -> list[Finding]:
-    """What a network heard and couldn't read, and why."""
+def of_unread(hearing: Hearing, traces: list[Source], outcomes: Outcomes | None) -> list[Finding]:
+    """What a network heard and couldn't read, and why, but for single lines of which that is told."""
     count = sum(map(len, hearing.unread.values()))
     if not count or count != hearing.section.unread:
         return []
@@ -281,9 +311,10 @@ def of_unread(hearing: Hearing, traces: list[Source]) -> list[Finding]:
         findings.append(Finding(f"{hearing.name}: frames that it sent itself, unread (U6): {len(own)}",
                                 place_of(traces, own[0]), "a trace has what the access point heard alone"))
     told = {id(line) for line in (*qos, *own)}
+    single = outcomes.numbers_told(What.UNREAD) if outcomes else set()
     rest = {kind: [line for line in lines if id(line) not in told] for kind, lines in hearing.unread.items()}
     for kind, lines in sorted(rest.items()):
-        if lines:
+        if len(lines) > 1 or lines and lines[0].number not in single:
             findings.append(Finding(f"{hearing.name}: events unread ({kind}): {len(lines)} of {len(hearing.heard)} "
                                     f"({KINDS[kind]})", place_of(traces, lines[0])))
     return findings
@@ -309,9 +340,6 @@ def of_statuses(hearing: Hearing) -> list[Finding]:
     for answer, (what, reason) in texts.items():
         if sent[answer]:
             findings.append(Finding(f"{hearing.name}: {what}: {sent[answer]} ({reason})"))
-    if known == len(section.stations) and not sent[AUTHENTICATION, 1]:
-        findings.append(Finding(f"{hearing.name}: it knows as many stations as it may, `max_known = {known}`: each new "
-                                "one will be refused (status 1)"))
     if sent[ASSOCIATION_RESPONSE, 1]:
         names = Counter(name for name in map(name_asked_for, hearing.heard)
                         if name is not None and name != section.ssid)
@@ -320,6 +348,16 @@ def of_statuses(hearing: Hearing) -> list[Finding]:
                                 f"(they named another SSID{f', {asked},' if asked else ''} than "
                                 f"{quoted(section.ssid.decode('utf-8', 'replace'))})"))
     return findings
+
+
+def of_full_table(hearing: Hearing) -> list[Finding]:
+    """A network that knows as many stations as it may, and has refused none yet."""
+    known = hearing.limit("max_known")
+    refused = any(answer_of(octets) == (AUTHENTICATION, 1) for octets in hearing.section.air)
+    if known != len(hearing.section.stations) or refused:
+        return []
+    return [Finding(f"{hearing.name}: it knows as many stations as it may, `max_known = {known}`: each new one will be "
+                    "refused (status 1)")]
 
 
 def answer_of(octets: bytes) -> tuple[int, int] | None:

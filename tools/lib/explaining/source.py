@@ -6,6 +6,7 @@ MOST_SHOWN = 96
 BEFORE_MARK = 40
 TAB_SHOWN, BLANK_SHOWN, CONTROL_SHOWN = "\u21e5", "\u237d", 0x2400
 MARK = "\ufeff"
+DASHES = "\u2010\u2011\u2012\u2013\u2014\u2015\u2212"
 
 
 class Source:
@@ -87,6 +88,20 @@ def odd_blank(source: Source, line: int, begin: int = 0, end: int | None = None)
                            (", which looks like a space and is none" if is_seen else ", which isn't seen"),
                            source.place(line, at + 1), "write a space" if is_seen else "leave it out")
     return None
+
+
+def plain_letter(letter: str) -> str | None:
+    """The letter, digit or sign of ASCII that another character stands for, as a full-width digit does; None where it
+    stands for none."""
+    if letter in DASHES:
+        return "-"
+    plain = unicodedata.normalize("NFKC", letter)
+    return plain if not letter.isascii() and len(plain) == 1 and plain.isascii() else None
+
+
+def plain_text(text: str) -> str:
+    """A text with each character of ASCII in the place of one that stands for it."""
+    return "".join(plain_letter(letter) or letter for letter in text)
 
 
 def quoted(text: str, most: int = 40) -> str:

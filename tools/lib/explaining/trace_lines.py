@@ -6,12 +6,18 @@ import called
 from explaining import values
 from explaining.answers import Fault
 from explaining.no_toml import MAGICS, REPORT_LINE, UTF_16
-from explaining.source import Finding, Source, odd_blank, quoted
+from explaining.pasted import foreign, foreign_to_trace
+from explaining.source import Finding, Place, Source, odd_blank, plain_letter, quoted
 
 MOST_OCTETS, MOST_LINES, MOST_NAMED = 4096, 1_000_000, 4
-HEX_DUMP = re.compile(r"(?:0x)?[0-9A-Fa-f]{4,8}:? +(?:(?:[0-9A-Fa-f]{2}|[0-9A-Fa-f]{4})(?: +|$)){4,}")
 BETWEEN_DIGITS, MOST_AROUND = ":-,.;|", 20
 DIGITS = re.compile("[0-9A-Fa-f]{12,}")
+OTHER_WORDS = {"A": "A", "AIR": "A", "RX": "A", "HEARD": "A", "W": "W", "WIRE": "W", "ETH": "W", "T": "T", "TICK": "T",
+               "TBTT": "T", "BEACON": "T"}
+BEFORE_WORD = re.compile(r"((?:(?:->|=>|[>+$|-]) ?|[\d.,:TZ/-]*\d[\d.,:TZ/-]*[:,]? +))(?=[AW] +[0-9A-Fa-f]|T$)")
+ARRAY = re.compile(r"\s*\{?\s*(?:0x[0-9A-Fa-f]{1,2}\s*,?\s*)+\}?;?|(?:\\x[0-9A-Fa-f]{2})+")
+NO_QUOTES = str.maketrans("", "", "\"'`")
+BEFORE_FRAME = re.compile("A +([0-9A-Fa-f]{2}(?::[0-9A-Fa-f]{2}){5}) +(?=[0-9A-Fa-f])")
 
 
 def explain(source: Source, fault: Fault, bssids: list[str], is_live: bool = False) -> list[Finding]:
@@ -28,6 +34,9 @@ def explain(source: Source, fault: Fault, bssids: list[str], is_live: bool = Fal
         return []
     line = source.lines[number - 1]
     line = (line.removesuffix("\r") if number < len(source.lines) else line).rstrip(" ")
+    strange = foreign(source, number) or (foreign_to_trace(source, number) if fault.code == "L1" else None)
+    if strange:
+        return [strange]
     odd = odd_blank(source, number)
     if odd and fault.code in ("L1", "L2", "L3", "L4"):
         return [odd]
@@ -69,6 +78,16 @@ def of_word(source: Source, number: int, line: str, bssids: list[str]) -> Findin
     if "\t" in first:
         return Finding("words are separated by spaces, and this is a TAB", source.place(number, line.index("\t") + 1),
                        "write spaces instead")
+    behind = BEFORE_WORD.match(line)
+    if behind:
+        return Finding(f"{quoted(behind[1].strip())} stands before the word, and a line begins with its word",
+                       source.place(number, 1, len(behind[1].rstrip())), f"write {quoted(line[behind.end(1):])}; a "
+                       "remark has a line of its own, before")
+    word = OTHER_WORDS.get(first.rstrip(":,").upper())
+    if word and word != first.upper() and not REPORT_LINE.fullmatch(line):
+        return Finding(f"{quoted(first)} is no word of a trace; `{word}` is: `A` for a frame on the air, `W` for one "
+                       "on a wire, `T` for a beacon "
+                       "interval", place, f"write {quoted((word + ' ' + rest.strip()).strip())}")
     if first == "I":
         return Finding("`I` asks `live` for its tables, and is no line of a trace", place, "leave it out")
     if first.upper() in ("A", "W", "T"):
@@ -81,6 +100,13 @@ def with_returns(source: Source, number: int, line: str) -> Finding:
     """A CR within a line."""
     return Finding("lines end with CR alone, and a trace's end with LF", source.place(number, line.index("\r") + 1),
                    "`tr '\\r' '\\n'` writes such a text anew")
+
+
+def of_array(source: Source, number: int, line: str) -> Finding:
+    """Octets as a program's array has them."""
+    digits = "".join(re.findall(r"(?:0x|\\x)([0-9A-Fa-f]{2})", line))
+    return Finding("these are octets as a program's source has them", source.place(number, 1, len(line)),
+                   f"write {quoted('A ' + digits)}, all of a frame in one line")
 
 
 def of_tick(source: Source, number: int, line: str) -> Finding:
@@ -104,15 +130,18 @@ def of_other_text(source: Source, number: int, line: str) -> Finding | None:
     if re.match(r";|//|--|!|%", line):
         return Finding("a remark begins with `#`", source.place(number, 1, 2),
                        f"write {quoted('# ' + line.strip(';/-!% '))}")
+    if ARRAY.fullmatch(line):
+        return of_array(source, number, line)
+    if line.lstrip().startswith(("{", "[")):
+        return Finding("this is JSON, and a trace has a line of its own for each frame", place,
+                       "write `A` and its digits")
+    if re.match(r"```|~~~", line):
+        return Finding("this marks a piece of code in Markdown, and belongs to no trace", place, "leave the line out")
     if REPORT_LINE.fullmatch(line) or re.match(r"station [0-9a-f:]{17} |end$", line):
         return Finding("this is a line of a report, and no trace", place)
     if re.match(r"[a-z_]+ *= *\S|\[\[?network", line):
         return Finding("this is a line of a configuration, and no trace", place,
                        "a configuration stands before the line `---`, or in a file of its own: `run CONFIG TRACE`")
-    if HEX_DUMP.match(line):
-        return Finding("this is a line of a hex dump, and a trace has one line for each frame", place,
-                       f"{called.fellow('trace-from-capture')} makes a trace of a capture; else write `A` and the "
-                       "frame's digits")
     if re.fullmatch(r"[0-9A-Fa-f ]{8,}", line):
         return Finding("a line begins with its word: `A` for a frame on the air, `W` for one on the wire", place,
                        f"write {quoted('A ' + line)}")
@@ -134,9 +163,22 @@ def of_digits(source: Source, number: int, line: str, bssids: list[str]) -> Find
     stray = re.search("[^0-9A-Fa-f ]", digits)
     if stray is None:
         return of_odd_digits(source, number, line, begin)
+    named = BEFORE_FRAME.match(line)
+    if named:
+        return Finding("behind `A` the frame follows at once: an address stands there in what `live` answers, and "
+                       "behind `W`", source.place(number, named.start(1) + 1, len(named[1])),
+                       f"write {quoted(f'A {line[named.end():].strip()}')}")
     at = begin + stray.start()
     place = source.place(number, at + 1)
     letter = stray[0]
+    if digits.startswith(("...", "\u2026"), stray.start()):
+        return Finding("`...` stands for octets that were left out, and a line has all octets of its frame",
+                       source.place(
+            number, at + 1, 3 if letter == "." else 1), "write them there")
+    if letter in "hH" and digits[stray.start() - 1:stray.start()].isalnum():
+        return Finding(f"digits stand without `{letter}` behind them", place, f"leave each `{letter}` out")
+    if letter in "\"'`":
+        return Finding("digits stand without quotes", place, f"write {quoted(line.translate(NO_QUOTES))}")
     if letter == "#":
         return Finding("a remark has a line of its own, and here one stands behind a frame", source.place(
             number, at + 1, len(line) - at), "move it to a line before this one")
@@ -150,9 +192,19 @@ def of_digits(source: Source, number: int, line: str, bssids: list[str]) -> Find
     if letter == "\t":
         return Finding("a TAB among the digits; spaces alone may stand there", place, "write a space")
     if letter == "\r":
-        return Finding("a CR that isn't the last character before LF", place, "`sed 's/\\r*$//'` takes the CRs off")
-    like = {"O": "0", "o": "0", "l": "1", "I": "1"}.get(letter)
+        return of_return(source, number, line, place)
+    like = {"O": "0", "o": "0", "l": "1", "I": "1"}.get(letter) or plain_letter(letter)
     return Finding(f"{quoted(letter)} is no hexadecimal digit", place, f"write {like}" if like else None)
+
+
+def of_return(source: Source, number: int, line: str, place: Place) -> Finding:
+    """A CR behind a frame."""
+    if line.rstrip("\r").count("\r"):
+        return with_returns(source, number, line)
+    if number == len(source.lines):
+        return Finding("the last line ends with CR, and no LF follows: a CR is dropped before an LF alone", place,
+                       "`sed 's/\\r*$//'` takes the CRs off")
+    return Finding("a line ends with at most one CR", place, "`sed 's/\\r*$//'` takes the CRs off")
 
 
 def word_around(text: str, at: int) -> str:
@@ -186,6 +238,9 @@ def of_address(source: Source, number: int, line: str, bssids: list[str]) -> Fin
     fault = values.address_fault(word)
     if not fault:
         return None
+    if not re.search("[:.-]", word) and re.search("[^0-9A-Fa-f]", word):
+        return Finding(f"after `W` a network is named by its address, and {quoted(word)} is none",
+                       source.place(number, match.start(1) + 1, len(word)), having(bssids) if bssids else None)
     text, span, mended = fault
     some = bssids[0] if bssids else "02:00:00:00:00:01"
     place = source.place(number, match.start(1) + 1 + span[0], span[1] - span[0])

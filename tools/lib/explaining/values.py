@@ -1,7 +1,7 @@
 """What is wrong with one value of a configuration, and what to write for it: addresses, names, rates, numbers."""
 import re
 
-from explaining.source import quoted
+from explaining.source import plain_letter, plain_text, quoted
 
 KINDS = {"text": "a text", "integer": "a whole number", "number": "a number with a fraction", "truth": "a truth value",
          "time": "a date or a time", "array": "an array", "table": "a table"}
@@ -21,6 +21,11 @@ def address_fault(text: str) -> tuple[str, tuple[int, int], str | None] | None:
     if not text:
         return "an address has six pairs of hexadecimal digits, and this is empty", whole, None
     stray = re.search(r"[^0-9A-Fa-f:.\- \t]", text)
+    if stray and plain_letter(stray[0]):
+        plain = plain_text(text)
+        fault = address_fault(plain)
+        return (f"{quoted(stray[0])} isn't {quoted(plain_letter(stray[0]) or '')}, and an address has six pairs of "
+                "hexadecimal digits with `:` between", stray.span(), fault[2] if fault else plain.lower())
     if stray:
         letter = {"O": "0", "o": "0", "l": "1", "I": "1"}.get(stray[0])
         mended = re.sub("[Oo]", "0", re.sub("[lI]", "1", text)) if letter else None
@@ -59,7 +64,9 @@ def rates_of_megabits(numbers: list[float]) -> str | None:
 
 
 def megabits_among(text: str) -> list[float]:
-    """The rates in Mb/s that a text lists, or in units of 100 kb/s as hostapd has them; none where it lists others."""
+    """The rates in Mb/s that a text lists, or in units of 100 kb/s as hostapd has them, or in kb/s; none where it lists
+    others."""
+    text = re.sub(r"\([A-Za-z]*\)", "", text)
     if re.search(r"[^0-9.,;/ \tMmBbitps]", text):
         return []
     numbers = [float(word) for word in NUMBER.findall(text)]
@@ -67,8 +74,17 @@ def megabits_among(text: str) -> list[float]:
         return []
     if numbers and all(number in MEGABITS for number in numbers):
         return numbers
-    tenths = [number / 10 for number in numbers]
-    return tenths if numbers and all(number in MEGABITS for number in tenths) else []
+    for unit in (10, 1000):
+        smaller = [number / unit for number in numbers]
+        if numbers and all(number in MEGABITS for number in smaller):
+            return smaller
+    return []
+
+
+def rates_of_octets(numbers: list[int]) -> str | None:
+    """Digits for rates that are given as the numbers of their octets; None where they are none."""
+    digits = bytes(numbers).hex() if all(0 <= number <= 0xFF for number in numbers) else ""
+    return digits if digits and rates_fault(digits) is None else None
 
 
 def rates_fault(text: str) -> tuple[str, tuple[int, int], str | None] | None:

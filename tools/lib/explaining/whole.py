@@ -5,6 +5,7 @@ from dataclasses import dataclass, field
 import called
 from explaining import config, no_toml, octet_records, odd_config, runs, trace_lines, words
 from explaining.answers import Answer, Fault, read_fault
+from explaining.line_by_line import Unanswered
 from explaining.source import Finding, Source
 from explaining.toml_scan import NoToml
 from texts import TextError
@@ -18,7 +19,7 @@ NOTHING_FOUND = f"no reason was found: {called.document('FAULTS.md')} says of ea
 @dataclass
 class Texts:
     """What the program was given: its words, a configuration and traces; None for what can't be read. `records` is what
-    `live --octets` reads, None elsewhere."""
+    `live --octets` reads, None elsewhere. `program` answers the lines once more, where it may be asked."""
 
     words: list[str]
     config: Source | None = None
@@ -26,6 +27,7 @@ class Texts:
     is_joined: bool = False
     has_separator: bool = True
     records: bytes | None = None
+    program: str | None = None
 
 
 def split_joined(octets: bytes) -> tuple[bytes, bytes | None, int]:
@@ -93,6 +95,9 @@ def of_findings(findings: list[Finding]) -> list[str]:
 
 def findings_of(texts: Texts, fault: Fault) -> list[Finding]:
     """The reasons for a fault, by what it is of."""
+    swapped = of_order(texts) if fault.code == "C1" else None
+    if swapped:
+        return [swapped]
     if fault.code == "C1":
         return no_toml.explain(texts.config, texts.is_joined) if texts.config else []
     if fault.code.startswith("C"):
@@ -105,6 +110,18 @@ def findings_of(texts: Texts, fault: Fault) -> list[Finding]:
         is_live = texts.words[:1] == ["live"]
         return trace_lines.explain(trace, fault, bssids_of(texts), is_live) if trace else []
     return words.explain(fault, texts.words)
+
+
+def of_order(texts: Texts) -> Finding | None:
+    """A trace where the configuration is looked for, and a configuration behind it."""
+    if texts.words[:1] != ["run"] or texts.config is None or len(texts.traces) != 1 or texts.traces[0] is None:
+        return None
+    first = next((line for line in texts.config.lines if line.strip() and not line.startswith("#")), "")
+    if not no_toml.TRACE_LINE.fullmatch(first) or "[[network]]" not in texts.traces[0].text:
+        return None
+    names = texts.config.name, texts.traces[0].name
+    return Finding(f"{names[0]} is a trace, and {names[1]} a configuration: the configuration comes first", None,
+                   f"write `run {names[1]} {names[0]}`")
 
 
 def bssids_of(texts: Texts) -> list[str]:
@@ -135,8 +152,8 @@ def odd_in(texts: Texts, output: str) -> list[Finding]:
     if texts.config is None or len(traces) < len(texts.traces):
         return [Finding("a text of this run can't be read a second time, so what is odd in it wasn't looked for")]
     try:
-        odd = runs.odd(texts.config, traces, output, texts.has_separator)
-    except TextError as fault:
+        odd = runs.odd(texts.config, traces, output, texts.has_separator, texts.program)
+    except (TextError, Unanswered) as fault:
         return [Finding(f"what is odd in this run wasn't looked for: {fault}")]
     return odd or [Finding("nothing odd was found in this run")]
 

@@ -1,6 +1,7 @@
 """What a fault of the program's words, files, memory or streams comes of."""
 import difflib
 import os
+import shlex
 import stat
 from collections.abc import Callable
 
@@ -13,6 +14,12 @@ SUBCOMMANDS = {"check": "check CONFIG", "run": "run CONFIG TRACE", "play": "play
 FORMS = ("check CONFIG, run CONFIG TRACE, play CONFIG TRACE..., live CONFIG and live --octets CONFIG; without words it "
          "reads standard input")
 OCTETS = "--octets"
+# How many words follow each at least.
+LEAST = {"check": 1, "run": 2, "play": 2, "live": 1}
+# The options of the tool that starts the program on a radio.
+OF_BRIDGE = ("--phy", "--wire", "--wires", "--share", "--monitor", "--country", "--idle", "--record", "--tables",
+             "--status",
+             "--bridge", "--json", "--watch")
 MOST_TRACES, MOST_FILES = 64, 4
 # How much a file's name has to be like the one that was given, for it to be meant: all of it, and what stands before its
 # ending.
@@ -41,14 +48,33 @@ def of_words(fault: Fault, words: list[str]) -> list[Finding]:
         return [of_subcommand(first, rest)]
     close = difflib.get_close_matches(first.lower(), list(SUBCOMMANDS), 1, 0.6)
     if close:
-        return [Finding(f"the program has no word {quoted(first)}", None, f"write `{SUBCOMMANDS[close[0]]}`")]
+        write = shlex.join([close[0], *rest]) if len(rest) >= LEAST[close[0]] else SUBCOMMANDS[close[0]]
+        return [Finding(f"the program has no word {quoted(first)}", None, f"write `{write}`")]
     if first.startswith("-"):
-        return [Finding(f"the program has no word {quoted(first)}", None, f"its words are {FORMS}")]
-    if os.path.exists(first):
-        form = f"run {first} TRACE" if rest else f"check {first}"
-        return [Finding(f"a file's name, {quoted(first)}, is no first word", None,
-                        f"write `{form}`, or `{called.program()} < {first}` where it is a configuration and a trace")]
+        files = [word for word in rest if not word.startswith("-")]
+        more = f"write `{form_for(files)}`; " if files else ""
+        return [Finding(f"the program has no word {quoted(first)}, and no options", None,
+                        f"{more}its words are {FORMS}")]
+    command = next((word for word in rest if word in SUBCOMMANDS), None)
+    if command is not None:
+        files = [word for word in words if word != command and not word.startswith("-")]
+        return [Finding(f"the command comes first, and here {quoted(first)} does", None,
+                        f"write `{shlex.join([command, *files])}`")]
+    if is_like_file(first):
+        return [Finding(f"a file's name, {quoted(first)}, is no first word", None, f"write `{form_for(words)}`, or "
+                        f"`{called.program()} < {first}` where it is a configuration and a trace")]
     return [Finding(f"the program has no word {quoted(first)}", None, f"its words are {FORMS}")]
+
+
+def is_like_file(word: str) -> bool:
+    """Whether a word names a file, or is written as a file's name."""
+    return os.path.exists(word) or bool(os.path.splitext(word)[1]) or "/" in word
+
+
+def form_for(files: list[str]) -> str:
+    """The program's words for these files."""
+    command = {1: "check", 2: "run"}.get(len(files), "play")
+    return f"{command} {shlex.join(files)}"
 
 
 def utf8_of(word: str) -> bytes | None:
@@ -68,13 +94,26 @@ def of_subcommand(first: str, rest: list[str]) -> Finding:
     if dashed and "--" not in rest:
         more = " ".join(rest)
         options = f"no option but `{OCTETS}` before CONFIG" if first == "live" else "no options"
+        if first == "live" and dashed.partition("=")[0] in OF_BRIDGE:
+            return Finding(f"{quoted(dashed)} is an option of {called.fellow('live')}, which starts the program and "
+                           "the bridge", None, f"`{called.fellow('live')} --help` shows how it is used")
+        if dashed in ("-h", "--help", "--version"):
+            return Finding(f"the program has no word {quoted(dashed)}", None, f"its words are {FORMS}")
+        others = [word for word in rest if not word.startswith("-")]
+        is_octets = first == "live" and difflib.SequenceMatcher(None, dashed, OCTETS).ratio() > LIKE
+        meant = [first] + [OCTETS] * is_octets + others
+        write = f"write `{shlex.join(meant)}`; " if len(others) == LEAST[first] else ""
         return Finding(f"{quoted(dashed)} begins with `-`, and `{first}` has {options}", None,
-                       f"for a file of this name write `{first} -- {more}`")
-    least = {"check": 1, "run": 2, "play": 2, "live": 1}[first]
+                       f"{write}for a file of this name write `{first} -- {more}`")
+    least = LEAST[first]
     count = len([word for word in rest if word != "--"])
     if count < least:
         what = "CONFIG" if count == 0 else "TRACE"
         return Finding(f"after `{first}` the word {what} is missing", None, f"write `{form}`")
+    if first == "live":
+        files = [word for word in rest if word != "--"]
+        return Finding("`live` reads its lines from standard input, and takes one word and no more", None,
+                       f"write `live {files[0]} < {files[1]}`")
     return Finding(f"`{first}` takes {'one word' if least == 1 else 'two words'} and no more, and there are {count}",
                    None, f"write `{form}`" + (", or `play CONFIG TRACE...` for several traces" if first == "run"
                                               else ", and `run CONFIG TRACE` for a trace" if first == "check" else ""))
@@ -123,6 +162,9 @@ def missing_file(name: str, advice: str | None, reason: OSError) -> Finding:
     if not isinstance(reason, FileNotFoundError):
         return Finding(f"{quoted(name)} can't be read: {reason.strerror}", None, advice)
     folder = os.path.dirname(name) or "."
+    if name.startswith("~") and os.path.exists(os.path.expanduser(name)):
+        advice = "a shell puts the home in the place of `~` where no quotes stand around it: write " + \
+            os.path.expanduser(name)
     if not os.path.isdir(folder):
         return Finding(f"{quoted(name)} isn't there: there is no folder {quoted(folder)}", None, advice)
     try:

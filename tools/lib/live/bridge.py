@@ -92,7 +92,7 @@ def words_of(wanted: Wanted, plan: Plan, descriptor: int, record: tuple[int, str
     """The words by which the bridge is started, with the descriptor of the socket by which it is asked, that of the record
     with its name, and how many octets of address space the program has, where it runs within bounds."""
     settings = plan.settings
-    words = [wanted.bridge, "--name", called.name(), "--face", plan.face, "--phy", wanted.phy,
+    words = [wanted.bridge, "--name", called.name(), "--phy", wanted.phy,
              "--channel", str(settings.channel), "--monitor", wanted.monitor, "--interval", str(settings.interval),
              "--by", plan.way.value, "--idle", str(wanted.idle), "--socket", str(descriptor)]
     if tells_alive:

@@ -27,7 +27,6 @@ MOST_NAME = 15
 COUNTRY_SECONDS = 3.0
 LOCAL = "127.0.0.1"
 SET_UP = 2  # the number of the way in which `setting_up` sets up a radio; another way has another number
-WRONG_WORDS = 2
 # Of a checkout of the source; an installation has none.
 MAKEFILE = os.path.join(os.path.dirname(os.path.realpath(__file__)), "..", "..", "..", "Makefile")
 CARGO = "/usr/bin/cargo"
@@ -64,12 +63,11 @@ class Wanted:
 
 @dataclass(frozen=True)
 class Plan:
-    """What is to be served: the settings of a configuration in which no fault was found, the wires, how the program is
-    spoken to, the weights of shares of the air, and the ways in which the radio can serve, the one that is taken first."""
+    """What is to be served: the settings of a configuration in which no fault was found, the wires, the weights of
+    shares of the air, and the ways in which the radio can serve, the one that is taken first."""
 
     settings: Settings
     wires: Wires
-    face: str
     shares: Shares = ()
     ways: tuple[Way, ...] = (Way.ACTIVE_MONITORS,)
 
@@ -96,7 +94,7 @@ def check(wanted: Wanted, made: Changes, stack: ExitStack) -> Plan:
     check_port(wanted.status)
     check_record(wanted, settings)
     ways = check_radio(wanted, settings, made, stack)
-    return Plan(settings, wires, face_of(wanted), wanted.shares, ways)
+    return Plan(settings, wires, wanted.shares, ways)
 
 
 def check_again(wanted: Wanted, before: Plan) -> Plan:
@@ -167,13 +165,6 @@ def check_config_of(program: str, config: str) -> Settings:
         said, *reasons = explain_config(config, done.stderr.strip())
         raise Fault("\n".join([f"{config}: {said}", *reasons]))
     return read_settings(config)
-
-
-def face_of(wanted: Wanted) -> str:
-    """How the program is spoken to: in records of octets where it has that word, else in lines of text."""
-    words = [wanted.program, "live", "--octets", wanted.config]
-    done = subprocess.run(words, stdin=subprocess.DEVNULL, capture_output=True, check=False)
-    return "text" if done.returncode == WRONG_WORDS else "octets"
 
 
 def wire_of(text: str) -> tuple[bytes, str]:

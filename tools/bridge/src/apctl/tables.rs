@@ -1,0 +1,223 @@
+//! The program's tables (docs/PROTOCOL.md, 'Lines as they come'): who asked for them, and what they say.
+use std::collections::{HashMap, VecDeque};
+
+use crate::formats::frames::Address;
+use crate::os::clock::{Nanos, SECOND};
+use crate::stations::station::State;
+
+/// The tables of one second ago are new enough.
+const NEW_ENOUGH: Nanos = SECOND;
+/// Whoever waits for tables is answered without them after so long.
+const MOST_WAIT: Nanos = SECOND;
+
+/// How many questions for tables the program may have that it hasn't answered.
+const MOST_ASKERS: usize = 16;
+/// The most stations that a network knows, as a configuration says it.
+const MOST_KNOWN: usize = 10_000;
+
+/// Who asked for the tables.
+#[derive(Debug, Clone, Copy, PartialEq, Eq)]
+pub enum Asker {
+    /// People, to whom they are shown.
+    People,
+    /// The status, into which they go.
+    Status,
+}
+
+/// The table of a network.
+#[derive(Debug, Clone, Default, PartialEq, Eq)]
+pub struct Table {
+    /// The name's octets in digits.
+    pub ssid: String,
+    /// Its counts by name, in their order.
+    pub counts: Vec<(String, u64)>,
+    /// The stations that it knows, with how many units are kept for each.
+    pub stations: HashMap<Address, (State, u64)>,
+}
+
+/// The tables that came last, and those that come.
+#[derive(Debug)]
+pub struct Tables {
+    networks: usize,
+    askers: VecDeque<Asker>,
+    asked: Option<Nanos>,
+    coming: Vec<Table>,
+    last: Option<(Nanos, Vec<Table>)>,
+    came: u64,
+}
+
+impl Table {
+    /// The count of this name.
+    pub fn count(&self, name: &str) -> Option<u64> {
+        self.counts.iter().find(|(found, _)| found == name).map(|(_, number)| *number)
+    }
+}
+
+impl Tables {
+    /// None came yet of so many networks.
+    pub fn new(networks: usize) -> Tables {
+        Tables { networks, askers: VecDeque::new(), asked: None, coming: Vec::new(), last: None, came: 0 }
+    }
+
+    /// How often they came whole.
+    pub fn came(&self) -> u64 {
+        self.came
+    }
+
+    /// The program was asked for them.
+    pub fn ask(&mut self, asker: Asker, now: Nanos) {
+        self.askers.push_back(asker);
+        if asker == Asker::Status {
+            self.asked = Some(now);
+        }
+    }
+
+    /// Whether the status has to ask for them.
+    pub fn are_wanted(&self, now: Nanos) -> bool {
+        !self.are_new(now) && self.may_be_asked() && self.asked.map_or(true, |asked| now >= asked + NEW_ENOUGH)
+    }
+
+    /// Whether the program may be asked once more: one that doesn't answer is asked no further.
+    pub fn may_be_asked(&self) -> bool {
+        self.askers.len() < MOST_ASKERS
+    }
+
+    /// Whether there are such that were asked for less than a second ago.
+    pub fn are_new(&self, now: Nanos) -> bool {
+        self.last.as_ref().map_or(false, |(since, _)| now < since + NEW_ENOUGH)
+    }
+
+    /// Whether whoever waits since then is answered without.
+    pub fn is_late(&self, since: Nanos, now: Nanos) -> bool {
+        now >= since + MOST_WAIT
+    }
+
+    /// The last tables that came whole, in the order of the networks.
+    pub fn last(&self) -> Option<&[Table]> {
+        self.last.as_ref().map(|(_, tables)| &tables[..])
+    }
+
+    /// Takes a line of the program, and answers whether it is to be shown to people.
+    pub fn take(&mut self, line: &str, now: Nanos) -> bool {
+        let is_shown = self.askers.front() != Some(&Asker::Status);
+        let words: Vec<&str> = line.split(' ').collect();
+        match words[..] {
+            ["network", _, "ssid", ssid] if self.coming.len() < self.networks => {
+                self.coming.push(Table { ssid: ssid.to_owned(), ..Table::default() });
+            }
+            ["events", ..] => {
+                if let Some(table) = self.coming.last_mut() {
+                    table.counts = counts_of(&words);
+                }
+            }
+            ["station", address, ..] => {
+                let table = self.coming.last_mut().filter(|table| table.stations.len() < MOST_KNOWN);
+                if let (Some(table), Ok(address)) = (table, address.parse()) {
+                    table.stations.insert(address, station_of(&words));
+                }
+            }
+            ["end"] if self.coming.len() >= self.networks => {
+                self.last = Some((now, std::mem::take(&mut self.coming)));
+                self.askers.pop_front();
+                self.came += 1;
+            }
+            _ => {}
+        }
+        is_shown
+    }
+}
+
+/// Names and numbers in turn.
+fn counts_of(words: &[&str]) -> Vec<(String, u64)> {
+    let pairs = words.chunks_exact(2);
+    pairs.filter_map(|pair| Some((pair[0].to_owned(), pair[1].parse().ok()?))).collect()
+}
+
+/// The state of a station's line, and how many units are kept for it.
+fn station_of(words: &[&str]) -> (State, u64) {
+    let after = |name: &str| words.iter().position(|word| *word == name).and_then(|place| words.get(place + 1));
+    let aid = after("aid").and_then(|aid| aid.parse().ok());
+    let kept = after("kept").and_then(|kept| kept.parse().ok()).unwrap_or(0);
+    (aid.map_or(State::Authenticated, State::Associated), kept)
+}
+
+#[cfg(test)]
+mod tests {
+    use super::*;
+    use crate::testing::samples::{STATION, STRANGER};
+
+    const LINES: [&str; 7] = [
+        "network 02:00:00:00:01:01 ssid 6c6162",
+        "events 84 clock 46 unread 1 lost 2 kept 3",
+        "station 02:aa:00:00:00:01 associated aid 7 listen 5 doze kept 3",
+        "station 02:bb:00:00:00:01 authenticated",
+        "end",
+        "network 02:00:00:00:01:02 ssid 6c",
+        "events 0 clock 0 unread 0 lost 0 kept 0",
+    ];
+
+    fn take_all(tables: &mut Tables, now: Nanos) -> Vec<bool> {
+        LINES.iter().chain(&["end"]).map(|line| tables.take(line, now)).collect()
+    }
+
+    #[test]
+    fn tables_are_read() {
+        let mut tables = Tables::new(2);
+        assert_eq!(tables.last(), None);
+        tables.ask(Asker::Status, 0);
+        assert_eq!(take_all(&mut tables, 5), [false; 8]);
+        let found = tables.last().unwrap();
+        let counts = [("events", 84), ("clock", 46), ("unread", 1), ("lost", 2), ("kept", 3)];
+        assert_eq!(found[0].counts, counts.map(|(name, number)| (name.to_owned(), number)));
+        assert_eq!(found[0].ssid, "6c6162");
+        assert_eq!(found[0].stations[&STATION], (State::Associated(7), 3));
+        assert_eq!(found[0].stations[&STRANGER], (State::Authenticated, 0));
+        assert!(found[1].stations.is_empty());
+    }
+
+    #[test]
+    fn only_those_for_people_are_shown() {
+        let mut tables = Tables::new(2);
+        tables.ask(Asker::People, 0);
+        tables.ask(Asker::Status, 0);
+        tables.ask(Asker::People, 0);
+        assert_eq!(take_all(&mut tables, 0), [true; 8]);
+        assert!(!tables.take(LINES[0], 0));
+        let shown: Vec<bool> = LINES[1..].iter().chain(&["end"]).map(|line| tables.take(line, 0)).collect();
+        assert_eq!(shown, [false; 7]);
+        assert_eq!(take_all(&mut tables, 0), [true; 8]);
+        // At its end the program writes them without being asked.
+        assert_eq!(take_all(&mut tables, 0), [true; 8]);
+    }
+
+    #[test]
+    fn they_are_asked_for_once_a_second() {
+        let mut tables = Tables::new(2);
+        assert!(tables.are_wanted(SECOND));
+        tables.ask(Asker::Status, SECOND);
+        assert!(!tables.are_wanted(SECOND + 1));
+        take_all(&mut tables, SECOND + 5);
+        assert!(tables.are_new(SECOND + 6) && !tables.are_wanted(SECOND + 6));
+        assert!(tables.are_wanted(2 * SECOND + 6));
+        assert!(tables.is_late(SECOND, 2 * SECOND) && !tables.is_late(SECOND, 2 * SECOND - 1));
+    }
+
+    /// A program that answers no question is asked no more, and what it writes without end isn't kept.
+    #[test]
+    fn what_is_kept_is_bounded() {
+        let mut tables = Tables::new(1);
+        (0..MOST_ASKERS as u64).for_each(|second| tables.ask(Asker::Status, second));
+        assert!(!tables.may_be_asked() && !tables.are_wanted(100 * SECOND));
+        for _ in 0..10 {
+            tables.take(LINES[0], 0);
+        }
+        for number in 0..MOST_KNOWN + 100 {
+            let [.., high, low] = (number as u32).to_be_bytes();
+            tables.take(&format!("station 02:aa:00:00:{high:02x}:{low:02x} authenticated"), 0);
+        }
+        tables.take("end", 0);
+        let found = tables.last().unwrap();
+        assert_eq!((found.len(), found[0].stations.len()), (1, MOST_KNOWN));
+        assert!(tables.may_be_asked());
+    }
+}

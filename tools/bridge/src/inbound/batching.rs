@@ -1,0 +1,81 @@
+//! Where many frames come in a second, the bridge lets some gather before it reads them: each waking of the bridge and
+//! of the program then serves several. Where few come, each is read as it comes.
+use crate::os::clock::{Nanos, MILLISECOND};
+
+/// How long frames gather at most.
+const LONGEST: Nanos = MILLISECOND;
+/// How long the frames are counted by which it is known whether many come, and how many these are.
+const COUNTED: Nanos = 4 * MILLISECOND;
+const MANY: usize = 16;
+
+/// How many frames came of late.
+#[derive(Debug, Default)]
+pub struct Batching {
+    /// Since when they are counted, and how many came since.
+    since: Nanos,
+    frames: usize,
+    are_many: bool,
+}
+
+impl Batching {
+    /// Whether many come.
+    pub fn are_many(&self) -> bool {
+        self.are_many
+    }
+
+    /// So many frames came.
+    pub fn count(&mut self, frames: usize) {
+        self.frames += frames;
+    }
+
+    /// Until when frames may gather that came after this time, or `None` where each is read as it comes.
+    pub fn until(&mut self, now: Nanos) -> Option<Nanos> {
+        if now >= self.since + COUNTED {
+            // Frames that came over a longer time were fewer in each part of it.
+            let counted = (now - self.since) / COUNTED;
+            self.are_many = self.frames as Nanos >= MANY as Nanos * counted;
+            (self.since, self.frames) = (now, 0);
+        }
+        self.are_many.then_some(now + LONGEST)
+    }
+}
+
+#[cfg(test)]
+mod tests {
+    use super::*;
+
+    /// Whether frames gather while one comes each so many nanoseconds, asked at each of them.
+    fn gathers(every: Nanos) -> bool {
+        let mut gathering = Batching::default();
+        let mut found = false;
+        for number in 1..100 {
+            gathering.count(1);
+            found = gathering.until(number * every).is_some();
+        }
+        found
+    }
+
+    #[test]
+    fn frames_gather_where_many_come() {
+        assert!(gathers(MILLISECOND / 8));
+        assert!(!gathers(MILLISECOND));
+        assert!(!gathers(20 * MILLISECOND));
+    }
+
+    #[test]
+    fn they_gather_no_more_once_few_come() {
+        let mut gathering = Batching::default();
+        gathering.count(100);
+        assert_eq!(gathering.until(COUNTED), Some(COUNTED + LONGEST));
+        assert_eq!(gathering.until(2 * COUNTED - 1), Some(2 * COUNTED - 1 + LONGEST));
+        gathering.count(1);
+        assert_eq!(gathering.until(2 * COUNTED), None);
+    }
+
+    #[test]
+    fn a_burst_after_a_long_time_is_not_many() {
+        let mut gathering = Batching::default();
+        gathering.count(100);
+        assert_eq!(gathering.until(100 * COUNTED), None);
+    }
+}

@@ -1,0 +1,120 @@
+//! A frame that waits for the program: where it comes from, what it is worth, and how long it is worth to wait.
+use std::fmt;
+
+use crate::formats::frames::{Address, Frame, FrameType};
+use crate::os::clock::{Nanos, MILLISECOND};
+
+/// How long a frame of data waits at most, and a probe request: a station that looks for networks listens on a channel
+/// for some 20 to 100 ms.
+pub const LONGEST: Nanos = 50 * MILLISECOND;
+/// How long another request waits at most: a station that got no answer asks again after some 100 to 200 ms, and then
+/// awaits the answer to what it asked last.
+pub const LONGEST_OF_REQUEST: Nanos = 200 * MILLISECOND;
+/// The subtypes of management frames that are looked at (IEEE Std 802.11-2016, table 9-1).
+const PROBE_REQUEST: u8 = 4;
+const DISASSOCIATION: u8 = 10;
+const DEAUTHENTICATION: u8 = 12;
+
+/// Where a frame comes from and whom it is for: the name of its queue.
+#[derive(Debug, Clone, Copy, PartialEq, Eq, Hash, PartialOrd, Ord)]
+pub enum Source {
+    /// From the air, for all networks.
+    AirForAll,
+    /// From the air, for the network of this place.
+    Air(usize),
+    /// From the wire of the network of this place.
+    Wire(usize),
+}
+
+impl Source {
+    /// That of a frame of the air, for the network of this place or for all.
+    pub fn of_air(network: Option<usize>) -> Source {
+        network.map_or(Source::AirForAll, Source::Air)
+    }
+}
+
+/// A sender and a receiver.
+pub type Flow = (Address, Address);
+
+/// What a frame is, in the order of its worth.
+#[derive(Debug, Clone, Copy, PartialEq, Eq, Hash, PartialOrd, Ord)]
+pub enum Priority {
+    /// A probe request: a station looks for networks.
+    Probe,
+    /// A unit of data.
+    Data,
+    /// Another management frame or a PS-Poll: a station asks for something, or sends what no network reads.
+    Request,
+    /// A station says what holds from then on: that it leaves, dozes or is awake.
+    Notice,
+}
+
+impl Priority {
+    pub const ALL: [Priority; 4] = [Priority::Probe, Priority::Data, Priority::Request, Priority::Notice];
+
+    /// That of a frame of the air.
+    fn of(frame: Frame<'_>) -> Priority {
+        match (frame.frame_type(), frame.octets()[0] >> 4) {
+            (FrameType::Data, _) if frame.is_null() => Priority::Notice,
+            (FrameType::Data, _) => Priority::Data,
+            (FrameType::Management, PROBE_REQUEST) => Priority::Probe,
+            (FrameType::Management, DISASSOCIATION | DEAUTHENTICATION) => Priority::Notice,
+            _ => Priority::Request,
+        }
+    }
+
+    /// How long it is worth to let one wait. A notice has no end: what it says is as true later, and isn't said again.
+    pub fn longest(self) -> Option<Nanos> {
+        match self {
+            Priority::Probe | Priority::Data => Some(LONGEST),
+            Priority::Request => Some(LONGEST_OF_REQUEST),
+            Priority::Notice => None,
+        }
+    }
+}
+
+impl fmt::Display for Priority {
+    fn fmt(&self, to: &mut fmt::Formatter<'_>) -> fmt::Result {
+        to.write_str(match self {
+            Priority::Probe => "probe requests",
+            Priority::Data => "frames of data",
+            Priority::Request => "other requests and polls",
+            Priority::Notice => "frames by which stations leave, doze or wake",
+        })
+    }
+}
+
+/// A frame that waits.
+#[derive(Debug, Clone, PartialEq, Eq)]
+pub struct InboundFrame {
+    /// What it is.
+    pub priority: Priority,
+    /// Its sender and receiver.
+    pub flow: Flow,
+    /// When it came.
+    pub arrived: Nanos,
+    /// The frame.
+    pub octets: Vec<u8>,
+}
+
+impl InboundFrame {
+    /// A frame of the air that came at this time.
+    pub fn of_air(frame: Frame<'_>, arrived: Nanos) -> InboundFrame {
+        let flow = (frame.transmitter().unwrap_or(NOBODY), frame.receiver());
+        InboundFrame { priority: Priority::of(frame), flow, arrived, octets: frame.octets().to_vec() }
+    }
+
+    /// A frame of a wire that came at this time.
+    pub fn of_wire(octets: &[u8], arrived: Nanos) -> InboundFrame {
+        let flow = (Address::at(octets, 6).unwrap_or(NOBODY), Address::at(octets, 0).unwrap_or(NOBODY));
+        InboundFrame { priority: Priority::Data, flow, arrived, octets: octets.to_vec() }
+    }
+
+    /// Whether it waited longer than it is worth.
+    pub fn is_late(&self, now: Nanos) -> bool {
+        self.priority.longest().map_or(false, |longest| now.saturating_sub(self.arrived) > longest)
+    }
+}
+
+/// In place of an address that a frame is too short for.
+pub const NOBODY: Address = Address::of([0; 6]);

@@ -1,0 +1,9 @@
+//! The way of a frame from an interface to the program: the kernel's filter, what is left out, the queue before the
+//! program, and batching where many frames come.
+pub mod batching;
+pub mod filter;
+mod flow_queue;
+pub mod frame;
+pub mod judging;
+pub mod queue;
+pub mod source_queue;

@@ -1,0 +1,99 @@
+//! Frames that wait for the program: bounded, and where more comes than goes through, what is dropped.
+//!
+//! Each network has two queues of its own: one of what the air brings for it, and one of its wire. What the air brings
+//! for all networks has one more. Queues take turns, and each has room of its own: what fills one takes from the others
+//! nothing but its turns.
+//!
+//! In a queue frames leave in the order in which they came, but for those that are dropped. So what a station sends to
+//! one network stays in its order, and so does what it sends to all. These two may overtake each other: a station that
+//! looks for networks and then authenticates may be answered in the other order. Nothing else comes of it: of what is
+//! for all, networks read probe requests alone, and those change no station (docs/PROTOCOL.md, 'What is read').
+//!
+//! A frame is dropped where it waited longer than its priority is worth, or where `MOST_OF_FLOW` younger ones of its
+//! priority wait of its sender to its receiver. A full queue drops the oldest frame of the priority that is worth
+//! least. So who sends more than goes through loses its own frames, and others don't wait behind them. A drop takes the
+//! same time however many frames wait, and each one is counted.
+use crate::inbound::frame::{InboundFrame, Source};
+use crate::inbound::source_queue::{Dropped, SourceQueue};
+use crate::os::clock::Nanos;
+
+/// The frames that wait of all sources.
+#[derive(Debug)]
+pub struct InboundQueue {
+    /// By which each queue is found.
+    sources: Vec<Source>,
+    queues: Vec<SourceQueue>,
+    turn: usize,
+    /// How many frames wait in all queues, and whether any was dropped so far.
+    frames: usize,
+    has_dropped: bool,
+}
+
+impl InboundQueue {
+    /// The queues of so many networks, in which nothing waits.
+    pub fn new(networks: usize) -> InboundQueue {
+        let of_networks = (0..networks).flat_map(|place| [Source::Air(place), Source::Wire(place)]);
+        let sources: Vec<Source> = std::iter::once(Source::AirForAll).chain(of_networks).collect();
+        let queues = sources.iter().map(|_| SourceQueue::default()).collect();
+        InboundQueue { queues, sources, turn: 0, frames: 0, has_dropped: false }
+    }
+
+    /// Changes a queue.
+    fn change<A>(&mut self, queue: usize, change: impl FnOnce(&mut SourceQueue) -> A) -> A {
+        let queue = &mut self.queues[queue];
+        let before = queue.frames;
+        let answer = change(queue);
+        self.frames = self.frames + queue.frames - before;
+        self.has_dropped |= !queue.dropped.is_empty();
+        answer
+    }
+
+    /// A frame of this source waits, or one is dropped for it, or it.
+    pub fn push(&mut self, source: Source, frame: InboundFrame) {
+        let queue = match source {
+            Source::AirForAll => 0,
+            Source::Air(place) => 1 + 2 * place,
+            Source::Wire(place) => 2 + 2 * place,
+        };
+        self.change(queue, |queue| queue.push(frame));
+    }
+
+    /// The next frame, with its source: queues take turns.
+    pub fn pop(&mut self, now: Nanos) -> Option<(Source, InboundFrame)> {
+        while self.frames > 0 {
+            let queue = self.turn;
+            self.turn = if queue + 1 < self.queues.len() { queue + 1 } else { 0 };
+            if self.queues[queue].frames > 0 {
+                if let Some(frame) = self.change(queue, |queue| queue.pop(now)) {
+                    return Some((self.sources[queue], frame));
+                }
+            }
+        }
+        None
+    }
+
+    /// How many frames wait.
+    pub fn len(&self) -> usize {
+        self.frames
+    }
+
+    /// Whether nothing waits.
+    pub fn is_empty(&self) -> bool {
+        self.frames == 0
+    }
+
+    /// Whether a frame was dropped so far.
+    pub fn has_dropped(&self) -> bool {
+        self.has_dropped
+    }
+
+    /// How many frames of each source were dropped, and why.
+    pub fn dropped(&self) -> impl Iterator<Item = (Source, Dropped, u64)> + '_ {
+        let queues = self.sources.iter().zip(&self.queues);
+        queues.flat_map(|(source, queue)| queue.dropped.iter().map(move |(what, number)| (*source, *what, *number)))
+    }
+}
+
+#[cfg(test)]
+#[path = "queue_test.rs"]
+mod tests;

@@ -1,0 +1,31 @@
+//! A network, as the bridge is told of it.
+use crate::formats::frames::Address;
+
+const BASIC: u8 = 0x80;
+
+/// What the bridge knows of a network.
+#[derive(Debug, Clone, PartialEq, Eq)]
+pub struct Network {
+    /// Its address.
+    pub bssid: Address,
+    /// Its SSID.
+    pub ssid: Vec<u8>,
+    /// Its rates, as the octets of its elements: units of 500 kb/s, with the highest bit where a rate is basic.
+    pub rates: Vec<u8>,
+    /// How many stations are associated with it at most.
+    pub max_stations: u16,
+    /// How many stations it knows at most.
+    pub max_known: u16,
+    /// The interface of its wire, if it has one.
+    pub wire: Option<String>,
+    /// Its share of the air, as a part of all networks' shares: from 1 to `scheduler::MOST_WEIGHT`.
+    pub weight: u8,
+}
+
+impl Network {
+    /// Its lowest basic rate, or its lowest where none is basic, in units of 500 kb/s.
+    pub fn lowest_basic_rate(&self) -> u8 {
+        let basic = self.rates.iter().filter(|rate| **rate & BASIC != 0).map(|rate| rate & !BASIC).min();
+        basic.or_else(|| self.rates.iter().copied().min()).unwrap_or(2)
+    }
+}

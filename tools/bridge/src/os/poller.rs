@@ -1,0 +1,171 @@
+//! Waiting for what comes first: by `epoll`, with a clock of its own that is exact to less than a millisecond.
+use std::os::unix::io::RawFd;
+
+use crate::control::faults::Fault;
+use crate::os::clock::Nanos;
+use crate::os::epoll::Epoll;
+use crate::os::timer::Timer;
+
+/// What is waited for.
+#[derive(Debug, Clone, Copy, PartialEq, Eq)]
+pub enum Token {
+    /// Requests of `tools/live`.
+    Control,
+    /// The program's answers.
+    Output,
+    /// Room in the program's input.
+    Input,
+    /// The time that was set.
+    Clock,
+    /// The monitor interface.
+    Monitor,
+    /// The frames that it shows as acknowledged.
+    Acknowledged,
+    /// Somebody who connects to ask something.
+    Listener,
+    /// The client of this place.
+    Client(usize),
+    /// The wire of the network of this place.
+    Wire(usize),
+}
+
+/// How many clients there are at most.
+pub const MOST_CLIENTS: usize = 16;
+const FIRST_CLIENT: u64 = 7;
+const LAST_CLIENT: u64 = FIRST_CLIENT + MOST_CLIENTS as u64 - 1;
+const FIRST_WIRE: u64 = LAST_CLIENT + 1;
+
+impl Token {
+    fn number(self) -> u64 {
+        match self {
+            Token::Control => 0,
+            Token::Output => 1,
+            Token::Input => 2,
+            Token::Clock => 3,
+            Token::Monitor => 4,
+            Token::Listener => 5,
+            Token::Acknowledged => 6,
+            Token::Client(place) => FIRST_CLIENT + place as u64,
+            Token::Wire(place) => FIRST_WIRE + place as u64,
+        }
+    }
+
+    fn of(number: u64) -> Token {
+        match number {
+            0 => Token::Control,
+            1 => Token::Output,
+            2 => Token::Input,
+            3 => Token::Clock,
+            4 => Token::Monitor,
+            5 => Token::Listener,
+            6 => Token::Acknowledged,
+            FIRST_CLIENT..=LAST_CLIENT => Token::Client((number - FIRST_CLIENT) as usize),
+            _ => Token::Wire((number - FIRST_WIRE) as usize),
+        }
+    }
+}
+
+/// What came.
+#[derive(Debug, Clone, Copy, PartialEq, Eq)]
+pub struct Ready {
+    /// Of what.
+    pub token: Token,
+    /// Whether something can be read, or was closed, or has a fault.
+    pub can_read: bool,
+    /// Whether there is room to write.
+    pub can_write: bool,
+}
+
+/// What one waits for.
+pub struct Poller {
+    epoll: Epoll,
+    clock: Timer,
+    due: Nanos,
+}
+
+impl Poller {
+    /// For nothing yet but the time that `set_due` sets.
+    pub fn new() -> Result<Poller, Fault> {
+        let poller = Poller { epoll: Epoll::new()?, clock: Timer::new()?, due: Nanos::MAX };
+        poller.add(poller.clock.descriptor(), Token::Clock, true, false)?;
+        Ok(poller)
+    }
+
+    /// Waits for a descriptor too.
+    pub fn add(&self, descriptor: RawFd, token: Token, reads: bool, writes: bool) -> Result<(), Fault> {
+        Ok(self.epoll.add(descriptor, token.number(), reads, writes)?)
+    }
+
+    /// Waits for something else of a descriptor.
+    pub fn change(&self, descriptor: RawFd, token: Token, reads: bool, writes: bool) -> Result<(), Fault> {
+        Ok(self.epoll.change(descriptor, token.number(), reads, writes)?)
+    }
+
+    /// Waits for a descriptor no more.
+    pub fn remove(&self, descriptor: RawFd) -> Result<(), Fault> {
+        Ok(self.epoll.remove(descriptor)?)
+    }
+
+    /// Sets the time at which the wait ends, by the clock that nobody sets.
+    pub fn set_due(&mut self, due: Nanos) -> Result<(), Fault> {
+        if due != self.due {
+            self.due = due;
+            self.clock.set(due)?;
+        }
+        Ok(())
+    }
+
+    /// Waits until something comes, or for so many milliseconds at most.
+    pub fn wait(&mut self, most: Option<u16>, found: &mut Vec<Ready>) -> Result<(), Fault> {
+        found.clear();
+        self.epoll.wait(most)?;
+        for came in self.epoll.came() {
+            let token = Token::of(came.number);
+            found.push(Ready { token, can_read: came.can_read, can_write: came.can_write });
+            if token == Token::Clock {
+                self.due = Nanos::MAX;
+                self.clock.clear();
+            }
+        }
+        Ok(())
+    }
+}
+
+#[cfg(test)]
+mod tests {
+    use super::*;
+    use crate::os::clock::{now, MILLISECOND};
+    use std::io::Write;
+    use std::os::unix::io::AsRawFd;
+    use std::os::unix::net::UnixStream;
+
+    #[test]
+    fn each_token_has_a_number_of_its_own() {
+        let clients = (0..MOST_CLIENTS).map(Token::Client);
+        let all = [Token::Control, Token::Output, Token::Input, Token::Clock, Token::Monitor, Token::Acknowledged];
+        for token in all.into_iter().chain([Token::Listener]).chain(clients).chain((0..20).map(Token::Wire)) {
+            assert_eq!(Token::of(token.number()), token);
+        }
+    }
+
+    #[test]
+    fn what_comes_first_ends_the_wait() {
+        let (one, mut other) = UnixStream::pair().unwrap();
+        let mut poller = Poller::new().unwrap();
+        poller.add(one.as_raw_fd(), Token::Wire(7), true, false).unwrap();
+        let (mut found, begun) = (Vec::new(), now());
+        poller.set_due(begun + 20 * MILLISECOND).unwrap();
+        poller.wait(None, &mut found).unwrap();
+        assert_eq!(found, [Ready { token: Token::Clock, can_read: true, can_write: false }]);
+        assert!(now() - begun >= 20 * MILLISECOND);
+        other.write_all(b"x").unwrap();
+        poller.wait(None, &mut found).unwrap();
+        assert_eq!(found, [Ready { token: Token::Wire(7), can_read: true, can_write: false }]);
+        poller.change(one.as_raw_fd(), Token::Wire(7), false, true).unwrap();
+        poller.wait(None, &mut found).unwrap();
+        assert_eq!(found, [Ready { token: Token::Wire(7), can_read: false, can_write: true }]);
+        poller.change(one.as_raw_fd(), Token::Wire(7), false, false).unwrap();
+        poller.wait(Some(1), &mut found).unwrap();
+        assert_eq!(found, []);
+    }
+}

@@ -1,0 +1,108 @@
+//! What the bridge and the program may do: as little as they need. `tools/live` starts the bridge as a user of its own;
+//! here it gives up what is left, starts the program within bounds, and then keeps to a list of calls of the system.
+//!
+//! | | the bridge | the program |
+//! |---|---|---|
+//! | capabilities | none | none |
+//! | new privileges by a file | none | none |
+//! | files (landlock(7)) | | reads its configuration and what the kernel tells of it, and runs itself |
+//! | calls (seccomp(2)) | no file opened, no socket made, no program run | no socket made, no process begun, no file opened for writing |
+//! | address space | | bounded, so that want of memory is an answer of the program and no kill |
+//!
+//! A call that isn't listed ends the process by the signal SIGSYS. What a library may try, and does without, is
+//! refused. What is unsafe here are the calls of the system that no crate has.
+#![allow(unsafe_code)]
+use std::io;
+use std::os::unix::io::{AsRawFd, OwnedFd};
+use std::os::unix::process::CommandExt;
+use std::process::Command;
+
+use libc::{c_int, c_ulong};
+
+use crate::control::faults::Fault;
+use crate::os::landlock::{allow_name, domain, OF_ITSELF, READ_FILE};
+use crate::os::seccomp::{checked, Calls, ANY, OF_BRIDGE, OF_PROGRAM};
+
+/// The head of capset(2), and its two halves of three sets.
+#[repr(C)]
+struct CapabilityHeader {
+    version: u32,
+    process: c_int,
+}
+
+const CAPABILITY_VERSION: u32 = 0x2008_0522;
+const LAST_CAPABILITY: c_ulong = 63;
+
+/// This process has no capability from now on, and gets none by running a file.
+pub fn give_up_capabilities() -> Result<(), Fault> {
+    let none = [0u32; 6];
+    let header = CapabilityHeader { version: CAPABILITY_VERSION, process: 0 };
+    // SAFETY: no memory is handed over but the header and the sets, which are as long as this version has them.
+    let outcome = unsafe {
+        // Those that a file could bring: where this process may not take them away they can't be had all the same.
+        for capability in 0..=LAST_CAPABILITY {
+            libc::prctl(libc::PR_CAPBSET_DROP, capability, 0 as c_ulong, 0 as c_ulong, 0 as c_ulong);
+        }
+        checked(libc::syscall(libc::SYS_capset, &header, none.as_ptr())).and_then(|_| {
+            checked(
+                libc::prctl(libc::PR_SET_NO_NEW_PRIVS, 1 as c_ulong, 0 as c_ulong, 0 as c_ulong, 0 as c_ulong).into(),
+            )
+        })
+    };
+    outcome.map(drop).map_err(|fault| Fault::of("the bridge's rights can't be given up", &fault))
+}
+
+/// The bridge keeps to its list of calls from now on.
+pub fn keep_to_calls() -> Result<(), Fault> {
+    let calls = Calls::of(OF_BRIDGE.iter().chain(ANY));
+    calls.take_on().map_err(|fault| Fault::of("no list of calls can be kept to (seccomp)", &fault))
+}
+
+/// Within what the program runs.
+#[derive(Debug)]
+pub struct Bounds {
+    domain: Option<OwnedFd>,
+    calls: Calls,
+    memory: u64,
+}
+
+impl Bounds {
+    /// For this program and its configuration, with so many octets of address space.
+    pub fn of(program: &str, config: &str, memory: u64) -> Result<Bounds, Fault> {
+        let domain = domain(program.as_ref(), config.as_ref()).map_err(|fault| Fault::of(program, &fault))?;
+        Ok(Bounds { domain, calls: Calls::of(OF_PROGRAM.iter().chain(ANY)), memory })
+    }
+
+    /// What a command starts runs within them.
+    pub fn hold(self, command: &mut Command) {
+        // SAFETY: between fork and exec nothing is allocated, and nothing else is done than calls of the system.
+        unsafe { command.pre_exec(move || self.take_on()) };
+    }
+
+    /// This process is within them from now on. It allocates nothing.
+    fn take_on(&self) -> io::Result<()> {
+        limit(libc::RLIMIT_AS, self.memory)?;
+        // SAFETY: no memory is handed over.
+        unsafe {
+            let one: c_ulong = 1;
+            checked(libc::prctl(libc::PR_SET_NO_NEW_PRIVS, one, 0 as c_ulong, 0 as c_ulong, 0 as c_ulong).into())?;
+            if let Some(domain) = &self.domain {
+                // Its words, its variables and its own memory are files there.
+                allow_name(domain, OF_ITSELF, READ_FILE)?;
+                checked(libc::syscall(libc::SYS_landlock_restrict_self, domain.as_raw_fd(), 0 as c_ulong))?;
+            }
+        }
+        self.calls.take_on()
+    }
+}
+
+/// Bounds what this process may use of a resource.
+fn limit(resource: libc::__rlimit_resource_t, most: u64) -> io::Result<()> {
+    let bound = libc::rlimit { rlim_cur: most, rlim_max: most };
+    // SAFETY: the kernel reads the bound.
+    checked(unsafe { libc::setrlimit(resource, &bound) }.into()).map(drop)
+}
+
+#[cfg(test)]
+#[path = "sandbox_test.rs"]
+mod tests;

@@ -1,0 +1,248 @@
+//! Lists of calls of the system to which a process keeps (seccomp(2)): that of the bridge, and that of the program.
+//!
+//! A call that isn't listed ends the process by the signal SIGSYS. What a library may try, and does without, is
+//! refused.
+#![allow(unsafe_code)]
+use std::io;
+
+use libc::{c_int, c_long, c_ulong, sock_filter};
+
+/// What becomes of a call, by its number and perhaps one of its arguments, of which the low half is looked at.
+#[derive(Debug, Clone, Copy)]
+pub enum Rule {
+    /// It is made.
+    Allowed(c_long),
+    /// It is refused with this error.
+    Refused(c_long, c_int),
+    /// It is made where this argument is one of these, and else refused.
+    OneOf(c_long, u32, &'static [u32]),
+    /// It is made where this argument has none of these bits, and else refused.
+    Without(c_long, u32, u32),
+    /// It is made where this argument has one of these bits; else it ends the process.
+    With(c_long, u32, u32),
+}
+
+// Of <linux/seccomp.h> and <linux/audit.h>, as far as the crate libc hasn't them everywhere.
+const ALLOW: u32 = 0x7fff_0000;
+const ERRNO: u32 = 0x0005_0000;
+const KILL_PROCESS: u32 = 0x8000_0000;
+#[cfg(target_arch = "x86_64")]
+const ARCHITECTURE: u32 = 0xc000_003e;
+#[cfg(target_arch = "aarch64")]
+const ARCHITECTURE: u32 = 0xc000_00b7;
+/// From this number on calls are those of another interface of the same processor.
+const OTHER_INTERFACE: u32 = 0x4000_0000;
+const NUMBER_AT: u32 = 0;
+const ARCHITECTURE_AT: u32 = 4;
+const ARGUMENTS_AT: u32 = 16;
+/// By which files are opened for writing, or made.
+const WRITES: u32 = (libc::O_ACCMODE | libc::O_CREAT | libc::O_TRUNC | libc::O_APPEND | libc::O_TMPFILE) as u32
+    & !(libc::O_DIRECTORY as u32);
+const RUNS: u32 = libc::PROT_EXEC as u32;
+const IS_THREAD: u32 = libc::CLONE_THREAD as u32;
+/// What the bridge asks of its descriptors by ioctl(2): how much waits to be read or sent, to wait for nothing, and the
+/// name and the flags of an interface.
+const ASKED: &[u32] = &[
+    libc::FIONREAD as u32,
+    libc::TIOCOUTQ as u32,
+    libc::FIONBIO as u32,
+    libc::SIOCGIFNAME as u32,
+    libc::SIOCGIFFLAGS as u32,
+];
+
+/// What any program needs that has begun: its memory, its end, its signals and the time.
+pub const ANY: &[Rule] = &[
+    Rule::Allowed(libc::SYS_read),
+    Rule::Allowed(libc::SYS_write),
+    Rule::Allowed(libc::SYS_writev),
+    Rule::Allowed(libc::SYS_close),
+    Rule::Allowed(libc::SYS_munmap),
+    Rule::Allowed(libc::SYS_mremap),
+    Rule::Allowed(libc::SYS_brk),
+    Rule::Allowed(libc::SYS_madvise),
+    Rule::Allowed(libc::SYS_futex),
+    Rule::Allowed(libc::SYS_getrandom),
+    Rule::Allowed(libc::SYS_clock_gettime),
+    Rule::Allowed(libc::SYS_clock_nanosleep),
+    Rule::Allowed(libc::SYS_nanosleep),
+    Rule::Allowed(libc::SYS_gettimeofday),
+    Rule::Allowed(libc::SYS_sched_yield),
+    Rule::Allowed(libc::SYS_rt_sigaction),
+    Rule::Allowed(libc::SYS_rt_sigprocmask),
+    Rule::Allowed(libc::SYS_rt_sigreturn),
+    Rule::Allowed(libc::SYS_sigaltstack),
+    Rule::Allowed(libc::SYS_restart_syscall),
+    Rule::Allowed(libc::SYS_exit),
+    Rule::Allowed(libc::SYS_exit_group),
+    Rule::Allowed(libc::SYS_getpid),
+    Rule::Allowed(libc::SYS_gettid),
+    Rule::Allowed(libc::SYS_tgkill),
+    Rule::Allowed(libc::SYS_lseek),
+    Rule::Allowed(libc::SYS_fstat),
+    Rule::Allowed(libc::SYS_ppoll),
+    Rule::Refused(libc::SYS_faccessat, libc::EACCES),
+    #[cfg(target_arch = "x86_64")]
+    Rule::Allowed(libc::SYS_poll),
+    #[cfg(target_arch = "x86_64")]
+    Rule::Refused(libc::SYS_access, libc::EACCES),
+];
+
+/// What the bridge does once it serves: it waits, reads, sends, and ends the program.
+pub const OF_BRIDGE: &[Rule] = &[
+    #[cfg(target_arch = "x86_64")]
+    Rule::Allowed(libc::SYS_epoll_wait),
+    Rule::Allowed(libc::SYS_epoll_pwait),
+    Rule::Allowed(libc::SYS_recvmmsg),
+    Rule::Allowed(libc::SYS_sendmmsg),
+    Rule::Allowed(libc::SYS_sendto),
+    Rule::OneOf(libc::SYS_ioctl, 1, ASKED),
+    Rule::Allowed(libc::SYS_epoll_ctl),
+    Rule::Allowed(libc::SYS_timerfd_settime),
+    Rule::Allowed(libc::SYS_recvmsg),
+    Rule::Allowed(libc::SYS_recvfrom),
+    Rule::Allowed(libc::SYS_getsockopt),
+    Rule::Allowed(libc::SYS_getsockname),
+    // Filters of its own sockets.
+    Rule::OneOf(libc::SYS_setsockopt, 2, &[libc::SO_ATTACH_FILTER as u32]),
+    Rule::Allowed(libc::SYS_accept4),
+    Rule::Allowed(libc::SYS_fcntl),
+    Rule::Allowed(libc::SYS_ftruncate),
+    Rule::Allowed(libc::SYS_wait4),
+    Rule::Allowed(libc::SYS_waitid),
+    Rule::Allowed(libc::SYS_kill),
+    Rule::Without(libc::SYS_mmap, 2, RUNS),
+    Rule::Without(libc::SYS_mprotect, 2, RUNS),
+    Rule::Refused(libc::SYS_openat, libc::EACCES),
+    Rule::Refused(libc::SYS_statx, libc::EACCES),
+    Rule::Refused(libc::SYS_newfstatat, libc::EACCES),
+    Rule::Refused(libc::SYS_readlinkat, libc::EACCES),
+    #[cfg(target_arch = "x86_64")]
+    Rule::Refused(libc::SYS_readlink, libc::EACCES),
+    #[cfg(target_arch = "x86_64")]
+    Rule::Refused(libc::SYS_open, libc::EACCES),
+];
+
+/// What the program does: it is loaded, opens its configuration, and reads and writes. It may have threads.
+pub const OF_PROGRAM: &[Rule] = &[
+    Rule::Allowed(libc::SYS_readv),
+    Rule::Allowed(libc::SYS_pread64),
+    Rule::Allowed(libc::SYS_mmap),
+    Rule::Allowed(libc::SYS_mprotect),
+    Rule::Allowed(libc::SYS_statx),
+    Rule::Allowed(libc::SYS_newfstatat),
+    Rule::Allowed(libc::SYS_set_tid_address),
+    Rule::Allowed(libc::SYS_set_robust_list),
+    Rule::Allowed(libc::SYS_rseq),
+    Rule::Allowed(libc::SYS_prlimit64),
+    Rule::Allowed(libc::SYS_sched_getaffinity),
+    Rule::Allowed(libc::SYS_uname),
+    // Where its own file is.
+    Rule::Allowed(libc::SYS_readlinkat),
+    #[cfg(target_arch = "x86_64")]
+    Rule::Allowed(libc::SYS_readlink),
+    // Landlock says which files: itself and its configuration.
+    Rule::Allowed(libc::SYS_execve),
+    Rule::Without(libc::SYS_openat, 2, WRITES),
+    Rule::With(libc::SYS_clone, 0, IS_THREAD),
+    // The library begins threads by `clone` then, whose words can be looked at.
+    Rule::Refused(libc::SYS_clone3, libc::ENOSYS),
+    Rule::Refused(libc::SYS_ioctl, libc::ENOTTY),
+    Rule::Refused(libc::SYS_fcntl, libc::EPERM),
+    #[cfg(target_arch = "x86_64")]
+    Rule::Without(libc::SYS_open, 1, WRITES),
+    #[cfg(target_arch = "x86_64")]
+    Rule::Allowed(libc::SYS_arch_prctl),
+    #[cfg(target_arch = "x86_64")]
+    Rule::Allowed(libc::SYS_stat),
+];
+
+/// A list of calls, as the kernel takes it.
+#[derive(Debug)]
+pub struct Calls(Vec<sock_filter>);
+
+impl Calls {
+    /// Of these rules. What no rule names ends the process.
+    pub fn of<'a>(rules: impl Iterator<Item = &'a Rule>) -> Calls {
+        let mut calls = Calls(Vec::new());
+        calls.load(ARCHITECTURE_AT);
+        calls.unless(libc::BPF_JEQ, ARCHITECTURE, 0, 1);
+        calls.answer(KILL_PROCESS);
+        calls.load(NUMBER_AT);
+        calls.unless(libc::BPF_JGE, OTHER_INTERFACE, 1, 0);
+        calls.answer(KILL_PROCESS);
+        rules.for_each(|rule| calls.add(*rule));
+        calls.answer(KILL_PROCESS);
+        calls
+    }
+
+    fn load(&mut self, place: u32) {
+        self.0.push(sock_filter { code: (libc::BPF_LD | libc::BPF_W | libc::BPF_ABS) as u16, jt: 0, jf: 0, k: place });
+    }
+
+    /// Where the comparison holds, goes on behind `unless_not` steps, else behind `otherwise`.
+    fn unless(&mut self, comparison: u32, value: u32, otherwise: u8, then: u8) {
+        let code = (libc::BPF_JMP | comparison | libc::BPF_K) as u16;
+        self.0.push(sock_filter { code, jt: then, jf: otherwise, k: value });
+    }
+
+    fn answer(&mut self, verdict: u32) {
+        self.0.push(sock_filter { code: (libc::BPF_RET | libc::BPF_K) as u16, jt: 0, jf: 0, k: verdict });
+    }
+
+    /// The call of this number has so many steps; other calls pass them over.
+    fn of_call(&mut self, number: c_long, steps: usize) {
+        self.unless(libc::BPF_JEQ, number as u32, steps as u8, 0);
+    }
+
+    fn add(&mut self, rule: Rule) {
+        match rule {
+            Rule::Allowed(number) => {
+                self.of_call(number, 1);
+                self.answer(ALLOW);
+            }
+            Rule::Refused(number, error) => {
+                self.of_call(number, 1);
+                self.answer(ERRNO | error as u32);
+            }
+            Rule::OneOf(number, argument, values) => {
+                self.of_call(number, 2 + 2 * values.len());
+                self.load(ARGUMENTS_AT + 8 * argument);
+                for value in values {
+                    self.unless(libc::BPF_JEQ, *value, 1, 0);
+                    self.answer(ALLOW);
+                }
+                self.answer(ERRNO | libc::EPERM as u32);
+            }
+            Rule::Without(number, argument, bits) => {
+                self.looks_at_bits(number, argument, bits, ERRNO | libc::EACCES as u32, ALLOW);
+            }
+            Rule::With(number, argument, bits) => self.looks_at_bits(number, argument, bits, ALLOW, KILL_PROCESS),
+        }
+    }
+
+    /// The verdict where one of the bits is set, and where none is.
+    fn looks_at_bits(&mut self, number: c_long, argument: u32, bits: u32, with: u32, without: u32) {
+        self.of_call(number, 4);
+        self.load(ARGUMENTS_AT + 8 * argument);
+        self.unless(libc::BPF_JSET, bits, 1, 0);
+        self.answer(with);
+        self.answer(without);
+    }
+
+    /// This process, and what it starts, keeps to the list from now on. It allocates nothing.
+    pub fn take_on(&self) -> io::Result<()> {
+        let program = libc::sock_fprog { len: self.0.len() as u16, filter: self.0.as_ptr() as *mut sock_filter };
+        // SAFETY: the kernel reads as many steps as the list has.
+        checked(unsafe { libc::syscall(libc::SYS_seccomp, libc::SECCOMP_SET_MODE_FILTER, 0 as c_ulong, &program) })?;
+        Ok(())
+    }
+}
+
+/// What a call answered, or its fault.
+pub fn checked(answer: c_long) -> io::Result<c_long> {
+    if answer < 0 {
+        Err(io::Error::last_os_error())
+    } else {
+        Ok(answer)
+    }
+}

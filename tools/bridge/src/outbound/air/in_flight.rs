@@ -1,0 +1,270 @@
+//! What the radio was given and hasn't told of yet, and whether it is given more: as much as it sends in some
+//! milliseconds.
+//!
+//! A frame that the radio has can't be overtaken by another network's. So what it has at once is bounded by the clock:
+//! by the last outcomes one knows how long the radio takes for what is reckoned, others' turns on the air included. One
+//! frame it always has. A radio that lets newer frames go before one that it has had for long is given nothing more
+//! until that one went. Nothing is sent or timed here.
+use std::collections::VecDeque;
+
+use crate::formats::frames::Address;
+use crate::os::clock::{Nanos, MILLISECOND};
+use crate::outbound::air::scheduler::Place;
+
+/// How long the radio takes at most for what it has at once, unless that is one frame.
+const MOST_AT_ONCE: Nanos = 8 * MILLISECOND;
+/// A radio that takes longer for what it has is busy.
+const BUSY: Nanos = 2 * MILLISECOND;
+/// A frame of which nothing was told for so long is one of which nothing will be.
+pub const MOST_OUT: Nanos = 200 * MILLISECOND;
+/// The weight of the last outcome in what is known of the radio's pace, as a part.
+const PACE_PARTS: u64 = 8;
+const PACE_UNIT: u64 = 1024;
+/// The radio isn't taken for faster than this many times what is reckoned: short preambles and slots are half of it.
+const FASTEST: u64 = 4;
+/// Nor for slower than one that takes so long for a frame: it was away, or the bridge was.
+const MOST_STEP: Nanos = 100 * MILLISECOND;
+
+/// A frame by what the radio tells of it.
+#[derive(Debug, Clone, Copy, PartialEq, Eq)]
+pub struct FrameName {
+    /// The network that sends it.
+    pub place: Place,
+    /// Who it is for.
+    pub receiver: Address,
+    /// Its fragment and sequence number.
+    pub number: Option<u16>,
+}
+
+/// A frame that the radio was given, and of which it hasn't told yet.
+#[derive(Debug)]
+struct FrameInFlight<W> {
+    name: FrameName,
+    what: W,
+    /// What of the radio's time it is reckoned to take from now on.
+    reckoned: Nanos,
+    since: Nanos,
+    /// When it has been out for twice the time in which the radio was reckoned to be done with it, since the radio got
+    /// it or since one before it that took longer was told of.
+    overdue: Nanos,
+    /// The same, where what the radio got later for others and let go before it makes that time longer.
+    awaited: Nanos,
+    state: State,
+}
+
+/// Whether the radio still has a frame.
+#[derive(Debug, Clone, Copy, PartialEq, Eq)]
+enum State {
+    /// As far as one knows.
+    Out,
+    /// It doesn't, by what its socket says; what became of the frame wasn't looked at since.
+    Done,
+    /// It was looked at since, and the frame wasn't among those that the radio told of.
+    Missing,
+}
+
+impl<W> FrameInFlight<W> {
+    /// Whether the radio has it for so long that it must have let newer ones go before it.
+    fn was_overtaken(&self, now: Nanos) -> bool {
+        self.overdue.max(self.since + 2 * MOST_AT_ONCE) < now
+    }
+}
+
+/// How long a radio of this pace takes for what is reckoned to take so long.
+fn at_pace(pace: u64, reckoned: Nanos) -> Nanos {
+    (reckoned / PACE_UNIT).saturating_mul(pace)
+}
+
+/// The frames that the radio has, in the order in which it got them, and how fast it is.
+#[derive(Debug)]
+pub struct InFlight<W> {
+    frames: VecDeque<FrameInFlight<W>>,
+    reckoned: Nanos,
+    /// When the radio is reckoned to be done with all of them, though nobody has looked yet what became of some.
+    done: Nanos,
+    /// The clock's time and the reckoned time of the last outcomes, the latest counting most.
+    spent: Nanos,
+    took: Nanos,
+    /// How many nanoseconds of the clock go by in so many reckoned ones as `PACE_UNIT` has.
+    pace: u64,
+    last_told: Nanos,
+}
+
+impl<W> InFlight<W> {
+    /// The radio has nothing, and is taken to be as fast as is reckoned.
+    pub fn new() -> InFlight<W> {
+        let took = PACE_PARTS * MILLISECOND;
+        InFlight { frames: VecDeque::new(), reckoned: 0, done: 0, spent: took, took, pace: PACE_UNIT, last_told: 0 }
+    }
+
+    /// Whether a frame that is reckoned to take so long may be given to it now.
+    pub fn has_room(&self, reckoned: Nanos, now: Nanos) -> bool {
+        match self.oldest() {
+            None => true,
+            Some(oldest) if oldest.was_overtaken(now) => false,
+            Some(_) => self.by_clock(self.reckoned + reckoned) <= MOST_AT_ONCE,
+        }
+    }
+
+    /// Whether the radio takes for what it has longer than for some short frames.
+    pub fn is_busy(&self) -> bool {
+        self.by_clock(self.reckoned) > BUSY
+    }
+
+    /// The first frame that the radio may still have.
+    fn oldest(&self) -> Option<&FrameInFlight<W>> {
+        self.frames.iter().find(|given| given.state != State::Done)
+    }
+
+    /// How long the radio takes for what is reckoned to take so long, by its pace.
+    fn by_clock(&self, reckoned: Nanos) -> Nanos {
+        at_pace(self.pace, reckoned)
+    }
+
+    /// The same of a radio that isn't faster than is reckoned.
+    fn takes(&self, reckoned: Nanos) -> Nanos {
+        self.by_clock(reckoned).max(reckoned)
+    }
+
+    /// The radio is given a frame.
+    pub fn give(&mut self, name: FrameName, what: W, reckoned: Nanos, now: Nanos) {
+        self.reckoned += reckoned;
+        let behind_those_before = self.done.max(now) + self.takes(reckoned);
+        self.done = behind_those_before.min(now + self.takes(self.reckoned));
+        let overdue = now + 2 * (self.done - now);
+        self.frames.push_back(FrameInFlight {
+            name,
+            what,
+            reckoned,
+            since: now,
+            overdue,
+            awaited: overdue,
+            state: State::Out,
+        });
+    }
+
+    /// The radio told of a frame at this time, which has taken as long as `took` says of it; answers what was given.
+    /// `None` of a frame that it doesn't have.
+    pub fn reported(&mut self, name: FrameName, now: Nanos, took: impl FnOnce(&W) -> Nanos) -> Option<W> {
+        let found = self.frames.iter().position(|given| given.name == name)?;
+        let FrameInFlight { what, reckoned, since, overdue, .. } = self.frames.remove(found)?;
+        self.reckoned -= reckoned;
+        if overdue < now {
+            self.wait_anew(found, name, now);
+        }
+        let step = now.saturating_sub(since.max(self.last_told)).min(MOST_STEP);
+        self.last_told = self.last_told.max(now);
+        let took = took(&what);
+        self.overtake(found, name, took);
+        self.spent = self.spent - self.spent / PACE_PARTS + step;
+        self.took = self.took - self.took / PACE_PARTS + took;
+        self.pace = (self.spent * PACE_UNIT / self.took.max(1)).max(PACE_UNIT / FASTEST);
+        Some(what)
+    }
+
+    /// A frame took longer than was reckoned: those for others that the radio got after it have their time from now on.
+    fn wait_anew(&mut self, from: usize, late: FrameName, now: Nanos) {
+        let (pace, mut reckoned) = (self.pace, 0);
+        for given in self.frames.iter_mut().skip(from) {
+            reckoned += given.reckoned;
+            if (given.name.place, given.name.receiver) != (late.place, late.receiver) {
+                given.overdue = given.overdue.max(now + 2 * at_pace(pace, reckoned).max(reckoned));
+                given.awaited = given.awaited.max(given.overdue);
+            }
+        }
+        self.done = self.done.max(now + self.takes(reckoned));
+    }
+
+    /// The radio sent a frame before those up to here that it got earlier for others: these are awaited for longer.
+    fn overtake(&mut self, until: usize, sent: FrameName, took: Nanos) {
+        let longer = 2 * self.takes(took);
+        for given in self.frames.iter_mut().take(until) {
+            if (given.name.place, given.name.receiver) != (sent.place, sent.receiver) {
+                given.awaited += longer;
+            }
+        }
+    }
+
+    /// The radio was never given this frame.
+    pub fn forget(&mut self, name: FrameName) {
+        if let Some(place) = self.frames.iter().rposition(|given| given.name == name) {
+            self.reckoned -= self.frames.remove(place).map_or(0, |given| given.reckoned);
+        }
+    }
+
+    /// Whether the oldest frame that the radio has is for this receiver, and is out for more than twice its reckoned
+    /// time, what overtook it counted. The younger ones may wait for it alone.
+    pub fn is_overdue(&self, place: Place, receiver: Address, now: Nanos) -> bool {
+        self.oldest()
+            .map_or(false, |given| given.awaited < now && given.name.receiver == receiver && given.name.place == place)
+    }
+
+    /// Whether the radio has sent a frame for this receiver, and it isn't known what became of that.
+    pub fn is_unknown(&self, place: Place, receiver: Address) -> bool {
+        let mut done = self.frames.iter().take_while(|given| given.state == State::Done);
+        done.any(|given| given.name.receiver == receiver && given.name.place == place)
+    }
+
+    /// Whether the radio has a frame for this receiver, or it isn't known what became of one.
+    pub fn has(&self, place: Place, receiver: Address) -> bool {
+        self.frames.iter().any(|given| given.name.receiver == receiver && given.name.place == place)
+    }
+
+    /// Whether `settle` has something to do at this time.
+    pub fn is_doubtful(&self, now: Nanos) -> bool {
+        self.oldest().map_or(false, |given| given.state == State::Out && given.overdue < now)
+    }
+
+    /// The radio's socket says that the radio has sent all that it had: what became of that is still to be looked at.
+    pub fn settle(&mut self) {
+        (self.reckoned, self.done) = (0, 0);
+        for given in &mut self.frames {
+            given.reckoned = 0;
+            if given.state == State::Out {
+                given.state = State::Done;
+            }
+        }
+    }
+
+    /// What the radio told was looked at since `settle`: a frame that wasn't in it may be out after all.
+    pub fn reports_read(&mut self) {
+        let done = self.frames.iter_mut().filter(|given| given.state == State::Done);
+        done.for_each(|given| given.state = State::Missing);
+    }
+
+    /// Takes out the frames of which nothing will be told any more at this time.
+    pub fn expire(&mut self, now: Nanos) -> Vec<FrameName> {
+        let mut gone = Vec::new();
+        while let Some(given) = self.frames.front().filter(|given| given.since + MOST_OUT <= now) {
+            gone.push(given.name);
+            self.reckoned -= given.reckoned;
+            self.frames.pop_front();
+        }
+        gone
+    }
+
+    /// The radio has nothing any more: answers what it had.
+    pub fn clear(&mut self) -> Vec<FrameName> {
+        (self.reckoned, self.done) = (0, 0);
+        self.frames.drain(..).map(|given| given.name).collect()
+    }
+
+    /// When its first frame is out for more than twice its reckoned time.
+    pub fn overdue(&self) -> Option<Nanos> {
+        self.oldest().map(|given| given.overdue)
+    }
+
+    /// When `expire` has something to do.
+    pub fn due(&self) -> Option<Nanos> {
+        self.frames.front().map(|given| given.since + MOST_OUT)
+    }
+
+    /// How many frames it has.
+    pub fn len(&self) -> usize {
+        self.frames.len()
+    }
+}
+
+#[cfg(test)]
+#[path = "in_flight_test.rs"]
+mod tests;

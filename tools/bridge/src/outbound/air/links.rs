@@ -1,0 +1,464 @@
+//! What is known of each station: at which rate it is sent to, and what is done where it acknowledges nothing.
+//!
+//! The rates of a station are those of its association request that its network has too; units go at the rate that the
+//! rule of `rate_control` chooses, all else at the network's lowest basic rate. Whatever the radio is given it gives
+//! back, with how often it was sent and whether it was acknowledged. A unit that wasn't is sent once more, with Retry
+//! set, where nothing was sent to its station since; later it would come out of order. So what comes next for a station
+//! waits while a sample is on the air, and after a unit that was lost until one is acknowledged. Where tries are lost,
+//! `air` gives the radio one frame of a station at a time, unless many wait.
+//!
+//! Each network has tables of its own: what strangers do to one takes nothing from another. Nothing is sent or timed
+//! here. A radio that says nothing of what it sent is given all frames at the lowest basic rate.
+use std::collections::VecDeque;
+use std::rc::Rc;
+
+use crate::formats::frames::{Address, AddressMap, Frame, FrameType};
+use crate::formats::radiotap::{Outcome, MOST_RETRIES};
+use crate::network::Network;
+use crate::os::clock::Nanos;
+use crate::outbound::air::in_flight::MOST_OUT;
+use crate::outbound::air::rate_control::{Choice, RateControl};
+use crate::outbound::air::scheduler::Place;
+
+/// How long the frames for a station wait at most for what became of the one before.
+const MOST_WAIT: Nanos = MOST_OUT;
+/// The most stations of a network that rates are known of: more can't be associated (9.4.1.8).
+const MOST_STATIONS: usize = 2007;
+/// The most stations of a network of which the answer to an association request is awaited, and to a probe request.
+const MOST_JOINING: usize = 256;
+const MOST_ASKING: usize = 64;
+/// After so many waits in vain, before anything was told, the radio is one that tells nothing.
+const MOST_VAIN: u32 = 8;
+
+const SUPPORTED_RATES: u8 = 1;
+const EXTENDED_RATES: u8 = 50;
+const HEADER_LEN: usize = 24;
+const FLAGS_AT: usize = 1;
+const RETRY: u8 = 0x08;
+const PROBE_REQUEST: u8 = 0x40;
+
+/// What is done with units that nobody acknowledged.
+#[derive(Debug, Clone, Copy, Default, PartialEq, Eq)]
+pub struct Unacknowledged {
+    /// Units that were sent once more.
+    pub again: u64,
+    /// Units that nobody acknowledged, and that weren't sent once more.
+    pub lost: u64,
+}
+
+/// What is done once the radio has told of a frame.
+#[derive(Debug, Clone, PartialEq, Eq)]
+pub enum Next {
+    /// Nothing.
+    Nothing,
+    /// What comes next for the station waits no more.
+    Goes,
+    /// This frame is sent before all others for the station: the one that was lost, with Retry set.
+    Again(Rc<Vec<u8>>),
+}
+
+/// The frame that was sent to a station last.
+#[derive(Debug)]
+struct Last {
+    frame: Rc<Vec<u8>>,
+    /// Its fragment and sequence number.
+    number: Option<u16>,
+    choice: Choice,
+    was_again: bool,
+}
+
+/// What is known of a station.
+#[derive(Debug)]
+struct Link {
+    rates: RateControl,
+    last: Option<Last>,
+    /// Until when frames for it wait, where they do.
+    waits_until: Option<Nanos>,
+    /// Since when they don't.
+    goes_since: Nanos,
+    /// Its turn among all, by which the one is found that wasn't sent to for longest.
+    used: u64,
+}
+
+/// The stations of one network.
+#[derive(Debug)]
+struct NetworkLinks {
+    network: Network,
+    /// Its lowest basic rate.
+    lowest: u8,
+    links: AddressMap<Link>,
+    joining: VecDeque<(Address, RateControl)>,
+    /// Who asked for this network alone, by a probe request that isn't answered yet.
+    asking: VecDeque<Address>,
+}
+
+/// The stations of all networks.
+#[derive(Debug)]
+pub struct Links {
+    networks: Vec<NetworkLinks>,
+    waits: VecDeque<(Nanos, Place, Address)>,
+    turns: u64,
+    vain: u32,
+    was_told: bool,
+    unacknowledged: Unacknowledged,
+}
+
+impl Links {
+    /// No station of these networks yet.
+    pub fn new(networks: &[Network]) -> Links {
+        let members = |network: &Network| NetworkLinks {
+            network: network.clone(),
+            lowest: network.lowest_basic_rate(),
+            links: AddressMap::default(),
+            joining: VecDeque::new(),
+            asking: VecDeque::new(),
+        };
+        Links {
+            networks: networks.iter().map(members).collect(),
+            waits: VecDeque::new(),
+            turns: 0,
+            vain: 0,
+            was_told: false,
+            unacknowledged: Unacknowledged::default(),
+        }
+    }
+
+    /// A frame was heard that is for this network alone: of an association or reassociation request the rates are kept
+    /// until it is answered, and of a probe request who sent it.
+    pub fn hear(&mut self, place: Place, frame: Frame<'_>) {
+        let members = &mut self.networks[place];
+        let sender = match frame.transmitter() {
+            Some(sender) => sender,
+            None => return,
+        };
+        if frame.octets()[0] == PROBE_REQUEST {
+            members.asking.retain(|asking| *asking != sender);
+            members.asking.truncate(MOST_ASKING - 1);
+            members.asking.push_front(sender);
+        }
+        let found = requested_rates(frame).and_then(|rates| RateControl::common(&rates, &members.network.rates));
+        if let Some(rates) = found {
+            members.joining.retain(|(joining, _)| *joining != sender);
+            members.joining.truncate(MOST_JOINING - 1);
+            members.joining.push_front((sender, rates));
+        }
+    }
+
+    /// Whether a station had asked for this network alone; then it is answered.
+    pub fn answers(&mut self, place: Place, address: Address) -> bool {
+        let asking = &mut self.networks[place].asking;
+        let found = asking.iter().position(|asking| *asking == address);
+        found.and_then(|found| asking.remove(found)).is_some()
+    }
+
+    /// A network tells a station that it is associated: the rates of its request are its rates.
+    pub fn join(&mut self, place: Place, address: Address) {
+        let NetworkLinks { links, joining, .. } = &mut self.networks[place];
+        let found = joining.iter().position(|(joining, _)| *joining == address);
+        if let Some((_, rates)) = found.and_then(|found| joining.remove(found)) {
+            if links.len() >= MOST_STATIONS && !links.contains_key(&address) {
+                let oldest = links.iter().min_by_key(|(_, station)| station.used).map(|(address, _)| *address);
+                oldest.map(|address| links.remove(&address));
+            }
+            let station = Link { rates, last: None, waits_until: None, goes_since: 0, used: self.turns };
+            links.insert(address, station);
+        }
+    }
+
+    /// Whether the rates of a station are known, and used.
+    pub fn knows(&self, place: Place, address: Address) -> bool {
+        self.networks[place].links.contains_key(&address)
+    }
+
+    /// A network's lowest basic rate.
+    pub fn lowest(&self, place: Place) -> u8 {
+        self.networks[place].lowest
+    }
+
+    /// Since when frames for a station don't wait for what became of one before.
+    pub fn goes_since(&self, place: Place, address: Address) -> Nanos {
+        self.networks[place].links.get(&address).map_or(0, |station| station.goes_since)
+    }
+
+    /// Whether what is sent to a station comes through as good as surely, as far as one knows.
+    pub fn is_sure(&self, place: Place, address: Address) -> bool {
+        self.networks[place].links.get(&address).map_or(true, |station| station.rates.are_sure())
+    }
+
+    /// Whether the last unit to a station was lost.
+    pub fn is_in_doubt(&self, place: Place, address: Address) -> bool {
+        self.networks[place].links.get(&address).map_or(false, |station| station.rates.is_in_doubt())
+    }
+
+    /// At which rate the next frame goes to a station, unless it is a sample.
+    pub fn expected_rate(&self, place: Place, address: Address, is_unit: bool) -> u8 {
+        let station = self.networks[place].links.get(&address).filter(|_| is_unit && self.is_told());
+        station.map_or_else(|| self.lowest(place), |station| station.rates.plainly().rate)
+    }
+
+    /// How a frame is sent to a station now, where the radio is busy or isn't, and whether what comes next for it waits
+    /// for what becomes of it.
+    pub fn choose(
+        &mut self,
+        place: Place,
+        address: Address,
+        frame: &Rc<Vec<u8>>,
+        is_busy: bool,
+        now: Nanos,
+    ) -> (Choice, bool) {
+        let is_told = self.is_told();
+        let NetworkLinks { lowest, links, .. } = &mut self.networks[place];
+        let plainly = Choice { rate: *lowest, retries: MOST_RETRIES, is_sample: false };
+        self.turns += 1;
+        let station = match links.get_mut(&address).filter(|_| is_told) {
+            Some(station) => station,
+            None => return (plainly, false),
+        };
+        station.used = self.turns;
+        let lost = station.last.as_ref().filter(|last| last.was_again && Rc::ptr_eq(&last.frame, frame));
+        let was_again = lost.is_some();
+        let choice = match (lost, is_unit(frame)) {
+            (Some(lost), _) => station.rates.once_more(lost.choice.rate),
+            (None, true) => station.rates.next(now, is_busy),
+            (None, false) => plainly,
+        };
+        let waits = was_again || choice.is_sample || station.rates.is_in_doubt();
+        station.last = Some(Last { frame: Rc::clone(frame), number: number(frame), choice, was_again });
+        if waits {
+            let until = now + MOST_WAIT;
+            station.waits_until = Some(until);
+            self.waits.push_back((until, place, address));
+        }
+        (choice, waits)
+    }
+
+    /// The radio tells what became of a frame that it was given for a station.
+    pub fn reported(&mut self, place: Place, address: Address, frame: &[u8], outcome: Outcome, now: Nanos) -> Next {
+        let station = match self.networks[place].links.get_mut(&address) {
+            Some(station) => station,
+            None => return Next::Nothing,
+        };
+        self.was_told = true;
+        let number = number(frame);
+        let last = station.last.as_mut().filter(|last| last.number == number);
+        let is_sample = last.as_ref().map_or(false, |last| last.choice.is_sample);
+        let is_unit = is_unit(frame);
+        if is_unit {
+            let rate = outcome.rate.or_else(|| last.as_ref().map(|last| last.choice.rate));
+            let tries = outcome.retries.saturating_add(1);
+            let rates = &mut station.rates;
+            rate.into_iter().for_each(|rate| rates.reported(rate, tries, outcome.is_acknowledged, is_sample));
+        }
+        let is_lost = is_unit && !outcome.is_acknowledged;
+        let next = match last {
+            Some(last) if is_lost && !last.was_again => {
+                last.was_again = true;
+                last.frame = Rc::new(again(&last.frame));
+                self.unacknowledged.again += 1;
+                Next::Again(Rc::clone(&last.frame))
+            }
+            last => {
+                self.unacknowledged.lost += u64::from(is_lost);
+                last.map_or(Next::Nothing, |_| Next::Goes)
+            }
+        };
+        if next != Next::Nothing && station.go(now) {
+            self.forget_ended_waits();
+        }
+        next
+    }
+
+    /// The first of the waits is one that hasn't ended, or there is none: nobody is woken for one that has.
+    fn forget_ended_waits(&mut self) {
+        while let Some((until, place, address)) = self.waits.front() {
+            let station = self.networks[*place].links.get(address);
+            if station.map_or(false, |station| station.waits_until == Some(*until)) {
+                break;
+            }
+            self.waits.pop_front();
+        }
+    }
+
+    /// Whether what comes next for a station waits for what becomes of the frame before.
+    pub fn waits(&self, place: Place, address: Address) -> bool {
+        self.networks[place].links.get(&address).map_or(false, |station| station.waits_until.is_some())
+    }
+
+    /// When `expire` has something to do.
+    pub fn due(&self) -> Option<Nanos> {
+        self.waits.front().map(|(until, ..)| *until)
+    }
+
+    /// The time is this: a station for which frames have waited long enough, if there is one. They wait no more.
+    pub fn expire(&mut self, now: Nanos) -> Option<(Place, Address)> {
+        while let Some((until, place, address)) = self.waits.front().copied().filter(|(until, ..)| *until <= now) {
+            self.waits.pop_front();
+            let station = self.networks[place].links.get_mut(&address);
+            if let Some(station) = station.filter(|station| station.waits_until == Some(until)) {
+                station.go(now);
+                self.vain += u32::from(!self.was_told);
+                return Some((place, address));
+            }
+        }
+        None
+    }
+
+    /// Whether the radio tells what becomes of frames, as far as one knows.
+    pub fn is_told(&self) -> bool {
+        self.vain < MOST_VAIN
+    }
+
+    /// What became so far of units that nobody acknowledged.
+    pub fn unacknowledged(&self) -> Unacknowledged {
+        self.unacknowledged
+    }
+}
+
+impl Link {
+    /// What comes next for it waits no more; answers whether it did.
+    fn go(&mut self, now: Nanos) -> bool {
+        let waited = self.waits_until.take().is_some();
+        if waited {
+            self.goes_since = now;
+        }
+        waited
+    }
+}
+
+/// The fragment and sequence number.
+fn number(frame: &[u8]) -> Option<u16> {
+    Frame::of(frame)?.sequence_control()
+}
+
+/// Whether it is a frame of data.
+fn is_unit(frame: &[u8]) -> bool {
+    Frame::of(frame).map_or(false, |frame| frame.frame_type() == FrameType::Data)
+}
+
+/// The frame as it is sent again.
+fn again(frame: &[u8]) -> Vec<u8> {
+    let mut octets = frame.to_vec();
+    octets[FLAGS_AT] |= RETRY;
+    octets
+}
+
+/// Whether a network accepts an association or reassociation by this frame (9.3.3.7, 9.3.3.9): its status is 0.
+pub fn accepts(frame: &[u8]) -> bool {
+    const STATUS_AT: usize = HEADER_LEN + 2;
+    matches!(frame.first(), Some(0x10 | 0x30)) && frame.get(STATUS_AT..STATUS_AT + 2) == Some(&[0, 0])
+}
+
+/// The rates that an association or reassociation request names (9.3.3.6, 9.3.3.8), or `None` of another frame.
+fn requested_rates(frame: Frame<'_>) -> Option<Vec<u8>> {
+    let octets = frame.octets();
+    let fixed = match octets[0] {
+        0x00 => 4,
+        0x20 => 10,
+        _ => return None,
+    };
+    let mut rest = octets.get(HEADER_LEN + fixed..)?;
+    let mut rates = Vec::new();
+    while let [kind, length, tail @ ..] = rest {
+        let body = tail.get(..usize::from(*length))?;
+        if matches!(*kind, SUPPORTED_RATES | EXTENDED_RATES) {
+            rates.extend_from_slice(body);
+        }
+        rest = &tail[body.len()..];
+    }
+    Some(rates)
+}
+
+#[cfg(test)]
+mod tests {
+    use super::*;
+    use crate::testing::samples::network;
+
+    const BSSID: [u8; 6] = [2, 0, 0, 0, 1, 1];
+    const STATION: [u8; 6] = [2, 0, 0, 0, 2, 0];
+    const RATES: [u8; 12] = [0x82, 0x84, 0x8b, 0x96, 12, 18, 24, 36, 48, 72, 96, 108];
+
+    fn frame(control: u8, to: [u8; 6], from: [u8; 6], body: &[u8]) -> Vec<u8> {
+        [&[control, 0, 0, 0][..], &to, &from, &BSSID, &[0, 0], body].concat()
+    }
+
+    fn request(control: u8, from: [u8; 6]) -> Vec<u8> {
+        let fixed = if control == 0 { 4 } else { 10 };
+        let elements = [&[0, 1, b'a', 1, 8][..], &RATES[..8], &[50, 4], &RATES[8..]].concat();
+        frame(control, BSSID, from, &[vec![0; fixed], elements].concat())
+    }
+
+    fn links() -> Links {
+        let network = Network { rates: RATES.to_vec(), ..network(Address::of(BSSID)) };
+        Links::new(&[network.clone(), Network { bssid: Address::of([2, 0, 0, 0, 1, 2]), ..network }])
+    }
+
+    fn made_up(number: usize) -> [u8; 6] {
+        let [.., high, low] = number.to_be_bytes();
+        [2, 0, 0, 9, high, low]
+    }
+
+    fn join(links: &mut Links, place: Place, from: [u8; 6]) {
+        links.hear(place, Frame::of(&request(0, from)).unwrap());
+        links.join(place, Address::of(from));
+    }
+
+    #[test]
+    fn a_request_is_read_at_each_length_without_harm() {
+        let whole = request(0x20, STATION);
+        for cut in 10..=whole.len() {
+            let found = requested_rates(Frame::of(&whole[..cut]).unwrap());
+            assert_eq!(found == Some(RATES.to_vec()), cut == whole.len(), "{cut}");
+        }
+    }
+
+    /// A flood in one network pushes out that network's own.
+    #[test]
+    fn no_more_stations_of_a_network_are_known_than_there_is_room_for() {
+        let mut links = links();
+        join(&mut links, 1, STATION);
+        (0..=MOST_STATIONS).for_each(|number| {
+            join(&mut links, 0, made_up(number));
+            let unit = Rc::new(frame(0x08, made_up(number), BSSID, &[]));
+            links.choose(0, Address::of(made_up(number)), &unit, false, 0);
+        });
+        assert_eq!(links.networks[0].links.len(), MOST_STATIONS);
+        assert!(!links.knows(0, Address::of(made_up(0))) && links.knows(0, Address::of(made_up(1))));
+        assert!(links.knows(1, Address::of(STATION)) && !links.knows(0, Address::of(STATION)));
+    }
+
+    #[test]
+    fn requests_that_await_an_answer_are_bounded_by_network() {
+        let mut links = links();
+        links.hear(1, Frame::of(&request(0, STATION)).unwrap());
+        (0..=MOST_JOINING).for_each(|number| links.hear(0, Frame::of(&request(0, made_up(number))).unwrap()));
+        for (place, from, is_known) in [(0, made_up(0), false), (0, made_up(1), true), (1, STATION, true)] {
+            links.join(place, Address::of(from));
+            assert_eq!(links.knows(place, Address::of(from)), is_known);
+        }
+    }
+
+    #[test]
+    fn who_asked_for_a_network_alone_is_answered_once() {
+        let mut links = links();
+        let probe = frame(PROBE_REQUEST, BSSID, STATION, &[0, 0]);
+        (0..2).for_each(|_| links.hear(0, Frame::of(&probe).unwrap()));
+        assert!(!links.answers(1, Address::of(STATION)));
+        assert!(links.answers(0, Address::of(STATION)) && !links.answers(0, Address::of(STATION)));
+        (0..=MOST_ASKING).for_each(|number| {
+            links.hear(0, Frame::of(&frame(PROBE_REQUEST, BSSID, made_up(number), &[])).unwrap());
+        });
+        assert!(!links.answers(0, Address::of(made_up(0))) && links.answers(0, Address::of(made_up(1))));
+    }
+
+    #[test]
+    fn what_is_told_of_strangers_changes_nothing() {
+        let mut links = links();
+        join(&mut links, 0, STATION);
+        let outcome = Outcome { is_acknowledged: false, retries: 7, rate: Some(2) };
+        let stranger = frame(0x08, [2, 0, 0, 0, 9, 9], BSSID, &[]);
+        for cut in 0..=stranger.len() {
+            assert_eq!(links.reported(0, Address::of([2, 0, 0, 0, 9, 9]), &stranger[..cut], outcome, 1), Next::Nothing);
+        }
+        assert_eq!((links.unacknowledged(), links.due()), (Unacknowledged::default(), None));
+    }
+}

@@ -1,0 +1,320 @@
+use super::*;
+use crate::testing::samples::Seeded;
+
+/// The rule as its sentences say it: debts that are lowered one by one, lists that are searched.
+struct Model {
+    networks: Vec<ModelNetwork>,
+}
+
+struct ModelNetwork {
+    scale: u128,
+    debt: u128,
+    receivers: Vec<ModelReceiver>,
+}
+
+struct ModelReceiver {
+    name: u8,
+    debt: u128,
+    is_held: bool,
+    waiting: Vec<u32>,
+}
+
+impl Model {
+    fn new(weights: &[u8]) -> Model {
+        let networks = weights.iter().map(|weight| {
+            let receivers = 0..RECEIVERS as u8;
+            let receivers = receivers.map(|name| ModelReceiver { name, debt: 0, is_held: false, waiting: Vec::new() });
+            let scale = 720_720 / u128::from(*weight);
+            ModelNetwork { scale, debt: 0, receivers: receivers.collect() }
+        });
+        Model { networks: networks.collect() }
+    }
+
+    fn of(&mut self, place: Place, receiver: u8) -> &mut ModelReceiver {
+        &mut self.networks[place].receivers[usize::from(receiver)]
+    }
+
+    fn waits(&self, place: Place) -> bool {
+        self.networks[place].receivers.iter().any(ModelReceiver::is_ready)
+    }
+
+    fn first(&self) -> Option<(Place, u8, u32)> {
+        let places = (0..self.networks.len()).filter(|place| self.waits(*place));
+        let place = places.min_by_key(|place| (self.networks[*place].debt, *place))?;
+        let ready = self.networks[place].receivers.iter().filter(|receiver| receiver.is_ready());
+        let receiver = ready.min_by_key(|receiver| (receiver.debt, receiver.name))?;
+        Some((place, receiver.name, receiver.waiting[0]))
+    }
+
+    fn serve(&mut self, cost: u32) -> Option<u32> {
+        let (place, receiver, frame) = self.first()?;
+        let least = self.networks[place].debt;
+        self.networks.iter_mut().for_each(|network| network.debt = network.debt.saturating_sub(least));
+        self.networks[place].debt = self.networks[place].scale * u128::from(cost);
+        let least = self.of(place, receiver).debt;
+        self.networks[place].receivers.iter_mut().for_each(|one| one.debt = one.debt.saturating_sub(least));
+        self.of(place, receiver).debt = u128::from(cost);
+        self.of(place, receiver).waiting.remove(0);
+        Some(frame)
+    }
+
+    fn correct(&mut self, place: Place, receiver: u8, more: u32) {
+        self.networks[place].debt += self.networks[place].scale * u128::from(more);
+        self.of(place, receiver).debt += u128::from(more);
+    }
+}
+
+impl ModelReceiver {
+    fn is_ready(&self) -> bool {
+        !self.is_held && !self.waiting.is_empty()
+    }
+}
+
+/// What each network got of the air since another one waits without a break, and since a frame came to one that had
+/// nothing waiting and owed nothing.
+struct Watch {
+    weights: Vec<u64>,
+    waits: Vec<bool>,
+    got: Vec<Vec<u64>>,
+    /// The most that a turn of each took, what was told before its next turn included.
+    most: Vec<u64>,
+    turn: Vec<u64>,
+    newcomer: Vec<Option<Vec<u32>>>,
+}
+
+impl Watch {
+    fn new(weights: &[u8]) -> Watch {
+        let number = weights.len();
+        Watch {
+            weights: weights.iter().copied().map(u64::from).collect(),
+            waits: vec![false; number],
+            got: vec![vec![0; number]; number],
+            most: vec![0; number],
+            turn: vec![0; number],
+            newcomer: vec![None; number],
+        }
+    }
+
+    fn gets(&mut self, place: Place, time: u64, is_turn: bool) {
+        self.turn[place] = if is_turn { time } else { self.turn[place] + time };
+        self.most[place] = self.most[place].max(self.turn[place]);
+        self.got.iter_mut().for_each(|of_one| of_one[place] += time);
+        if is_turn {
+            self.newcomer[place] = None;
+            for turns in self.newcomer.iter_mut().flatten() {
+                turns[place] += 1;
+                assert!(turns[place] <= 1, "a newcomer waits for one frame of each other network");
+            }
+        } else {
+            self.newcomer[place] = None;
+        }
+    }
+
+    fn look(&mut self, model: &Model) {
+        for one in 0..self.waits.len() {
+            let waited = std::mem::replace(&mut self.waits[one], model.waits(one));
+            if !self.waits[one] || !waited {
+                self.got[one].fill(0);
+                self.newcomer[one] = None;
+            }
+            if self.waits[one] && !waited && model.networks[one].debt == 0 {
+                self.newcomer[one] = Some(vec![0; self.waits.len()]);
+            }
+            for other in (0..self.waits.len()).filter(|other| *other != one) {
+                let own = (self.got[one][one] + self.most[one]) * self.weights[other];
+                let others = self.got[one][other].saturating_sub(self.most[other]) * self.weights[one];
+                assert!(others <= own, "{other} gets more than its share and a frame while {one} waits");
+            }
+        }
+    }
+}
+
+const RECEIVERS: usize = 5;
+
+/// The frame that goes next, which costs so much.
+fn next<R: Copy + Ord + Hash, T>(scheduler: &mut Scheduler<R, T>, cost: u32) -> Option<T> {
+    let place = scheduler.first()?.0;
+    scheduler.serve(place, cost)
+}
+
+/// A million calls in any order: the same frames in the same order as by the slow model, and what the sentences
+/// promise of shares and of newcomers.
+#[test]
+fn any_calls_go_by_the_rule() {
+    let mut seeded = Seeded(11);
+    let mut served = 0u64;
+    for run in 0..500 {
+        let number = 1 + seeded.below(4);
+        let weights: Vec<u8> = (0..number).map(|_| 1 + seeded.below(16) as u8).collect();
+        let (mut scheduler, mut model, mut watch) =
+            (Scheduler::new(weights.clone()), Model::new(&weights), Watch::new(&weights));
+        let (mut pushed, mut gone, pushes) = (0u32, 0u32, 1 + seeded.below(6));
+        for _ in 0..2000 {
+            let (place, receiver) = (seeded.below(number), seeded.below(RECEIVERS) as u8);
+            match seeded.below(8 + pushes) {
+                0..=3 => {
+                    let cost = 1 + seeded.below(1000) as u32;
+                    let first = model.first();
+                    assert_eq!(scheduler.first().map(|(place, receiver, frame)| (place, receiver, *frame)), first);
+                    let not_next = (0..number).filter(|other| first.map_or(true, |(place, ..)| place != *other));
+                    not_next.for_each(|other| assert_eq!(scheduler.serve(other, cost), None));
+                    let next = first.map_or(0, |(place, ..)| place);
+                    assert_eq!(scheduler.serve(next, cost), model.serve(cost));
+                    if let Some((place, _, _)) = first {
+                        watch.gets(place, u64::from(cost), true);
+                        (served, gone) = (served + 1, gone + 1);
+                    }
+                }
+                4 => {
+                    let more = seeded.below(300) as u32;
+                    scheduler.correct(place, receiver, more);
+                    model.correct(place, receiver, more);
+                    watch.gets(place, u64::from(more), false);
+                }
+                5 => {
+                    scheduler.hold(place, receiver);
+                    model.of(place, receiver).is_held = true;
+                }
+                6 => {
+                    scheduler.release(place, receiver);
+                    model.of(place, receiver).is_held = false;
+                }
+                7 => {
+                    let waiting = &mut model.of(place, receiver).waiting;
+                    let dropped = if waiting.is_empty() { None } else { Some(waiting.remove(0)) };
+                    assert_eq!(scheduler.drop_first(place, receiver), dropped);
+                    gone += u32::from(dropped.is_some());
+                }
+                8 => {
+                    scheduler.push_first(place, receiver, pushed);
+                    model.of(place, receiver).waiting.insert(0, pushed);
+                    pushed += 1;
+                }
+                _ => {
+                    scheduler.push(place, receiver, pushed);
+                    model.of(place, receiver).waiting.push(pushed);
+                    pushed += 1;
+                }
+            }
+            watch.look(&model);
+            assert_eq!(scheduler.waiting(place, receiver), model.of(place, receiver).waiting.len());
+            assert_eq!(scheduler.is_held(place, receiver), model.of(place, receiver).is_held);
+        }
+        let waiting: usize =
+            model.networks.iter().flat_map(|network| &network.receivers).map(|one| one.waiting.len()).sum();
+        assert_eq!((pushed, scheduler.is_empty()), (gone + waiting as u32, waiting == 0), "{run}");
+    }
+    assert!(served > 100_000, "{served}");
+}
+
+/// Networks that all want all get what their weights say, whatever their frames cost.
+#[test]
+fn who_wants_all_gets_its_share() {
+    let mut scheduler = Scheduler::new([1, 2, 3]);
+    let (costs, mut got) = ([12_000, 500, 1700], [0u64; 3]);
+    for _ in 0..30_000 {
+        for place in 0..3 {
+            scheduler.push(place, 0u8, place);
+        }
+        let place = scheduler.first().unwrap().0;
+        got[place] += u64::from(costs[place]);
+        assert_eq!(scheduler.serve(place, costs[place]), Some(place));
+    }
+    let all: u64 = got.iter().sum();
+    for (place, weight) in [1, 2, 3].into_iter().enumerate() {
+        let wanted = all * weight / 6;
+        assert!(got[place].abs_diff(wanted) < wanted / 100, "{got:?}");
+    }
+}
+
+#[test]
+fn what_was_told_later_counts_too() {
+    let mut scheduler = Scheduler::new([1, 1]);
+    let mut turns = [0u64; 2];
+    for _ in 0..10_000 {
+        for place in 0..2 {
+            scheduler.push(place, 0u8, place);
+        }
+        let place = next(&mut scheduler, 100).unwrap();
+        turns[place] += 1;
+        if place == 0 {
+            scheduler.correct(0, 0, 300);
+        }
+    }
+    assert!(turns[1].abs_diff(4 * turns[0]) < turns[1] / 100, "{turns:?}");
+}
+
+#[test]
+fn receivers_of_a_network_take_turns_by_time() {
+    let mut scheduler = Scheduler::new([1]);
+    for _ in 0..9 {
+        scheduler.push(0, 'a', 3);
+    }
+    for _ in 0..9 {
+        scheduler.push(0, 'b', 1);
+    }
+    let order: Vec<u32> = std::iter::from_fn(|| {
+        let cost = *scheduler.first()?.2;
+        next(&mut scheduler, cost)
+    })
+    .collect();
+    assert_eq!(order[..9], [3, 1, 1, 1, 3, 1, 1, 1, 3]);
+}
+
+#[test]
+fn idle_time_earns_nothing() {
+    let mut scheduler = Scheduler::new([1, 1]);
+    for _ in 0..50 {
+        scheduler.push(0, 'a', 'a');
+    }
+    (0..40).for_each(|_| assert_eq!(next(&mut scheduler, 10), Some('a')));
+    for _ in 0..50 {
+        scheduler.push(1, 'b', 'b');
+    }
+    let order: String = std::iter::from_fn(|| next(&mut scheduler, 10)).take(8).collect();
+    assert_eq!(order, "babababa");
+}
+
+#[test]
+fn a_held_receiver_waits_and_keeps_its_order() {
+    let mut scheduler = Scheduler::new([1]);
+    for frame in [1, 2] {
+        scheduler.push(0, 'a', frame);
+    }
+    scheduler.hold(0, 'a');
+    assert_eq!((scheduler.first(), scheduler.has_ready(), scheduler.is_empty()), (None, false, false));
+    scheduler.push_first(0, 'a', 0);
+    scheduler.release(0, 'a');
+    assert_eq!([(); 4].map(|_| next(&mut scheduler, 1)), [Some(0), Some(1), Some(2), None]);
+    assert!(scheduler.is_empty());
+}
+
+#[test]
+fn frames_are_taken_out_by_what_they_are() {
+    let mut scheduler = Scheduler::new([1]);
+    for frame in 0..6 {
+        scheduler.push(0, 'a', frame);
+    }
+    assert_eq!(scheduler.longest(0), Some('a'));
+    assert_eq!(scheduler.take_all(0, 'a', |frame| frame % 2 == 0), [0, 2, 4]);
+    assert_eq!([(); 4].map(|_| next(&mut scheduler, 1)), [Some(1), Some(3), Some(5), None]);
+    assert_eq!((scheduler.take_all(0, 'b', |_| true), scheduler.longest(0)), (vec![], None));
+}
+
+/// What is kept of receivers doesn't grow with those that were.
+#[test]
+fn receivers_that_owe_nothing_are_forgotten() {
+    let mut scheduler = Scheduler::new([1]);
+    for receiver in 0..30_000u32 {
+        scheduler.push(0, receiver, ());
+        next(&mut scheduler, 5);
+    }
+    let most = 2 * MOST_RESTING + FEW + 1;
+    assert!((FEW..=most).contains(&scheduler.networks[0].receivers.len()), "{}", scheduler.networks[0].receivers.len());
+    for _ in 0..2 {
+        scheduler.push(0, 7, ());
+    }
+    (0..2).for_each(|_| assert_eq!(next(&mut scheduler, 5), Some(())));
+    scheduler.networks[0].forget_rested();
+    assert_eq!(scheduler.networks[0].receivers.len(), 1);
+}

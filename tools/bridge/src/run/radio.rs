@@ -1,0 +1,203 @@
+//! The radio while frames go: whether its interface is up, whether it goes on sending, and on which channel it hears.
+use std::{fmt, io};
+
+use super::running::Running;
+use super::{Bridge, Phase};
+use crate::control::faults::{reason, Fault};
+use crate::control::log::{self, Level};
+use crate::control::parent::{say, Notice};
+use crate::control::status::OfRadio;
+use crate::inbound::filter::{acknowledged_filter, Drawn};
+use crate::os::clock::{Nanos, MILLISECOND, SECOND};
+use crate::os::link::Link;
+use crate::os::sockets::{OfSocket, Port};
+use crate::run::beacon_watch::{BeaconWatch, Told};
+use crate::run::intervals::Ticks;
+use crate::run::tuning::{Found, Tuning};
+
+/// How often an interface that is down is looked at.
+const LOOK_EVERY: Nanos = 20 * MILLISECOND;
+
+/// An interface that is down.
+#[derive(Debug)]
+struct Down {
+    since: Nanos,
+    look_due: Nanos,
+    is_told: bool,
+}
+
+/// What is known of the radio.
+#[derive(Debug)]
+pub(super) struct Radio {
+    pub(super) beacons: BeaconWatch,
+    pub(super) tuning: Tuning,
+    down: Option<Down>,
+    /// Of which beacons the outcomes are looked at, as long as there is no doubt, and at the moment.
+    mostly: Drawn,
+    drawn: Drawn,
+}
+
+impl Radio {
+    /// It was set to this channel, for so many networks with such intervals.
+    pub(super) fn new(channel: u8, networks: usize, ticks: &Ticks) -> Radio {
+        let mostly = Drawn::one_a_second(networks, ticks.length());
+        let beacons = BeaconWatch::new(ticks.length(), networks, mostly == Drawn::Each);
+        let tuning = Tuning::new(channel);
+        Radio { beacons, tuning, down: None, mostly, drawn: mostly }
+    }
+
+    /// When something is to be looked at.
+    pub(super) fn due(&self, time: Nanos) -> Option<Nanos> {
+        let down = self.down.as_ref().map(|down| down.look_due);
+        [down, self.beacons.due(time), self.tuning.due()].into_iter().flatten().min()
+    }
+
+    /// What people are told of it.
+    pub(super) fn status(&self) -> OfRadio {
+        OfRadio {
+            down_since: self.down.as_ref().map(|down| down.since),
+            unsent_since: self.beacons.unsent_since(),
+            elsewhere: self.tuning.elsewhere(),
+            heard_elsewhere: self.tuning.heard_elsewhere(),
+        }
+    }
+}
+
+impl<P: OfSocket> Bridge<P> {
+    /// Looks at the radio, where it is time, and tells what is new.
+    pub(super) fn watch_radio(&mut self) -> Result<(), Fault> {
+        let time = self.time;
+        let running = match &mut self.running {
+            Some(running) if self.phase == Phase::Running => running,
+            _ => return Ok(()),
+        };
+        running.look_at_link(time)?;
+        if let Some(found) = running.radio.tuning.look(time) {
+            tell_tuning(found, &running.radio.tuning);
+        }
+        if running.has_told_sending {
+            running.radio.beacons.look(time).into_iter().for_each(tell_beacons);
+            let wants_each = running.radio.beacons.wants_each(time);
+            running.look_at_beacons(if wants_each { Drawn::Each } else { running.radio.mostly })?;
+        }
+        Ok(())
+    }
+}
+
+impl<P: Port> Running<P> {
+    /// A socket of the radio says that its interface is down. A fault where the interface is gone; else what is to be
+    /// sent waits until it is up again, and what waits too long is dropped.
+    pub(super) fn went_down(&mut self, time: Nanos) -> Result<(), Fault> {
+        self.outbound.air.went_down();
+        self.look_at_link(time)
+    }
+
+    /// Looks whether an interface that is down is up again, where it is time.
+    fn look_at_link(&mut self, time: Nanos) -> Result<(), Fault> {
+        if !self.outbound.air.is_down() {
+            return Ok(());
+        }
+        let down = self.radio.down.get_or_insert(Down { since: time, look_due: time, is_told: false });
+        if time < down.look_due {
+            return Ok(());
+        }
+        down.look_due = time + LOOK_EVERY;
+        let port = &self.outbound.air.gate().port;
+        match port.link() {
+            Ok(Link::Up) => {
+                let after = time.saturating_sub(down.since);
+                log::write_event(
+                    Level::Notice,
+                    format_args!("{} went down, and is up again after {}", port.interface(), Seconds(after)),
+                );
+                self.radio.down = None;
+                self.outbound.radio_came_up(after);
+            }
+            Ok(Link::Gone) => {
+                let fault = io::Error::from_raw_os_error(libc::ENETDOWN);
+                return Err(Fault::new(format!("{}: {}: was it taken down?", port.interface(), reason(&fault))));
+            }
+            Ok(Link::Down) | Err(_) => {
+                if !std::mem::replace(&mut down.is_told, true) {
+                    let name = port.interface();
+                    log::write_event(
+                        Level::Warning,
+                        format_args!("{name} is down: what is to be sent waits, or is dropped once it is too late"),
+                    );
+                }
+            }
+        }
+        Ok(())
+    }
+
+    /// From now on the outcomes of these beacons are looked at.
+    fn look_at_beacons(&mut self, drawn: Drawn) -> Result<(), Fault> {
+        if drawn == self.radio.drawn {
+            return Ok(());
+        }
+        self.radio.drawn = drawn;
+        self.filter_acknowledged()
+    }
+
+    /// By the port for what was acknowledged come those frames, and the beacons that are looked at.
+    pub(super) fn filter_acknowledged(&mut self) -> Result<(), Fault> {
+        let filter = acknowledged_filter(self.radio.drawn);
+        match self.outbound.acknowledged() {
+            Some(port) => {
+                port.set_filter(&filter).map_err(|fault| Fault::of(format!("{}: no filter", port.interface()), &fault))
+            }
+            None => Ok(()),
+        }
+    }
+}
+
+fn tell_tuning(found: Found, tuning: &Tuning) {
+    let wanted = tuning.wanted();
+    match found {
+        Found::Here => {
+            log::write_event(
+                Level::Notice,
+                format_args!("the radio hears on {wanted} MHz again, which is its channel"),
+            );
+            say(&Notice::Here);
+        }
+        Found::Elsewhere(frequency) => {
+            log::write_event(
+                Level::Warning,
+                format_args!(
+                    "the radio hears on {frequency} MHz, and not on {wanted} MHz, which is its channel: something took it \
+                     elsewhere (docs/OPERATING.md, 'The radio')"
+                ),
+            );
+            say(&Notice::Elsewhere(frequency));
+        }
+    }
+}
+
+fn tell_beacons(told: Told) {
+    match told {
+        Told::Sending(after) => {
+            log::write_event(
+                Level::Notice,
+                format_args!("the radio shows beacons as sent again, after {}", Seconds(after)),
+            );
+            say(&Notice::Sending);
+        }
+        Told::Unsent => {
+            log::write_event(
+                Level::Warning,
+                "the radio shows no beacon as sent any more (docs/OPERATING.md, 'The radio')",
+            );
+            say(&Notice::Unsent);
+        }
+    }
+}
+
+/// A time for people.
+struct Seconds(Nanos);
+
+impl fmt::Display for Seconds {
+    fn fmt(&self, to: &mut fmt::Formatter<'_>) -> fmt::Result {
+        write!(to, "{}.{:03} s", self.0 / SECOND, self.0 % SECOND / MILLISECOND)
+    }
+}

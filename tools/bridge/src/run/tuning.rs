@@ -1,0 +1,160 @@
+//! On which frequency the radio hears: it names one of each frame (the field Channel of radiotap), which is that of its
+//! own channel, also where a frame of a neighbouring channel was heard. Something else on the machine may have taken it
+//! elsewhere.
+//!
+//! One odd frame proves nothing: a driver may name the frequency on which it looked for networks a moment ago. So the
+//! radio is believed to be on another frequency once frames named that one for a second, or one did, and none named the
+//! frequency believed before.
+use crate::os::clock::{Nanos, SECOND};
+
+/// For how long frames have to name another frequency, and none the one that is believed.
+const TO_BELIEVE: Nanos = SECOND;
+const FIRST: u16 = 2407;
+const APART: u16 = 5;
+const LAST_CHANNEL: u8 = 14;
+const LAST: u16 = 2484;
+
+/// The centre frequency of a channel, in MHz (IEEE Std 802.11-2016, 15.4.4.3).
+pub fn frequency_of(channel: u8) -> u16 {
+    match channel {
+        LAST_CHANNEL => LAST,
+        _ => FIRST + APART * u16::from(channel),
+    }
+}
+
+/// What is believed from now on.
+#[derive(Debug, Clone, Copy, PartialEq, Eq)]
+pub enum Found {
+    /// The radio is on its channel again.
+    Here,
+    /// It is on this frequency, in MHz.
+    Elsewhere(u16),
+}
+
+/// The frequency that frames named last where it isn't the one that is believed.
+#[derive(Debug, Clone, Copy)]
+struct Doubt {
+    frequency: u16,
+    since: Nanos,
+}
+
+/// Where the radio is, by the frames that are heard.
+#[derive(Debug)]
+pub struct Tuning {
+    wanted: u16,
+    believed: u16,
+    doubt: Option<Doubt>,
+    heard_elsewhere: u64,
+}
+
+impl Tuning {
+    /// The radio was set to this channel.
+    pub fn new(channel: u8) -> Tuning {
+        let wanted = frequency_of(channel);
+        Tuning { wanted, believed: wanted, doubt: None, heard_elsewhere: 0 }
+    }
+
+    /// A frame was heard on this frequency.
+    pub fn heard(&mut self, frequency: u16, now: Nanos) {
+        if frequency != self.wanted {
+            self.heard_elsewhere += 1;
+        }
+        if frequency == self.believed {
+            self.doubt = None;
+        } else {
+            let since = self.doubt.map_or(now, |doubt| doubt.since);
+            self.doubt = Some(Doubt { frequency, since });
+        }
+    }
+
+    /// When `look` finds something, unless a frame is heard before that.
+    pub fn due(&self) -> Option<Nanos> {
+        self.doubt.map(|doubt| doubt.since + TO_BELIEVE)
+    }
+
+    /// What is believed from now on, where that is something else.
+    pub fn look(&mut self, now: Nanos) -> Option<Found> {
+        let doubt = self.doubt.filter(|doubt| now >= doubt.since + TO_BELIEVE)?;
+        self.doubt = None;
+        self.believed = doubt.frequency;
+        Some(self.elsewhere().map_or(Found::Here, Found::Elsewhere))
+    }
+
+    /// The frequency that the channel has.
+    pub fn wanted(&self) -> u16 {
+        self.wanted
+    }
+
+    /// The frequency on which the radio is believed to be, where that isn't its channel's.
+    pub fn elsewhere(&self) -> Option<u16> {
+        Some(self.believed).filter(|believed| *believed != self.wanted)
+    }
+
+    /// How many frames were heard on other frequencies.
+    pub fn heard_elsewhere(&self) -> u64 {
+        self.heard_elsewhere
+    }
+}
+
+#[cfg(test)]
+mod tests {
+    use super::*;
+
+    const TENTH: Nanos = SECOND / 10;
+
+    #[test]
+    fn channels_have_the_frequencies_of_the_standard() {
+        assert_eq!([1, 6, 13, 14].map(frequency_of), [2412, 2437, 2472, 2484]);
+    }
+
+    #[test]
+    fn one_odd_frame_among_right_ones_is_counted_and_nothing_more() {
+        let mut tuning = Tuning::new(6);
+        for (frequency, time) in [(2437, 0), (2412, 1), (2437, TENTH), (2412, 2 * SECOND), (2437, 2 * SECOND + TENTH)] {
+            tuning.heard(frequency, time);
+            assert_eq!(tuning.look(time), None);
+        }
+        assert_eq!((tuning.look(9 * SECOND), tuning.due()), (None, None));
+        assert_eq!((tuning.elsewhere(), tuning.heard_elsewhere()), (None, 2));
+    }
+
+    /// Also where one frame alone is heard there.
+    #[test]
+    fn a_radio_that_hears_elsewhere_is_told_within_a_second() {
+        for frames in [1, 5] {
+            let mut tuning = Tuning::new(6);
+            tuning.heard(2437, 0);
+            (0..frames).for_each(|number| tuning.heard(2412, SECOND + number * TENTH));
+            assert_eq!(tuning.due(), Some(2 * SECOND));
+            assert_eq!(tuning.look(2 * SECOND - 1), None);
+            assert_eq!(tuning.look(2 * SECOND), Some(Found::Elsewhere(2412)));
+            assert_eq!((tuning.elsewhere(), tuning.heard_elsewhere()), (Some(2412), frames));
+            assert_eq!((tuning.look(9 * SECOND), tuning.due()), (None, None));
+        }
+    }
+
+    #[test]
+    fn a_radio_that_is_back_or_goes_on_is_told_too() {
+        let mut tuning = Tuning::new(1);
+        tuning.heard(2437, 0);
+        assert_eq!(tuning.look(SECOND), Some(Found::Elsewhere(2437)));
+        tuning.heard(2462, 2 * SECOND);
+        assert_eq!(tuning.look(3 * SECOND), Some(Found::Elsewhere(2462)));
+        tuning.heard(2412, 4 * SECOND);
+        tuning.heard(2462, 4 * SECOND + TENTH);
+        assert_eq!(tuning.look(6 * SECOND), None);
+        tuning.heard(2412, 7 * SECOND);
+        assert_eq!(tuning.look(8 * SECOND), Some(Found::Here));
+        assert_eq!((tuning.elsewhere(), tuning.heard_elsewhere(), tuning.wanted()), (None, 3, 2412));
+    }
+
+    /// It looks for networks: each frequency is named for a moment.
+    #[test]
+    fn a_radio_that_goes_from_channel_to_channel_is_elsewhere_after_a_second() {
+        let mut tuning = Tuning::new(6);
+        for channel in 7..=13 {
+            tuning.heard(frequency_of(channel), Nanos::from(channel) * 2 * TENTH);
+        }
+        assert_eq!(tuning.look(26 * TENTH), Some(Found::Elsewhere(2472)));
+    }
+}

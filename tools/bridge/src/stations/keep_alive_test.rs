@@ -1,0 +1,260 @@
+use super::*;
+use crate::formats::radiotap::Outcome;
+use crate::stations::own_frames::departure;
+use crate::testing::samples::{OTHER, OURS, STATION, STRANGER};
+
+const MOST: Nanos = 300 * SECOND;
+
+/// A frame of a network to a station.
+fn of(bssid: Address, station: Address, control: u8, body: &[u8]) -> Vec<u8> {
+    let head = [&[control, 0, 0, 0][..], station.octets(), bssid.octets(), bssid.octets(), &[0, 0]].concat();
+    [&head[..], body].concat()
+}
+
+/// A frame of our network to a station.
+fn to(station: Address, control: u8, body: &[u8]) -> Vec<u8> {
+    of(OURS, station, control, body)
+}
+
+fn enter(table: &mut StationTable, station: Address, now: Nanos) {
+    table.answered(0, &to(station, 0xb0, &[0, 0, 2, 0, 0, 0]), now);
+}
+
+fn join(table: &mut StationTable, station: Address, now: Nanos) {
+    enter(table, station, now);
+    table.answered(0, &to(station, 0x10, &[1, 0, 0, 0, 1, 0xc0]), now);
+}
+
+fn doze(table: &mut StationTable) {
+    let null = [&[0x48, 0x11, 0, 0][..], OURS.octets(), STATION.octets(), OURS.octets(), &[0, 0]].concat();
+    table.fed(&null, 0);
+}
+
+/// What is done each tenth of a second, each third time behind a beacon after which who dozes listens, with the
+/// tenth in which it is.
+fn steps(table: &mut StationTable, keep_alive: &mut KeepAlive, tenths: std::ops::Range<u64>) -> Vec<(u64, Step)> {
+    let mut found = Vec::new();
+    for tenth in tenths {
+        let steps = keep_alive.look(table, &[tenth % 3 == 0], tenth * SECOND / 10);
+        found.extend(steps.into_iter().map(|(_, step)| (tenth, step)));
+    }
+    found
+}
+
+fn gone(seconds: u64) -> Step {
+    Step::Forget { station: STATION, why: Forgotten::Silent(seconds * SECOND), tells: true }
+}
+
+fn keep_alive() -> (StationTable, KeepAlive) {
+    (StationTable::new(vec![OURS]), KeepAlive::new(Some(MOST), [100]))
+}
+
+fn made_up(number: u16) -> Address {
+    let [high, low] = number.to_be_bytes();
+    Address::of([2, 9, 0, 0, high, low])
+}
+
+/// The stations that are given up, with the tenth of a second, and how many are told so; each leaves at once.
+fn given_up(
+    table: &mut StationTable,
+    keep_alive: &mut KeepAlive,
+    tenths: std::ops::Range<u64>,
+) -> (Vec<(u64, Address)>, u32) {
+    let (mut found, mut told) = (Vec::new(), 0);
+    for tenth in tenths {
+        for (tenth, step) in steps(table, keep_alive, tenth..tenth + 1) {
+            match step {
+                Step::Forget { station, why: Forgotten::Unassociated(_), tells } => {
+                    found.push((tenth, station));
+                    told += u32::from(tells);
+                    table.fed(&departure(OURS, station), tenth * SECOND / 10);
+                }
+                other => panic!("{other:?}"),
+            }
+        }
+    }
+    (found, told)
+}
+
+#[test]
+fn who_does_not_answer_is_forgotten_after_three_questions() {
+    let (mut table, mut keep_alive) = keep_alive();
+    join(&mut table, STATION, 0);
+    let found = steps(&mut table, &mut keep_alive, 0..3050);
+    let ask = Step::Ask(STATION);
+    assert_eq!(found, [(3000, ask), (3010, ask), (3020, ask), (3030, gone(303))]);
+    table.forget((0, STATION), Forgotten::Silent(0), 303 * SECOND);
+    assert_eq!(steps(&mut table, &mut keep_alive, 3050..3100), [(3080, gone(308))]);
+    table.fed(&departure(OURS, STATION), 0);
+    assert_eq!(steps(&mut table, &mut keep_alive, 3100..3300), []);
+}
+
+#[test]
+fn who_answers_stays() {
+    let (mut table, mut keep_alive) = keep_alive();
+    join(&mut table, STATION, 0);
+    assert_eq!(steps(&mut table, &mut keep_alive, 0..3001), [(3000, Step::Ask(STATION))]);
+    let outcome = Outcome { is_acknowledged: true, retries: 0, rate: None };
+    table.reported(&to(STATION, 0x48, &[]), outcome, false, 300 * SECOND);
+    let found = steps(&mut table, &mut keep_alive, 3001..6011);
+    assert_eq!(found, [(6000, Step::Ask(STATION)), (6010, Step::Ask(STATION))]);
+}
+
+#[test]
+fn who_is_authenticated_only_is_asked_once_and_sooner() {
+    let (mut table, mut keep_alive) = keep_alive();
+    enter(&mut table, STATION, 0);
+    let found = steps(&mut table, &mut keep_alive, 0..620);
+    assert_eq!(found, [(600, Step::Ask(STATION)), (610, gone(61))]);
+    let mut short = KeepAlive::new(Some(5 * SECOND), [100]);
+    let mut table = StationTable::new(vec![OURS]);
+    enter(&mut table, STATION, 0);
+    assert_eq!(steps(&mut table, &mut short, 0..55), [(50, Step::Ask(STATION))]);
+}
+
+#[test]
+fn who_dozes_is_asked_when_it_listens() {
+    let (mut table, mut keep_alive) = keep_alive();
+    join(&mut table, STATION, SECOND / 10);
+    doze(&mut table);
+    assert_eq!(steps(&mut table, &mut keep_alive, 0..3010), [(3003, Step::Ask(STATION))]);
+}
+
+#[test]
+fn nobody_is_asked_where_that_is_not_wanted() {
+    let (mut table, mut keep_alive) = (StationTable::new(vec![OURS]), KeepAlive::new(None, [100]));
+    join(&mut table, STATION, 0);
+    enter(&mut table, made_up(0), 0);
+    assert_eq!(steps(&mut table, &mut keep_alive, 0..9000), []);
+}
+
+/// A flood of addresses is forgotten at a rate that leaves the air to others.
+#[test]
+fn what_is_asked_in_a_second_is_bounded() {
+    let (mut table, mut keep_alive) = (StationTable::new(vec![OURS]), KeepAlive::new(Some(MOST), [2000]));
+    (0..1000).for_each(|number| enter(&mut table, made_up(number), 0));
+    let (mut asked, mut forgotten) = (0, 0);
+    for tenth in 0..1200 {
+        let before = asked;
+        for (_, step) in keep_alive.look(&mut table, &[true], tenth * SECOND / 10) {
+            match step {
+                Step::Ask(_) => asked += 1,
+                Step::Forget { station, .. } => {
+                    forgotten += 1;
+                    table.fed(&departure(OURS, station), tenth);
+                }
+            }
+        }
+        assert!(asked <= before + MOST_AT_A_TIME, "{tenth}");
+    }
+    assert!(asked > 990 && forgotten > 960, "{asked} {forgotten}");
+}
+
+/// Of a second network a station is awake and one dozes, and both fell silent. They are asked in time where
+/// thousands are silent in the first, or are given up since it is full.
+#[test]
+fn silent_stations_of_one_network_keep_those_of_another_from_no_question() {
+    for max_known in [5000, 2000] {
+        let mut table = StationTable::new(vec![OURS, OTHER]);
+        let mut keep_alive = KeepAlive::new(Some(MOST), [max_known, 100]);
+        for station in [STATION, STRANGER] {
+            table.answered(1, &of(OTHER, station, 0xb0, &[0, 0, 2, 0, 0, 0]), 0);
+            table.answered(1, &of(OTHER, station, 0x10, &[1, 0, 0, 0, 1, 0xc0]), 0);
+        }
+        let null = [&[0x48, 0x11, 0, 0][..], OTHER.octets(), STATION.octets(), OTHER.octets(), &[0, 0]].concat();
+        table.fed(&null, 0);
+        (0..1900).for_each(|number| enter(&mut table, made_up(number), MOST - AUTHENTICATED - SECOND));
+        let (mut asked, mut others) = (Vec::new(), 0);
+        for tenth in 0..3100 {
+            let now = tenth * SECOND / 10;
+            if tenth > 2900 && max_known == 2000 {
+                (0..1900).for_each(|number| enter(&mut table, made_up(number), now - 4 * SECOND));
+            }
+            for (place, step) in keep_alive.look(&mut table, &[true, tenth % 4 == 1], now) {
+                match (place, step) {
+                    (1, Step::Ask(station)) if tenth < 3010 => asked.push((tenth, station)),
+                    (0, Step::Forget { station, tells, .. }) => {
+                        others += u32::from(tells);
+                        table.fed(&departure(OURS, station), now);
+                    }
+                    _ => others += 1,
+                }
+            }
+        }
+        assert_eq!(asked, [(3000, STRANGER), (3001, STATION)], "{max_known}");
+        assert!(others > 20, "{max_known}: {others}");
+    }
+}
+
+/// Where those that are authenticated only and those that are associated fell silent at once, the first are asked
+/// first.
+#[test]
+fn who_is_authenticated_only_is_asked_before_who_is_associated() {
+    let (mut table, mut keep_alive) = (StationTable::new(vec![OURS]), KeepAlive::new(Some(AUTHENTICATED), [100]));
+    (0..4).for_each(|number| join(&mut table, made_up(number), 0));
+    (4..8).for_each(|number| enter(&mut table, made_up(number), 0));
+    let found = steps(&mut table, &mut keep_alive, 0..604);
+    let wanted = [(600, 4), (600, 5), (601, 6), (601, 7), (602, 0), (602, 1), (603, 2), (603, 3)];
+    assert_eq!(found, wanted.map(|(tenth, number)| (tenth, Step::Ask(made_up(number)))));
+}
+
+#[test]
+fn who_does_not_associate_is_given_up_within_five_seconds_where_the_network_is_nearly_full() {
+    for most in [Some(MOST), None] {
+        let (mut table, mut keep_alive) = (StationTable::new(vec![OURS]), KeepAlive::new(most, [100]));
+        (0..30).for_each(|number| join(&mut table, made_up(number), 0));
+        (30..89).for_each(|number| enter(&mut table, made_up(number), SECOND));
+        assert_eq!(steps(&mut table, &mut keep_alive, 0..500), []);
+        enter(&mut table, made_up(89), 50 * SECOND);
+        let (found, told) = given_up(&mut table, &mut keep_alive, 500..550);
+        let stations: Vec<Address> = found.iter().map(|(_, station)| *station).collect();
+        assert_eq!(stations, (30..90).map(made_up).collect::<Vec<_>>());
+        assert!(found[..59].iter().all(|(tenth, _)| *tenth < 505), "{found:?}");
+        assert_eq!((found[59].0, told), (530, 5 * MOST_AT_A_TIME + 1));
+        assert_eq!(table.known(0), 30);
+    }
+}
+
+/// A flood that goes on keeps newcomers out for no more than a moment.
+#[test]
+fn who_authenticates_again_and_again_is_given_up_too() {
+    let (mut table, mut keep_alive) = (StationTable::new(vec![OURS]), KeepAlive::new(Some(MOST), [10]));
+    let mut left = 0;
+    for tenth in 0..35 {
+        (0..9).for_each(|number| enter(&mut table, made_up(number), tenth * SECOND / 10));
+        let (found, _) = given_up(&mut table, &mut keep_alive, tenth..tenth + 1);
+        assert!(found.is_empty() || tenth >= 30, "{tenth}");
+        left += found.len();
+    }
+    assert!(left >= 9, "{left}");
+}
+
+#[test]
+fn who_associates_in_time_or_comes_later_stays() {
+    let (mut table, mut keep_alive) = (StationTable::new(vec![OURS]), KeepAlive::new(Some(MOST), [10]));
+    (0..9).for_each(|number| enter(&mut table, made_up(number), 0));
+    assert_eq!(steps(&mut table, &mut keep_alive, 0..29), []);
+    join(&mut table, made_up(3), 29 * SECOND / 10);
+    let (found, _) = given_up(&mut table, &mut keep_alive, 29..40);
+    assert_eq!(found.len(), 8);
+    enter(&mut table, made_up(20), 4 * SECOND);
+    assert_eq!(steps(&mut table, &mut keep_alive, 41..600), []);
+    assert_eq!(table.known(0), 2);
+}
+
+/// What is said to the program may be dropped, where too much comes.
+#[test]
+fn who_stays_all_the_same_is_given_up_again() {
+    let (mut table, mut keep_alive) = (StationTable::new(vec![OURS]), KeepAlive::new(None, [1]));
+    enter(&mut table, STATION, 0);
+    let mut tenths = Vec::new();
+    for tenth in 0..70 {
+        for (tenth, step) in steps(&mut table, &mut keep_alive, tenth..tenth + 1) {
+            let is_told = matches!(step, Step::Forget { station, tells: true, .. } if station == STATION);
+            assert!(is_told, "{step:?}");
+            table.forget((0, STATION), Forgotten::Unassociated(0), tenth * SECOND / 10);
+            tenths.push(tenth);
+        }
+    }
+    assert_eq!(tenths, [30, 60]);
+}

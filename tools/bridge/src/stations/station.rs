@@ -1,0 +1,93 @@
+//! A station of a network: how far it has joined, and what is known of it.
+use crate::formats::frames::Address;
+use crate::os::clock::Nanos;
+
+/// A network's place, and the address of a station of it.
+pub type Member = (usize, Address);
+
+/// How far a station has joined its network.
+#[derive(Debug, Clone, Copy, PartialEq, Eq)]
+pub enum State {
+    /// It is authenticated, and not associated.
+    Authenticated,
+    /// It is associated, with this identifier.
+    Associated(u16),
+}
+
+/// What was sent to a station or heard of it: data with a unit, in whole frames.
+#[derive(Debug, Clone, Copy, Default, PartialEq, Eq)]
+pub struct Traffic {
+    /// Their octets.
+    pub octets: u64,
+    /// Their number.
+    pub frames: u64,
+    /// The rate of the last one, in units of 500 kb/s, where the radio says it.
+    pub rate: Option<u8>,
+}
+
+impl Traffic {
+    pub fn count(&mut self, octets: usize) {
+        self.octets += octets as u64;
+        self.frames += 1;
+    }
+}
+
+/// Whether a station was asked if it is there.
+#[derive(Debug, Clone, Copy, Default, PartialEq, Eq)]
+pub struct Asked {
+    /// When it is to be looked at again.
+    pub due: Nanos,
+    /// How often it was asked since it was heard.
+    pub times: u32,
+}
+
+/// What is known of a station.
+#[derive(Debug, Clone, PartialEq, Eq)]
+pub struct Station {
+    /// How far it has joined.
+    pub state: State,
+    /// Whether it dozes.
+    pub dozes: bool,
+    /// Since when it has this state.
+    pub since: Nanos,
+    /// When a frame or an acknowledgement of it was heard last.
+    pub heard: Nanos,
+    /// The signal of its last frame in dBm.
+    pub signal: Option<i8>,
+    /// What was sent to it.
+    pub to: Traffic,
+    /// What was heard of it.
+    pub from: Traffic,
+    /// Whether it was asked.
+    pub asked: Asked,
+    /// Whether the program is about to be told that it left.
+    pub is_leaving: bool,
+    /// Its turn among all: the order in which they were entered.
+    pub turn: u64,
+    /// Its listen interval, where it is associated.
+    pub listen: u16,
+    /// Whether it has dozed since it was associated.
+    pub has_dozed: bool,
+    /// The association request by which it was associated last, where it is.
+    pub joined_by: Option<Vec<u8>>,
+    pub wanted_listen: u16,
+    /// Its association request that wasn't answered yet.
+    pub asks_by: Option<Vec<u8>>,
+}
+
+/// What a new program has to know of a station that is associated.
+#[derive(Debug, Clone, PartialEq, Eq)]
+pub struct KeptStation {
+    /// Its address.
+    pub address: Address,
+    /// Its identifier.
+    pub aid: u16,
+    /// Its listen interval.
+    pub listen: u16,
+    /// Whether it dozes.
+    pub dozes: bool,
+    /// Whether it has dozed since it was associated.
+    pub has_dozed: bool,
+    /// The association request by which it was associated last.
+    pub request: Vec<u8>,
+}

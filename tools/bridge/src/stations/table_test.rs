@@ -1,0 +1,235 @@
+use super::*;
+use crate::os::clock::SECOND;
+use crate::stations::own_frames::departure;
+use crate::testing::samples::{OTHER, OURS, STATION, STRANGER};
+
+const FIRST: Member = (0, STATION);
+const PLAIN: Reception = Reception { signal: Some(-40), rate: Some(22), frequency: None };
+
+fn table() -> StationTable {
+    StationTable::new(vec![OURS, OTHER])
+}
+
+fn frame(control: [u8; 2], receiver: Address, sender: Address, body: &[u8]) -> Vec<u8> {
+    let head = [&[control[0], control[1], 0, 0][..], receiver.octets(), sender.octets(), OURS.octets()].concat();
+    [&head[..], &[0x10, 0], body].concat()
+}
+
+fn authenticated(table: &mut StationTable, station: Address, status: u8) {
+    table.answered(0, &frame([0xb0, 0], station, OURS, &[0, 0, 2, 0, status, 0]), SECOND);
+}
+
+fn associated(table: &mut StationTable, station: Address, status: u8, aid: u8) {
+    table.fed(&frame([0, 0], OURS, station, &[1, 0, 2, 0]), SECOND);
+    table.answered(0, &frame([0x10, 0], station, OURS, &[1, 0, status, 0, aid, 0xc0]), 2 * SECOND);
+}
+
+fn joined() -> StationTable {
+    let mut table = table();
+    authenticated(&mut table, STATION, 0);
+    associated(&mut table, STATION, 0, 1);
+    assert_eq!(table.take_news(), [(FIRST, News::Joins { aid: 1, listen: 2 })]);
+    table
+}
+
+fn beacon(table: &mut StationTable, bits: u8) -> Option<Tim> {
+    let body = [&[0; 12][..], &[5, 4, 0, 1, 0, bits]].concat();
+    table.answered(0, &frame([0x80, 0], Address::BROADCAST, OURS, &body), 3 * SECOND)
+}
+
+#[test]
+fn a_station_joins_and_leaves() {
+    let mut table = joined();
+    let found = table.station(&FIRST).unwrap();
+    assert_eq!((found.state, found.since), (State::Associated(1), 2 * SECOND));
+    table.fed(&frame([0xa0, 0], OURS, STATION, &[8, 0]), 4 * SECOND);
+    assert_eq!(table.station(&FIRST).unwrap().state, State::Authenticated);
+    table.fed(&frame([0xa0, 0], OURS, STATION, &[8, 0]), 4 * SECOND);
+    table.fed(&frame([0xc0, 0], OURS, STATION, &[3, 0]), 5 * SECOND);
+    assert_eq!(table.station(&FIRST), None);
+    let left = [(FIRST, News::Leaves { reason: 8 }), (FIRST, News::Leaves { reason: 3 })];
+    assert_eq!(table.take_news(), left);
+    assert_eq!(table.take_entered(), [FIRST]);
+}
+
+#[test]
+fn who_is_refused_is_not_entered() {
+    let mut table = table();
+    authenticated(&mut table, STATION, 1);
+    assert_eq!(table.station(&FIRST), None);
+    authenticated(&mut table, STATION, 0);
+    associated(&mut table, STATION, 17, 0);
+    assert_eq!(table.station(&FIRST).unwrap().state, State::Authenticated);
+    table.answered(0, &frame([0xc0, 0], STRANGER, OURS, &[6, 0]), SECOND);
+    let wanted = [
+        (FIRST, News::Refused { status: 1, is_association: false }),
+        (FIRST, News::Refused { status: 17, is_association: true }),
+        ((0, STRANGER), News::SentAway { reason: 6 }),
+    ];
+    assert_eq!(table.take_news(), wanted);
+    assert_eq!(table.refusals(0).iter().collect::<Vec<_>>(), [(&1, &1), (&17, &1)]);
+    assert!(table.refusals(1).is_empty());
+}
+
+#[test]
+fn frames_and_acknowledgements_are_signs_of_life() {
+    let mut table = joined();
+    let unit = frame([0x08, 0x11], OURS, STATION, &[1; 10]);
+    table.heard(Frame::of(&unit).unwrap(), PLAIN, 9 * SECOND);
+    table.fed(&unit, 9 * SECOND);
+    let found = table.station(&FIRST).unwrap();
+    assert_eq!((found.heard, found.signal, found.dozes), (9 * SECOND, Some(-40), true));
+    assert_eq!(found.from, Traffic { octets: 34, frames: 1, rate: Some(22) });
+    let sent = frame([0x08, 0x02], STATION, OURS, &[1; 20]);
+    table.answered(0, &sent, 10 * SECOND);
+    let outcome = |is_acknowledged| Outcome { is_acknowledged, retries: 0, rate: Some(108) };
+    table.reported(&sent, outcome(false), true, 10 * SECOND);
+    assert_eq!(table.station(&FIRST).unwrap().heard, 9 * SECOND);
+    table.reported(&sent, outcome(true), true, 11 * SECOND);
+    let found = table.station(&FIRST).unwrap();
+    assert_eq!((found.heard, found.to), (11 * SECOND, Traffic { octets: 44, frames: 1, rate: Some(108) }));
+    table.fed(&frame([0x48, 0x01], OURS, STATION, &[]), 12 * SECOND);
+    assert!(!table.station(&FIRST).unwrap().dozes);
+}
+
+#[test]
+fn who_dozes_too_long_is_told_of_once() {
+    let mut table = joined();
+    let too_long = (FIRST, News::DozesTooLong { beacons: 3, listen: 2 });
+    for _ in 0..5 {
+        assert_eq!(beacon(&mut table, 0x02), Some(Tim { dtim_count: 0, aids: vec![1] }));
+    }
+    assert_eq!(table.take_news(), [too_long]);
+    let poll = [&[0xa4, 0x10, 1, 0xc0][..], OURS.octets(), STATION.octets()].concat();
+    table.fed(&poll, SECOND);
+    for _ in 0..2 {
+        beacon(&mut table, 0x02);
+    }
+    beacon(&mut table, 0);
+    beacon(&mut table, 0x02);
+    assert_eq!(table.take_news(), []);
+    for _ in 0..3 {
+        beacon(&mut table, 0x02);
+    }
+    assert_eq!(table.take_news(), [too_long]);
+}
+
+#[test]
+fn who_is_forgotten_leaves_without_a_word() {
+    let mut table = joined();
+    table.forget(FIRST, Forgotten::Kicked, SECOND);
+    table.forget(FIRST, Forgotten::Kicked, SECOND);
+    assert_eq!(table.take_news(), [(FIRST, News::Forgotten(Forgotten::Kicked))]);
+    assert!(table.station(&FIRST).unwrap().is_leaving);
+    table.fed(&departure(OURS, STATION), SECOND);
+    assert_eq!(table.station(&FIRST), None);
+    assert_eq!(table.take_news(), []);
+}
+
+/// What a new program has to know is what the station said last, and what the network answered.
+#[test]
+fn what_stations_joined_by_is_kept_while_they_are_associated() {
+    let mut table = table();
+    authenticated(&mut table, STATION, 0);
+    assert_eq!((table.kept(0), table.changes()), (vec![], 0));
+    associated(&mut table, STATION, 0, 1);
+    let request = frame([0, 0], OURS, STATION, &[1, 0, 2, 0]);
+    let plain =
+        KeptStation { address: STATION, aid: 1, listen: 2, dozes: false, has_dozed: false, request: request.clone() };
+    assert_eq!((table.kept(0), table.changes()), (vec![plain.clone()], 1));
+    table.fed(&frame([0x48, 0x11], OURS, STATION, &[]), 0);
+    table.fed(&frame([0x48, 0x11], OURS, STATION, &[]), 0);
+    let dozing = KeptStation { dozes: true, has_dozed: true, ..plain.clone() };
+    assert_eq!((table.kept(0), table.changes()), (vec![dozing.clone()], 2));
+    table.fed(&frame([0x48, 0x01], OURS, STATION, &[]), 0);
+    assert_eq!(table.kept(0), [KeptStation { dozes: false, ..dozing }]);
+    // A request that is refused changes nothing, and one that is accepted takes the place of the one before.
+    table.fed(&frame([0, 0], OURS, STATION, &[1, 0, 7, 0]), 0);
+    table.answered(0, &frame([0x10, 0], STATION, OURS, &[1, 0, 17, 0, 0, 0]), 0);
+    assert_eq!(table.kept(0)[0].request, request);
+    table.fed(&frame([0x20, 0], OURS, STATION, &[1, 0, 9, 0, 0, 0, 0, 0, 0, 0]), 0);
+    table.answered(0, &frame([0x30, 0], STATION, OURS, &[1, 0, 0, 0, 1, 0xc0]), 0);
+    let again = frame([0x20, 0], OURS, STATION, &[1, 0, 9, 0, 0, 0, 0, 0, 0, 0]);
+    assert_eq!(table.kept(0), [KeptStation { listen: 9, request: again, ..plain }]);
+    // Of two requests before an answer the later one counts, whose listen interval the program has too.
+    table.fed(&frame([0, 0], OURS, STATION, &[1, 0, 3, 0]), 0);
+    associated(&mut table, STATION, 0, 1);
+    assert_eq!(table.kept(0), [plain]);
+    table.fed(&frame([0xa0, 0], OURS, STATION, &[8, 0]), 0);
+    assert_eq!(table.kept(0), []);
+    assert!(table.kept(1).is_empty());
+}
+
+#[test]
+fn who_is_forgotten_is_kept_no_more() {
+    let mut table = joined();
+    assert_eq!(table.kept(0).len(), 1);
+    table.forget(FIRST, Forgotten::Kicked, SECOND);
+    assert_eq!(table.kept(0), []);
+}
+
+/// A state is written anew where one joins or leaves, and says stations in the order of their identifiers.
+#[test]
+fn who_is_kept_stands_in_the_order_of_identifiers_and_each_change_counts() {
+    let mut table = table();
+    let stations = [9, 3, 7, 1, 5].map(|number| (number, Address::of([2, 0xaa, 0, 0, 1, 3 * number % 10])));
+    for (count, (aid, station)) in stations.iter().enumerate() {
+        authenticated(&mut table, *station, 0);
+        associated(&mut table, *station, 0, *aid);
+        assert_eq!(table.changes(), count as u64 + 1);
+    }
+    let identifiers: Vec<u16> = table.kept(0).iter().map(|kept| kept.aid).collect();
+    assert_eq!(identifiers, [1, 3, 5, 7, 9]);
+    table.fed(&frame([0xa0, 0], OURS, stations[0].1, &[8, 0]), 0);
+    assert_eq!((table.changes(), table.kept(0).len()), (6, 4));
+    table.fed(&departure(OURS, stations[1].1), 0);
+    assert_eq!((table.changes(), table.kept(0).len()), (7, 3));
+    // One that authenticates again is associated no more.
+    authenticated(&mut table, stations[2].1, 0);
+    assert_eq!((table.changes(), table.kept(0).len()), (8, 2));
+}
+
+#[test]
+fn who_is_restored_is_there_as_before_without_a_word() {
+    let before = joined().kept(0);
+    let mut table = table();
+    let dozing = KeptStation { dozes: true, ..before[0].clone() };
+    table.restore(FIRST, &dozing, 9 * SECOND);
+    let found = table.station(&FIRST).unwrap();
+    assert_eq!((found.state, found.listen, found.dozes), (State::Associated(1), 2, true));
+    assert_eq!((table.take_news(), table.take_entered()), (vec![], vec![FIRST]));
+    assert_eq!(table.kept(0), [KeptStation { has_dozed: true, ..dozing }]);
+    for _ in 0..3 {
+        beacon(&mut table, 0x02);
+    }
+    assert_eq!(table.told_of(0), 1);
+    assert_eq!(table.take_news(), [(FIRST, News::DozesTooLong { beacons: 3, listen: 2 })]);
+}
+
+#[test]
+fn an_identifier_goes_to_another_station() {
+    let mut table = joined();
+    authenticated(&mut table, STATION, 0);
+    authenticated(&mut table, STRANGER, 0);
+    associated(&mut table, STRANGER, 0, 1);
+    table.fed(&departure(OURS, STATION), SECOND);
+    table.take_news();
+    for _ in 0..3 {
+        beacon(&mut table, 0x02);
+    }
+    assert_eq!(table.take_news(), [((0, STRANGER), News::DozesTooLong { beacons: 3, listen: 2 })]);
+    let order: Vec<_> = table.stations_of(0).into_iter().map(|(address, _)| address).collect();
+    assert_eq!(order, [STRANGER]);
+}
+
+#[test]
+fn the_program_s_tables_are_right() {
+    let mut table = joined();
+    let known = HashMap::from([(STRANGER, State::Associated(4))]);
+    table.agree(1, &HashMap::new(), SECOND);
+    assert!(table.station(&FIRST).is_some());
+    table.agree(0, &known, SECOND);
+    assert_eq!(table.station(&FIRST), None);
+    assert_eq!(table.station(&(0, STRANGER)).unwrap().state, State::Associated(4));
+    assert_eq!(table.take_entered(), [FIRST, (0, STRANGER)]);
+}

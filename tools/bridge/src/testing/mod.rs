@@ -1,0 +1,3 @@
+//! What tests of several folders share.
+mod mutator;
+pub mod samples;

@@ -1,0 +1,184 @@
+"""What is said of the lines of a run that ended well, one by one: those that no network took or read, those that
+changed nothing, those that were refused, and those that lost something. Whether a line did something is told by the
+program, by way of `live`; the reason is looked for beside that."""
+from collections.abc import Iterator
+from dataclasses import dataclass, field
+from enum import Enum
+
+from explaining.changes import has_effect
+from explaining.config import NetworkTable
+from explaining.line_by_line import Step
+from explaining.losses import losses
+from explaining.nothing import Looked, nothing
+from explaining.past import Past
+from explaining.reason import Reason
+from explaining.refused import Refusal, limit, refusal_of, refused
+from explaining.source import Finding, Place, Source
+from explaining.spans import place_of_octets
+from explaining.unheard import unheard
+from explaining.unread import unread, wired_unread
+from frames import DATA, DEAUTHENTICATION, Frame, address_text
+from reading import unread_kind, wired_unread_kind
+from texts import Line
+
+MOST_GROUPS, MOST_ALSO = 6, 5
+
+
+class What(Enum):
+    """What became of a line, in the order in which it is told."""
+
+    UNTAKEN = "no network takes it"
+    UNREAD = "it can't be read"
+    NOTHING = "it changes nothing"
+    REFUSED = "it is refused"
+    LOST = "a unit is lost"
+
+
+@dataclass
+class Group:
+    """Lines of which the same is said."""
+
+    what: What
+    head: str
+    reason: Reason
+    lines: list[Line] = field(default_factory=list)
+
+
+@dataclass(frozen=True)
+class Said:
+    """What is said of one line and one network, or of all of them."""
+
+    what: What
+    head: str
+    reason: Reason
+
+
+class Outcomes:
+    """The groups, in the order of their first lines."""
+
+    def __init__(self, trace: Source, tables: dict[bytes, NetworkTable]) -> None:
+        self.trace, self.tables = trace, tables
+        self.past = Past(lambda number: trace.first + number - 1)
+        self.groups: dict[tuple[What, str, str], Group] = {}
+        self.left_out: list[Line] = []
+
+    def take(self, step: Step, full: frozenset[bytes] = frozenset()) -> None:
+        """Looks at a line; networks whose history is full take nothing any more."""
+        for said in self.of_step(step, full):
+            key = said.what, said.head, said.reason.text
+            self.groups.setdefault(key, Group(said.what, said.head, said.reason)).lines.append(step.line)
+        self.past.note(step)
+
+    def of_step(self, step: Step, full: frozenset[bytes] = frozenset()) -> Iterator[Said]:
+        """What is said of a line."""
+        taking = [bssid for bssid, after in step.after.items()
+                  if after.events != step.before[bssid].events and bssid not in full]
+        if not taking:
+            if step.line.kind == "A" and not full:
+                reason = unheard(step.line.octets, {bssid: section.name for bssid, section in step.before.items()})
+                if reason:
+                    yield Said(What.UNTAKEN, "no network takes it", reason)
+            return
+        for bssid in taking:
+            yield from self.of_answers(step, Looked(step, bssid, self.past))
+        does = [bssid for bssid in taking if has_effect(step.before[bssid], step.after[bssid])]
+        if not does and not step.sent and step.line.kind != "T":
+            yield from merged([self.of_silence(Looked(step, bssid, self.past)) for bssid in taking])
+
+    def of_silence(self, looked: Looked) -> Said | None:
+        """Why a network that took a line did nothing."""
+        line, network = looked.step.line, network_text(looked)
+        if looked.step.after[looked.bssid].unread > looked.section.unread:
+            rule, reason = (wired_unread_kind(line.octets), wired_unread(looked.bssid, line.octets)) \
+                if line.kind == "W" else (unread_kind(looked.bssid, line.octets), unread(looked.bssid, line.octets))
+            is_summed = line.kind == "A" and is_told_in_sum(looked.bssid, line.octets, rule)
+            return Said(What.UNREAD, f"{network} can't read it ({rule})", reason) if reason and not is_summed else None
+        reason = nothing(looked)
+        return Said(What.NOTHING, f"it changes nothing in {network}", reason) if reason else None
+
+    def of_answers(self, step: Step, looked: Looked) -> Iterator[Said]:
+        """What a network refused or lost."""
+        table = self.tables.get(looked.bssid)
+        for sent in step.sent:
+            refusal = None if sent.is_wired or sent.bssid != looked.bssid else refusal_of(sent.octets)
+            if refusal and step.line.kind == "A":
+                station = Frame(step.line.octets).transmitter
+                reason = refused(refusal, step.line.octets, table, looked.names(), looked.bssid) if refusal.is_status \
+                    else notice(refusal, looked, station)
+                if reason:
+                    yield Said(What.REFUSED, f"{network_text(looked)}: {refusal.what()}, of {address_text(station)}",
+                               reason)
+        relay = table.entries.get("relay") if table else None
+        relays = relay is None or relay.value.worth is not False
+        for reason in losses(looked, relays, limit(table, "quota")):
+            yield Said(What.LOST, f"{network_text(looked)} loses a unit", reason)
+
+    def numbers_told(self, what: What) -> set[int]:
+        """The numbers of the lines of which this is said."""
+        return {line.number for group in self.groups.values() if group.what is what for line in group.lines}
+
+    def findings(self) -> list[Finding]:
+        """What is said to a person."""
+        found = []
+        for what in What:
+            groups = [group for group in self.groups.values() if group.what is what]
+            found += [self.finding(group) for group in groups[:MOST_GROUPS]]
+            rest = [line for group in groups[MOST_GROUPS:] for line in group.lines]
+            if rest:
+                found.append(Finding(f"{what.value}, for other reasons: {self.numbers(rest)}"))
+        if self.left_out:
+            found.append(Finding("from here on it wasn't looked which line did something: the program's answers are "
+                                 "more than this tool looks at", place_of_octets(self.trace, self.left_out[0], None),
+                                 "a shorter trace has fewer"))
+        return found
+
+    def finding(self, group: Group) -> Finding:
+        """What is said of one group."""
+        also = f"; so in {self.numbers(group.lines[1:])}" if len(group.lines) > 1 else ""
+        return Finding(f"{group.head}: {group.reason.text}{also}", self.place(group), group.reason.advice)
+
+    def place(self, group: Group) -> Place:
+        """Where the first line of a group has what is said of it."""
+        return place_of_octets(self.trace, group.lines[0], group.reason.span)
+
+    def numbers(self, lines: list[Line]) -> str:
+        """The numbers of lines, the first few of them."""
+        numbers = [str(self.trace.first + line.number - 1) for line in lines]
+        more = len(numbers) - MOST_ALSO
+        text = ", ".join(numbers[:MOST_ALSO]) + (f" and {more} more" if more > 0 else "")
+        return f"line{'s' * (len(numbers) > 1)} {text}"
+
+
+def is_told_in_sum(bssid: bytes, octets: bytes, rule: str | None) -> bool:
+    """Whether all frames of a kind are told of at once: those of QoS, and those that a network sent itself."""
+    return rule == "U3" and Frame(octets).is_qos or rule == "U6" and Frame(octets).transmitter == bssid
+
+
+def network_text(looked: Looked) -> str:
+    """A network, for a person: its name, and its address where another network has that name too."""
+    name = looked.section.name
+    is_one = sum(section.name == name for section in looked.step.before.values()) == 1
+    return name if is_one else f"{name} ({address_text(looked.bssid)})"
+
+
+def merged(said: list[Said | None]) -> list[Said]:
+    """What is said of a line by each network that took it; once, where all say the same of a name that nobody has."""
+    found = [one for one in said if one]
+    if len(found) < 2 or len({(one.what, one.reason.text) for one in found}) > 1:
+        return found
+    first = found[0]
+    head = f"it changes nothing in any of {len(found)} networks" if first.what is What.NOTHING else \
+        f"{first.head}, nor can {len(found) - 1} more"
+    return [Said(first.what, head, first.reason)]
+
+
+def notice(refusal: Refusal, looked: Looked, station: bytes) -> Reason:
+    """Why a request is of a class that its station's state doesn't allow."""
+    state = "unknown" if refusal.kind == DEAUTHENTICATION else "authenticated"
+    said = "the station is unknown" if state == "unknown" else "the station isn't associated"
+    what = "it has to authenticate and associate before" if state == "unknown" else "it has to associate before"
+    frame = Frame(looked.step.line.octets)
+    if frame.type == DATA and frame.third in looked.associated():
+        return Reason(f"{said}; Address 3, {address_text(frame.third)}, is one that is associated: the sender comes "
+                      "first, then the destination", (10, 22), f"write `{frame.third.hex()} {station.hex()}`")
+    return Reason(f"{said}: {looked.why_not_there(station, state)}", (10, 16), what)

@@ -1,0 +1,108 @@
+"""What one change makes of a frame that a network doesn't take or can't read: a frame that it reads. So that change is
+what was meant."""
+from collections.abc import Iterator
+
+from explaining.check_sequences import FCS_LEN, LEAST_LEN, ends_with_fcs
+from explaining.reason import Reason
+from frames import (ASSOCIATION_REQUEST, AUTHENTICATION, CONTROL, DATA, DEAUTHENTICATION, DISASSOCIATION, HEADER_LEN,
+                    MANAGEMENT, REASSOCIATION_REQUEST, Frame, number)
+from in_words import kind_text
+from reading import SNAP, hears, unread_kind
+
+DURATION, SEQUENCE, FRAGMENT = bytes(2), bytes(2), 0xF
+USUAL_CAPABILITY, USUAL_FLAGS, TWO_HIGH_BITS = b"\1\0", 0x18, 0xC000
+RADIOTAP_MOST, MOST_STEPS = 64, 4
+
+
+def repaired(bssid: bytes, octets: bytes) -> Reason | None:
+    """The change that makes a network read these octets; None where none of those that are tried does."""
+    if len(octets) < LEAST_LEN:
+        return None
+    for changed, reason in changes(bssid, octets):
+        if hears(bssid, changed) and unread_kind(bssid, changed) is None and is_usual(Frame(changed)):
+            return reason
+    return None
+
+
+def is_usual(frame: Frame) -> bool:
+    """Whether a frame says what stations say: an authentication one of the sequence numbers that there are (9.4.1.2), a
+    request to associate that it is one of an infrastructure (ESS), a departure a reason, and a management frame no
+    flags but Retry and Power Management."""
+    if frame.type != MANAGEMENT:
+        return frame.type != CONTROL or number(frame.octets[2:4]) >= TWO_HIGH_BITS
+    said = {AUTHENTICATION: 1 <= number(frame.body[2:4]) <= MOST_STEPS, DISASSOCIATION: any(frame.body[:2]),
+            DEAUTHENTICATION: any(frame.body[:2]), ASSOCIATION_REQUEST: frame.body[:1] and frame.body[0] & 1,
+            REASSOCIATION_REQUEST: frame.body[:1] and frame.body[0] & 1}
+    return bool(said.get(frame.subtype, True)) and frame.octets[1] & ~USUAL_FLAGS == 0
+
+
+def changes(bssid: bytes, octets: bytes) -> Iterator[tuple[bytes, Reason]]:
+    """Changes that people have to make, the likeliest first."""
+    yield from of_control(octets)
+    yield from of_sequence(octets)
+    head = octets[:2]
+    yield head + DURATION + octets[2:], Reason("the two octets of Duration are missing behind Frame Control", (2, 4),
+                                               f"write `{head.hex()} 0000`, and Address 1 behind it")
+    yield from of_addresses(bssid, octets)
+    yield octets[:16] + bssid + octets[16:], Reason("Address 3 is missing behind Address 2", (16, 22),
+                                                    f"write `{bssid.hex()}` there")
+    yield from of_fields(bssid, octets)
+    length = number(octets[2:4])
+    if head == b"\0\0" and 8 <= length <= RADIOTAP_MOST:
+        yield octets[length:], Reason("a radiotap header, the capture's own, stands before the frame", (0, length),
+                                      "leave it out")
+    if ends_with_fcs(octets):
+        yield octets[:-FCS_LEN], Reason("the last four octets are the frame check sequence, and a trace has frames "
+                                        "without it", (len(octets) - FCS_LEN, len(octets)), "leave them out")
+
+
+def of_control(octets: bytes) -> Iterator[tuple[bytes, Reason]]:
+    """Changes of Frame Control."""
+    turned = octets[1::-1] + octets[2:]
+    if octets[1]:
+        yield turned, Reason(f"the octets of Frame Control stand the wrong way round: {kind_text(turned)} begins with "
+                             f"`{turned[:2].hex()}`", (0, 2), f"write `{turned[:2].hex()}`")
+    if len(octets) >= HEADER_LEN and Frame(octets).type == DATA and not octets[1] & 3:
+        mended = bytes([octets[0], octets[1] | 1])
+        yield mended + octets[2:], Reason("To DS is 0, and data of a station has To DS 1", (1, 2),
+                                          f"write `{mended.hex()}`")
+
+
+def of_addresses(bssid: bytes, octets: bytes) -> Iterator[tuple[bytes, Reason]]:
+    """An address with an octet too few or too many."""
+    for length in (5, 7):
+        short, long = sorted((bssid, octets[4:4 + length]), key=len)
+        is_one_off = len(long) - len(short) == 1 and any(long[:at] + long[at + 1:] == short for at in range(len(long)))
+        if is_one_off and octets[4:10] != bssid:
+            yield octets[:4] + bssid + octets[4 + length:], Reason(
+                f"Address 1 has {length} octets, and an address has six", (4, 4 + length), f"write `{bssid.hex()}`")
+        station = octets[10:10 + length]
+        if octets[4:10] == bssid == octets[10 + length:16 + length]:
+            yield octets[:10] + station.ljust(6, b"\0")[:6] + octets[10 + length:], Reason(
+                f"Address 2 has {length} octets, and an address has six", (10, 10 + length))
+
+
+def of_fields(bssid: bytes, octets: bytes) -> Iterator[tuple[bytes, Reason]]:
+    """Fields of an association request that are missing before its elements."""
+    frame = Frame(octets)
+    if frame.is_management(REASSOCIATION_REQUEST):
+        yield octets[:28] + bssid + octets[28:], Reason(
+            "the body of a reassociation request has Capability 2, Listen Interval 2 and Current AP Address 6 before "
+            "its elements, and here the address is missing", (28, 29), f"write `{bssid.hex()}` there")
+    if frame.is_management(ASSOCIATION_REQUEST) or frame.is_management(REASSOCIATION_REQUEST):
+        yield octets[:24] + USUAL_CAPABILITY + octets[24:], Reason(
+            "two octets are missing before the elements, where Capability Information 2 and Listen Interval 2 stand",
+            (24, 26), "write both, as `0100 0a00`")
+
+
+def of_sequence(octets: bytes) -> Iterator[tuple[bytes, Reason]]:
+    """Changes of Sequence Control: a number that stands in the bits of the fragment, or the field that isn't there."""
+    value = number(octets[22:24])
+    if value & FRAGMENT and value < 1 << 12:
+        meant = (value << 4).to_bytes(2, "little")
+        yield octets[:22] + meant + octets[24:], Reason(
+            f"Sequence Control `{octets[22:24].hex()}` says fragment {value & FRAGMENT}, its low four bits, and "
+            "fragments aren't read", (22, 24), f"the sequence number {value} is `{meant.hex()}`")
+    if Frame(octets).type == MANAGEMENT or octets[22:].startswith(SNAP[:3]):
+        yield octets[:22] + SEQUENCE + octets[22:], Reason(
+            "the two octets of Sequence Control are missing behind Address 3", (22, 24), "write `0000` there")

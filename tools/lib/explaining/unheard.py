@@ -1,0 +1,46 @@
+"""Why no network takes a frame that was on the air: it is too short, or its Address 1 is neither a network's nor
+all."""
+from collections.abc import Iterable
+
+from explaining.check_sequences import LEAST_LEN
+from explaining.reason import Reason
+from explaining.repairs import repaired
+from frames import Frame, address_text
+from in_words import address_word
+
+
+
+def unheard(octets: bytes, networks: dict[bytes, str]) -> Reason | None:
+    """The reason, for networks with these addresses and names; None where nothing but the address itself is to be
+    said."""
+    if len(octets) < LEAST_LEN:
+        return Reason(f"it has {len(octets)} octets, and no network takes fewer than {LEAST_LEN}", (0, len(octets)))
+    frame = Frame(octets)
+    for bssid in networks:
+        reason = repaired(bssid, octets)
+        if reason:
+            return reason
+    if frame.transmitter in networks:
+        return Reason(f"it is to {address_word(frame.receiver)} and from {networks[frame.transmitter]}: a network "
+                      "sends this, and a trace has what networks hear", (4, 10),
+                      "a station's frame has the BSSID as Address 1 and the station as Address 2")
+    like = nearest(frame.receiver, networks)
+    if like is None:
+        return None
+    return Reason(f"Address 1 is {address_text(frame.receiver)}, and {networks[like]} has {address_text(like)}",
+                  (4, 10),
+                  f"write `{like.hex()}`")
+
+
+def nearest(address: bytes, others: Iterable[bytes]) -> bytes | None:
+    """The address that differs in one digit, or has two digits swapped, or its octets the other way round."""
+    return next((other for other in others if other != address and
+                 (other == address[::-1] or is_slip(address.hex(), other.hex()))), None)
+
+
+def is_slip(one: str, other: str) -> bool:
+    """Whether two strings of digits differ in one digit, or in two that stand side by side and are swapped."""
+    places = [place for place, (mine, theirs) in enumerate(zip(one, other)) if mine != theirs]
+    if len(places) == 2 and places[1] == places[0] + 1:
+        return one[places[0]:places[1] + 1] == other[places[0]:places[1] + 1][::-1]
+    return len(places) == 1
