@@ -308,6 +308,21 @@ class Watched(OnMachine):
         self.assertEqual(self.status[-1], "2 networks are on channel 6")
         self.assertEqual((self.look(), self.watch.seconds), ("", None))
 
+    def test_two_other_interfaces(self):
+        """Each is told with its command; all is set up anew once both are down."""
+        self.set("wlan0", True)
+        self.set("wlan1", True)
+        told = self.look()
+        for name in ("wlan0", "wlan1"):
+            self.assertIn(f"{name} of phy9 is up", told)
+            self.assertIn(f"`ip link set {name} down`", told)
+        self.set("wlan0", False)
+        self.look()
+        self.assertEqual(self.commands, [])
+        self.set("wlan1", False)
+        self.look()
+        self.assertEqual(self.commands, self.ANEW)
+
     def test_another_interface_for_a_moment(self):
         """One that is down again as one looks has stopped the radio all the same."""
         self.set("wlan0", True)

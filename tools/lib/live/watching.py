@@ -76,10 +76,9 @@ class RadioWatch:
 
     def came_up(self, names: set[str], plan: Plan) -> None:
         """Others of the radio are up."""
-        if names - self.others:
-            told = listed(names - self.others)
-            self.others |= names
-            self.say(f"{told} of {self.wanted.phy} is up: {HARM[plan.way]}; take it down by `ip link set {told} down`, and "
+        for name in sorted(names - self.others):
+            self.others.add(name)
+            self.say(f"{name} of {self.wanted.phy} is up: {HARM[plan.way]}; take it down by `ip link set {name} down`, and "
                      f"keep what has set it up away from this radio ({PAGE})", WARNING, plan)
 
     def look_at_bridge(self, bridge: Bridge, plan: Plan) -> None:
