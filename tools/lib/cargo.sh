@@ -11,12 +11,12 @@ use_debians_cargo() {
     /usr/bin/cargo metadata --format-version 1 --offline --locked >/dev/null 2>&1 || rm -f Cargo.lock
 }
 
-# Runs the tests of the crate in this folder. A test that can't run here says `not run:` and isn't counted. The last
+# Runs the tests of the crate in this folder, or those of the packages that the words name. A test that can't run here says `not run:` and isn't counted. The last
 # line is 'N passed, M failed'; the status is 1 where a test failed, or none was built.
 test_by_cargo() {
     local said passed failed not_run
     said=$(mktemp)
-    /usr/bin/cargo test --release --offline --quiet 2>&1 | tee "$said" || true
+    /usr/bin/cargo test --release --offline --quiet "$@" 2>&1 | tee "$said" || true
     read -r passed failed < <(awk '/^test result:/ { for (i = 2; i <= NF; i++) { if ($i ~ /^passed;/) passed += $(i - 1)
         if ($i ~ /^failed;/) failed += $(i - 1) } } END { print passed + 0, failed + 0 }' "$said")
     not_run=$(grep -ao 'not run: ' "$said" | wc -l)

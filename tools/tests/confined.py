@@ -17,9 +17,10 @@ import time
 from contextlib import suppress
 from unittest import mock
 
-HERE = os.path.dirname(os.path.realpath(__file__))
-sys.path.insert(0, os.path.join(os.path.dirname(HERE), "lib"))
+TOOLS = os.path.dirname(os.path.dirname(os.path.realpath(__file__)))
+sys.path[:0] = [os.path.join(TOOLS, "lib"), os.path.join(TOOLS, "guest")]
 sys.dont_write_bytecode = True
+from configurations import ONE_NETWORK  # noqa: E402
 from frames import address_of  # noqa: E402
 from live import changes, serving  # noqa: E402
 from live.checks import Plan, Wanted  # noqa: E402
@@ -29,20 +30,6 @@ from live.settings import read_settings  # noqa: E402
 from stations import run, wait_for  # noqa: E402
 
 OURS = address_of("02:00:00:00:01:01")
-CONFIG = """version = 1
-channel = 6
-interval = 100
-queue = 64
-[[network]]
-bssid = "02:00:00:00:01:01"
-ssid = "lab"
-rates = "82840b16"
-dtim = 1
-max_stations = 8
-max_known = 16
-quota = 8
-max_events = 100
-"""
 USERS = "waltigon:x:930:930::/:/usr/sbin/nologin\nwaltigon-status:x:931:931::/:/usr/sbin/nologin\n"
 GROUPS = "waltigon:x:930:\nwaltigon-status:x:931:\n"
 SEIZE, INTERRUPT, DETACH, GET, SET, STEP, POKE = 0x4206, 0x4207, 17, 12, 13, 9, 4
@@ -218,7 +205,7 @@ def set_up(folder):
     make_wire()
     run("ip", "link", "set", "wire1", "up")
     with open(os.path.join(folder, "radio.toml"), "w", encoding="utf-8") as file:
-        file.write(CONFIG)
+        file.write(ONE_NETWORK)
     os.chmod(os.path.join(folder, "radio.toml"), 0o644)
 
 

@@ -3,18 +3,10 @@ wire, frames that aren't read, and beacon intervals between them."""
 import random
 
 from common import heard
+from configurations import configuration, network
 
 NAMES = ("guest", "office", "devices")
-NETWORK = """[[network]]
-bssid = "{bssid}"
-ssid = "{name}"
-rates = "82840b16"
-dtim = {dtim}
-max_stations = 20
-max_known = 40
-quota = 30
-max_events = 1000000
-"""
+SETTINGS = {"max_stations": 20, "max_known": 40, "quota": 30, "max_events": 1000000}
 UNIT = "aaaa030000000800 01"
 TICKS, STATIONS, MOST_AID = 0.6, 9, 5
 
@@ -31,9 +23,8 @@ def with_colons(digits):
 
 def config():
     """The configuration of three networks."""
-    tables = [NETWORK.format(bssid=with_colons(bssid_of(place)), name=name, dtim=place + 1)
-              for place, name in enumerate(NAMES)]
-    return "version = 1\nchannel = 6\ninterval = 100\nqueue = 64\n" + "".join(tables)
+    return configuration(*(network(with_colons(bssid_of(place)), name, dtim=place + 1, **SETTINGS)
+                           for place, name in enumerate(NAMES)))
 
 
 def lines_of(draw):

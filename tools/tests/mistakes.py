@@ -1,38 +1,13 @@
 """Mistakes that people make, each with the program's own line and with what has to be said of it."""
 from typing import NamedTuple
 
-CONFIG = """version = 2
-channel = 6
-interval = 100
-queue = 64
+from configurations import configuration, network
 
-[[network]]
-bssid = "02:00:00:00:00:01"
-ssid = "lab"
-rates = "82840b16"
-dtim = 1
-max_stations = 8
-max_known = 16
-quota = 8
-max_events = 100
-relay = true
-aging = false
-
-[[network]]
-bssid = "02:00:00:00:00:02"
-ssid = "guest"
-rates = "82840b16"
-dtim = 3
-max_stations = 8
-max_known = 16
-quota = 8
-max_events = 100
-relay = false
-aging = false
-"""
-VERSION_1 = CONFIG.replace("version = 2", "version = 1").replace("relay = true\naging = false\n", "").replace(
-    "relay = false\naging = false\n", "")
-NETWORK = CONFIG[CONFIG.rindex("[[network]]"):]
+LAB, GUEST = ("02:00:00:00:00:01", "lab"), ("02:00:00:00:00:02", "guest")
+NETWORK = network(*GUEST, dtim=3, relay=False, aging=False)
+CONFIG = configuration("\n", network(*LAB, relay=True, aging=False), "\n", NETWORK, version=2)
+NETWORK_1 = network(*GUEST, dtim=3)
+VERSION_1 = configuration("\n", network(*LAB), "\n", NETWORK_1)
 PROBE = "A 40000000 ffffffffffff 02aa00000001 ffffffffffff 0000 0000 010402040b16"
 TRACE = f"# a probe\n{PROBE}\nT\n"
 HOSTAPD = "interface=wlan0\ndriver=nl80211\nssid=lab\nhw_mode=g\nchannel=6\nwpa=2\nwpa_passphrase=secret\n"
@@ -81,7 +56,7 @@ def joined(said, text, *says):
 def networks(count, version=2):
     """A configuration of so many networks."""
     text = CONFIG if version == 2 else VERSION_1
-    table = NETWORK if version == 2 else VERSION_1[VERSION_1.rindex("[[network]]"):]
+    table = NETWORK if version == 2 else NETWORK_1
     top = text[:text.index("[[network]]")]
     return top + "".join(table.replace("00:02", f"00:{place:02x}") for place in range(1, count + 1))
 

@@ -15,9 +15,11 @@ import time
 from unittest import mock
 
 HERE = os.path.dirname(os.path.realpath(__file__))
-sys.path[:0] = [HERE, os.path.join(os.path.dirname(HERE), "lib")]
+TOOLS = os.path.dirname(HERE)
+sys.path[:0] = [HERE, os.path.join(TOOLS, "lib"), os.path.join(TOOLS, "guest")]
 sys.dont_write_bytecode = True
 import confined  # noqa: E402
+from configurations import LAB, configuration, network  # noqa: E402
 from confined import OURS, SECONDS, NoRadio, process_of, read  # noqa: E402
 from frames import address_of, address_text  # noqa: E402
 from live import asking, changes, serving  # noqa: E402
@@ -27,16 +29,7 @@ from live.settings import read_settings  # noqa: E402
 from stations import wait_for  # noqa: E402
 
 OTHER = address_of("02:00:00:00:01:02")
-SECOND = """[[network]]
-bssid = "02:00:00:00:01:02"
-ssid = "other"
-rates = "82840b16"
-dtim = 1
-max_stations = 8
-max_known = 16
-quota = 8
-max_events = 100
-"""
+TWO_NETWORKS = configuration(LAB, network("02:00:00:00:01:02", "other"))
 NO_FIELDS = bytes([0, 0, 8, 0, 0, 0, 0, 0])
 STATIONS = [address_of(f"02:aa:00:00:00:0{number}") for number in range(1, 6)]
 RATES = bytes.fromhex("010482840b16")
@@ -107,7 +100,7 @@ class Case:
     def write_config(self, old="", new=""):
         """Writes the configuration with a change."""
         with open(os.path.join(self.folder, "radio.toml"), "w", encoding="utf-8") as file:
-            file.write((confined.CONFIG + SECOND).replace(old, new) if old else confined.CONFIG + SECOND)
+            file.write(TWO_NETWORKS.replace(old, new) if old else TWO_NETWORKS)
 
     def run(self):
         """All of it."""

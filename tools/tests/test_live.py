@@ -20,16 +20,17 @@ from contextlib import ExitStack
 from dataclasses import replace
 from unittest import mock
 
+from configurations import ONE_NETWORK
 from frames import address_of, address_text
-from live import (asking, changes, checks, keeping, machine, record, rights, running, serving, setting_up, showing,
-                  telling, wires)
+from live import (asking, changes, checks, machine, recording, rights, running, serving, setting_up, showing,
+                  state_files, telling, wires)
 from live.bridge import Bridge, Signals
 from live.changes import Change, Changes
 from live.checks import (Plan, Wanted, check_bridge, check_config, check_left, check_names, check_port,
                          check_program, check_record, check_wires, read_wires, set_country)
 from live.faults import Fault
 from live.machine import Interface
-from live.record import make_record
+from live.recording import make_record
 from live.rights import Rights
 from live.service import Service
 from live.settings import Network, Settings, read_settings
@@ -39,20 +40,6 @@ from statuses import document, network, only_known, station
 
 TOOLS = os.path.dirname(os.path.dirname(os.path.realpath(__file__)))
 STRANGER = address_of("02:bb:00:00:00:01")
-CONFIG = """version = 1
-channel = 6
-interval = 100
-queue = 64
-[[network]]
-bssid = "02:00:00:00:01:01"
-ssid = "lab"
-rates = "82840b16"
-dtim = 1
-max_stations = 8
-max_known = 16
-quota = 8
-max_events = 100
-"""
 
 
 def read(path):
@@ -560,7 +547,7 @@ class WithFiles(unittest.TestCase):
         folder = tempfile.TemporaryDirectory()
         self.addCleanup(folder.cleanup)
         self.folder = folder.name
-        self.config = self.write("radio.toml", CONFIG)
+        self.config = self.write("radio.toml", ONE_NETWORK)
 
     def write(self, name, text, mode=0o644):
         """A file of the test's folder."""
@@ -606,7 +593,7 @@ class FilesAndPrograms(WithFiles):
         with contextlib.redirect_stderr(io.StringIO()) as told:
             check_record(wanted, read_settings(self.config))
         self.assertIn("ends with 100 events of the network 02:00:00:00:01:01", told.getvalue())
-        longest = self.write("longest.toml", CONFIG.replace("max_events = 100", "max_events = 1000000"))
+        longest = self.write("longest.toml", ONE_NETWORK.replace("max_events = 100", "max_events = 1000000"))
         with contextlib.redirect_stderr(io.StringIO()) as told:
             check_record(wanted, read_settings(longest))
         self.assertEqual(told.getvalue(), "")
@@ -635,7 +622,7 @@ class FilesAndPrograms(WithFiles):
         self.assertEqual(os.stat(secret).st_size, 1)
         with self.assertRaisesRegex(Fault, "^--record .*none/x: No such file or directory$"):
             make_record(self.path("none/x"))
-        with mock.patch.object(record, "MOST_RECORDS", 1), self.assertRaisesRegex(Fault, "1 files of this name"):
+        with mock.patch.object(recording, "MOST_RECORDS", 1), self.assertRaisesRegex(Fault, "1 files of this name"):
             make_record(path)
 
     def test_wires_of_a_file(self):
@@ -919,7 +906,7 @@ class WhatStays(WithFiles):
         """They are their owner's alone, keep what a killed start left, and go in the end."""
         left = self.write("phy0.state.0", "left", 0o644)
         with mock.patch.object(changes, "RUN", self.folder), ExitStack() as stack:
-            files = keeping.StateFiles("phy0", stack)
+            files = state_files.StateFiles("phy0", stack)
             self.assertEqual([stat.S_IMODE(os.stat(path).st_mode) for path in files.paths], [0o600] * 2)
             self.assertEqual(os.read(files.descriptors[0], 9), b"left")
             os.write(files.descriptors[1], b"more")
@@ -930,7 +917,7 @@ class WhatStays(WithFiles):
         os.symlink(self.write("other", "other"), os.path.join(self.folder, "phy0.state.1"))
         with mock.patch.object(changes, "RUN", self.folder), ExitStack() as stack:
             with self.assertRaisesRegex(Fault, "phy0.state.1: Too many levels of symbolic links"):
-                keeping.StateFiles("phy0", stack)
+                state_files.StateFiles("phy0", stack)
 
     def test_changed_networks(self):
         """Of those that are gone, or are others to their stations."""
@@ -940,9 +927,9 @@ class WhatStays(WithFiles):
                                  ((replace(one, ssid=b"c"), two), [0]), ((one, replace(two, rates=b"\x84")), [1]),
                                  ((replace(one, max_known=9, max_stations=3, max_events=5), two), [])):
             after = Plan(Settings(6, 100, networks), ((OURS, "wire1"),))
-            self.assertEqual(keeping.changed_networks(before, after), wanted, networks)
+            self.assertEqual(state_files.changed_networks(before, after), wanted, networks)
         for settings in (Settings(7, 100, (one, two)), Settings(6, 99, (one, two))):
-            self.assertEqual(keeping.changed_networks(before, Plan(settings, ())), [0, 1])
+            self.assertEqual(state_files.changed_networks(before, Plan(settings, ())), [0, 1])
 
 
 class Reloaded(WithFiles):
@@ -981,7 +968,7 @@ class Reloaded(WithFiles):
     def test_fault_of_the_configuration(self):
         """It is told in the words of `explain`, and the access point isn't asked."""
         self.run_with()
-        self.write("radio.toml", CONFIG.replace("channel = 6", "channel = 66"))
+        self.write("radio.toml", ONE_NETWORK.replace("channel = 6", "channel = 66"))
         with self.assertRaisesRegex(Fault, "fault C4\n.*channel"):
             running.reload_running("phy0")
         self.assertEqual(self.asked, [])
@@ -1154,7 +1141,7 @@ class Running(WithFiles):
         """By SIGHUP another bridge is started, stations of what is another network now are told to join again, and what
         is set up follows."""
         def later():
-            self.write("radio.toml", CONFIG.replace("channel = 6", "channel = 11"))
+            self.write("radio.toml", ONE_NETWORK.replace("channel = 6", "channel = 11"))
             os.kill(os.getpid(), signal.SIGHUP)
             time.sleep(0.8)
             self.end()
@@ -1168,7 +1155,7 @@ class Running(WithFiles):
     def test_reload_that_changes_nothing_for_stations(self):
         """Nobody is told to join again."""
         def later():
-            self.write("radio.toml", CONFIG.replace("quota = 8", "quota = 9"))
+            self.write("radio.toml", ONE_NETWORK.replace("quota = 8", "quota = 9"))
             os.kill(os.getpid(), signal.SIGHUP)
             time.sleep(0.8)
             self.end()
@@ -1197,7 +1184,7 @@ class Running(WithFiles):
         """The next program reads the configuration as it is then, and so does the script."""
         does = (f"[ \"$request\" != open ] || {{ [ -e {self.folder}/second ] || {{ touch {self.folder}/second; "
                 "sleep 0.3; kill -9 $$; }; echo sending; }")
-        changed = threading.Timer(0.2, self.write, ("radio.toml", CONFIG.replace("channel = 6", "channel = 11")))
+        changed = threading.Timer(0.2, self.write, ("radio.toml", ONE_NETWORK.replace("channel = 6", "channel = 11")))
         changed.start()
         self.run_bridge(lambda: self.end_once_told("networks are on channel"), does=does)
         changed.join()

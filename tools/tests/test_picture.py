@@ -8,6 +8,7 @@ import zlib
 from collections import Counter
 from typing import NamedTuple
 
+import configurations
 import long_run
 from PIL import Image, ImageFont
 from common import (CASES, DEVICES, GUEST, OFFICE, PROGRAM, ROOT, THREE, ToolTest, heard, input_of, needs_program,
@@ -681,10 +682,10 @@ class Overviews(PictureTest):
 
     def of_sixteen(self, *words):
         """The picture of sixteen networks of one name, in which stations ask and beacons are sent."""
-        table = long_run.NETWORK.replace("max_events = 1000000\n", "max_events = 1000000\nrelay = true\naging = true\n")
-        text = "version = 2\nchannel = 6\ninterval = 100\nqueue = 64\n" + "".join(
-            table.format(bssid=long_run.with_colons(long_run.bssid_of(place)), name="a network of a long name 32 W",
-                         dtim=1) for place in range(16))
+        bssids = (long_run.with_colons(long_run.bssid_of(place)) for place in range(16))
+        text = configurations.configuration(
+            *(configurations.network(bssid, "a network of a long name 32 W", relay=True, aging=True, **long_run.SETTINGS)
+              for bssid in bssids), version=2)
         text += "---\n" + f"T\n{heard('40000000', '0000 010402040b16', 'ffffffffffff')}\nT\n" * 500
         for name, written in (("input", text), ("report", run_program(program_input=text))):
             with open(self.path(name), "w", encoding="ascii") as file:

@@ -13,13 +13,13 @@ from live.bridge import STATE, TABLES, Bridge, Signals, words_of
 from live.changes import Changes
 from live.checks import Plan, Wanted, as_set_up, check, check_again, check_rights, missing_wires
 from live.faults import Fault
-from live.keeping import StateFiles, changed_networks
 from live.packets import open_radio
-from live.record import make_record
+from live.recording import make_record
 from live.rights import MOST_MEMORY, end, page_user_of, rights_of
 from live.running import RunFile
 from live.service import Service
 from live.setting_up import SettingUp
+from live.state_files import StateFiles, changed_networks
 from live.telling import ERROR, WARNING, tell
 from live.watching import RadioWatch
 from live.ways import Way

@@ -1,8 +1,9 @@
-//! What the program sends goes to the interfaces here: on the air as `air` says, and by each `wire` in order,
-//! many frames a call, and no longer than is worth it.
+//! What the program sends goes to the interfaces here: by the radio's `monitor` as `air` says, and by each `wire` in
+//! order, many frames a call, and no longer than is worth it.
 pub mod air;
 pub mod counts;
 pub mod gate;
+pub mod monitor;
 pub mod wire;
 
 use crate::control::faults::Fault;
@@ -16,13 +17,16 @@ use crate::outbound::air::scheduler::Place;
 use crate::outbound::air::Transmitter;
 use crate::outbound::counts::{count, Counts};
 use crate::outbound::gate::Gate;
+use crate::outbound::monitor::Monitor;
 use crate::outbound::wire::Wire;
 
 /// Sends the frames of the program's answers by the monitor interface and the wires.
 #[derive(Debug)]
 pub struct Outbound<P> {
     /// What goes on the air.
-    pub air: Transmitter<P>,
+    pub air: Transmitter,
+    /// By what it goes there.
+    pub monitor: Monitor<P>,
     /// By which the radio shows the frames that were acknowledged, where it doesn't by the monitor interface's own.
     acknowledged: Option<P>,
     wires: Vec<Option<Wire<P>>>,
@@ -36,8 +40,8 @@ impl<P: Port> Outbound<P> {
     pub fn new(networks: Vec<Network>, monitor: P, beacons: P, wires: Vec<Option<P>>) -> Outbound<P> {
         let places = networks.iter().enumerate().map(|(place, network)| (network.bssid, place)).collect();
         let wires = wires.into_iter().map(|wire| wire.map(Wire::new)).collect();
-        let air = Transmitter::new(&networks, monitor, beacons);
-        Outbound { air, acknowledged: None, wires, networks, places, counts: Counts::new() }
+        let (air, monitor) = (Transmitter::new(&networks), Monitor::new(monitor, beacons));
+        Outbound { air, monitor, acknowledged: None, wires, networks, places, counts: Counts::new() }
     }
 
     /// The same, with a port of its own for the frames that the radio shows as acknowledged.
@@ -53,7 +57,7 @@ impl<P: Port> Outbound<P> {
     /// What was sent, and what wasn't.
     pub fn counts(&self) -> Counts {
         let mut counts = self.counts.clone();
-        self.air.counts().iter().for_each(|(what, number)| count(&mut counts, what, *number));
+        self.monitor.counts().iter().for_each(|(what, number)| count(&mut counts, what, *number));
         let Unacknowledged { again, lost } = self.air.unacknowledged();
         let of_wires = self.wires.iter().flatten().map(Wire::sent_frames).sum();
         for (what, number) in [
@@ -87,6 +91,7 @@ impl<P: Port> Outbound<P> {
     /// The radio's interface is up again, after so long.
     pub fn radio_came_up(&mut self, after: Nanos) {
         self.air.came_up(after);
+        self.monitor.forget_faults();
         self.acknowledged.iter().for_each(Port::forget_fault);
     }
 
@@ -105,17 +110,17 @@ impl<P: Port> Outbound<P> {
 
     /// All interfaces.
     pub fn gates(&mut self) -> impl Iterator<Item = &mut Gate<P>> {
-        std::iter::once(self.air.gate()).chain(self.wires.iter_mut().flatten().map(|wire| &mut wire.gate))
+        std::iter::once(self.monitor.gate()).chain(self.wires.iter_mut().flatten().map(|wire| &mut wire.gate))
     }
 
     /// Whether nothing waits for any interface.
     pub fn is_idle(&self) -> bool {
-        self.air.is_idle() && self.wires.iter().flatten().all(Wire::is_idle)
+        self.monitor.is_idle(&self.air) && self.wires.iter().flatten().all(Wire::is_idle)
     }
 
     /// Whether something waits for an interface that has room.
     pub fn has_room(&self) -> bool {
-        self.air.has_room() || self.wires.iter().flatten().any(Wire::has_room)
+        self.monitor.has_room(&self.air) || self.wires.iter().flatten().any(Wire::has_room)
     }
 
     /// A network sends a frame on the air; a fault where there is no such network.
@@ -155,9 +160,19 @@ impl<P: Port> Outbound<P> {
         }
     }
 
+    /// The time is this: what was waited for on the air in vain is waited for no more.
+    pub fn expire(&mut self, now: Nanos) {
+        self.monitor.expire(&mut self.air, now);
+    }
+
+    /// Sends the beacons that wait.
+    pub fn flush_beacons(&mut self) {
+        self.monitor.flush_beacons(&mut self.air);
+    }
+
     /// Sends what waits, as far as there is room and until it is that time.
     pub fn flush(&mut self, now: Nanos, until: Nanos) {
-        self.air.flush(now, until);
+        self.monitor.flush(&mut self.air, now, until);
         for wire in self.wires.iter_mut().flatten() {
             wire.flush(now, until, &mut self.counts);
         }

@@ -30,7 +30,7 @@ fn what_is_sent_is_counted() {
     sender.send_on_air(OTHER, unit(OTHER), 0).unwrap();
     sender.send_on_wire(OTHER, vec![0; 14], 0).unwrap();
     sender.flush(0, Nanos::MAX);
-    assert_eq!(sender.air.gate().port.sent.len(), 1);
+    assert_eq!(sender.monitor.gate().port.sent.len(), 1);
     assert_eq!(on_wire(&mut sender), [vec![0; 14]]);
     let told: Vec<_> = sender.counts().into_iter().collect();
     assert_eq!(told, [("sent on the air".to_owned(), 1), ("sent on the wires".to_owned(), 1)]);

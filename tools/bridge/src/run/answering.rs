@@ -146,7 +146,9 @@ impl<P: Port> Running<P> {
     /// A network sends a frame on the air, and behind it what the bridge has to send.
     fn send_on_air(&mut self, bssid: Address, octets: Vec<u8>, time: Nanos) -> Result<(), Fault> {
         if octets.first() == Some(&BEACON) {
-            self.beacons.count(time.saturating_sub(self.ticks.last_due()));
+            if self.radio.is_up() {
+                self.beacons.count(time.saturating_sub(self.ticks.last_due()));
+            }
             self.radio.beacons.given(time);
         }
         let errands = self.stations.answered(bssid, &octets, time);

@@ -27,7 +27,7 @@ impl<P: OfSocket> Bridge<P> {
                     running.given.ticks += 1;
                     running.receive(Token::Acknowledged, &mut self.batch, time)?;
                 }
-                running.outbound.air.expire(time);
+                running.outbound.expire(time);
                 if self.tables_asked && running.tables.may_be_asked() {
                     self.tables_asked = false;
                     self.feeder.feed(Event::Tables);

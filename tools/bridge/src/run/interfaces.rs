@@ -63,7 +63,7 @@ impl<P: OfSocket> Bridge<P> {
     pub(super) fn send(&mut self) -> Result<(), Fault> {
         let reads = self.phase == Phase::Running;
         if let Some(running) = self.running.as_mut().filter(|running| !running.outbound.is_idle()) {
-            running.outbound.air.flush_beacons();
+            running.outbound.flush_beacons();
             let while_it_is = if reads { running.sends_while(self.time) } else { 0..Nanos::MAX };
             for (token, descriptor, is_blocked) in running.flush(self.time, while_it_is) {
                 self.poller.change(descriptor, token, reads, is_blocked)?;

@@ -15,7 +15,7 @@ impl<P: OfSocket> Bridge<P> {
     /// The interfaces are there: frames go, and the first beacon interval begins.
     pub(super) fn begin(&mut self, mut outbound: Outbound<P>) -> Result<(), Fault> {
         let networks = outbound.networks().to_vec();
-        self.poller.add(outbound.air.gate().port.descriptor(), Token::Monitor, true, false)?;
+        self.poller.add(outbound.monitor.gate().port.descriptor(), Token::Monitor, true, false)?;
         let mut ended = BTreeMap::new();
         for (place, network) in networks.iter().enumerate() {
             match outbound.wire(place) {
@@ -46,7 +46,7 @@ impl<P: OfSocket> Bridge<P> {
     pub(super) fn set_filter(&mut self, shown: Shown) -> Result<(), Fault> {
         if let Some(running) = &mut self.running {
             let bssids: Vec<Address> = running.networks.iter().map(|network| network.bssid).collect();
-            let port = &mut running.outbound.air.gate().port;
+            let port = &mut running.outbound.monitor.gate().port;
             let outcome = port.set_filter(&monitor_filter(&bssids, shown));
             outcome.map_err(|fault| Fault::of(format!("{}: no filter", port.interface()), &fault))?;
         }

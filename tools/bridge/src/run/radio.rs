@@ -46,6 +46,11 @@ impl Radio {
         Radio { beacons, tuning, down: None, mostly, drawn: mostly }
     }
 
+    /// Whether its interface is up, as far as is known.
+    pub(super) fn is_up(&self) -> bool {
+        self.down.is_none()
+    }
+
     /// When something is to be looked at.
     pub(super) fn due(&self, time: Nanos) -> Option<Nanos> {
         let down = self.down.as_ref().map(|down| down.look_due);
@@ -102,7 +107,7 @@ impl<P: Port> Running<P> {
             return Ok(());
         }
         down.look_due = time + LOOK_EVERY;
-        let port = &self.outbound.air.gate().port;
+        let port = &self.outbound.monitor.gate().port;
         match port.link() {
             Ok(Link::Up) => {
                 let after = time.saturating_sub(down.since);

@@ -48,6 +48,13 @@ fn ask_until(stage: &Stage, wanted: &str) -> String {
     status
 }
 
+/// How many beacons the status says were sent.
+fn said_as_sent(stage: &Stage) -> u64 {
+    let status = ask(stage, "status");
+    let (_, behind) = status.split_once(r#""beacons":{"sent":"#).unwrap();
+    behind.split_once(',').unwrap().0.parse().unwrap()
+}
+
 /// What the status has to say, and what it said.
 fn agree(found: &[(&str, String)]) {
     assert!(found.iter().all(|(wanted, status)| status.contains(wanted)), "{found:?}");
@@ -62,14 +69,14 @@ fn a_monitor_interface_that_is_gone_ends_all() {
 /// Beacons go again once it is up. What a station was to get meanwhile is late.
 #[test]
 fn a_monitor_interface_that_is_down_for_a_while_ends_nothing() {
-    let (mut found, mut counts) = (Vec::new(), [0; 3]);
+    let (mut found, mut counts, mut said) = (Vec::new(), [0; 3], [0; 2]);
     let (outcome, stage) = run_with(TWO, AIR, |stage| {
         stage.go(Link::Down);
         let down = r#""radio":{"down":0."#;
         found.push((down, ask_until(stage, down)));
-        counts[0] = stage.beacons();
+        (counts[0], said[0]) = (stage.beacons(), said_as_sent(stage));
         thread::sleep(Duration::from_millis(500));
-        counts[1] = stage.beacons();
+        (counts[1], said[1]) = (stage.beacons(), said_as_sent(stage));
         *stage.air_link.lock().unwrap() = Link::Up;
         let up = r#""radio":{"down":null"#;
         found.push((up, ask_until(stage, up)));
@@ -82,6 +89,7 @@ fn a_monitor_interface_that_is_down_for_a_while_ends_nothing() {
     assert_eq!(outcome, Ok(()));
     agree(&found);
     assert!(counts[0] == counts[1] && counts[2] > counts[1] + 4, "{counts:?}");
+    assert_eq!(said[0], said[1]);
     assert_eq!(*stage.sent_on_wire.lock().unwrap(), [data()]);
 }
 

@@ -66,7 +66,7 @@ impl<P: Port> Running<P> {
             poller.remove(wire.port.descriptor())?;
             wire.port.close();
             wire.unblock();
-            wire.set_waited_for(false);
+            wire.settle();
         }
         self.ended.entry(place).or_insert(Ended { since: None, lost: 0 }).since = Some(time);
         Ok(())
@@ -85,7 +85,7 @@ impl<P: Port> Running<P> {
                     Some(port) => port,
                     None => return Ok(()),
                 },
-                _ => &mut self.outbound.air.gate().port,
+                _ => &mut self.outbound.monitor.gate().port,
             };
             let number = match port.receive(batch) {
                 Ok(number) => number,
@@ -180,7 +180,7 @@ impl<P: Port> Running<P> {
 
     /// Reads the interfaces no more.
     pub(super) fn stop_reading(&mut self, poller: &Poller) -> Result<(), Fault> {
-        poller.change(self.outbound.air.gate().port.descriptor(), Token::Monitor, false, false)?;
+        poller.change(self.outbound.monitor.gate().port.descriptor(), Token::Monitor, false, false)?;
         if let Some(port) = self.outbound.acknowledged() {
             poller.change(port.descriptor(), Token::Acknowledged, false, false)?;
         }
@@ -191,7 +191,7 @@ impl<P: Port> Running<P> {
         }
         self.outbound.gates().for_each(|gate| {
             gate.unblock();
-            gate.set_waited_for(false);
+            gate.settle();
         });
         Ok(())
     }

@@ -140,7 +140,7 @@ impl<P: Port> Running<P> {
 
     pub(super) fn unblock(&mut self, token: Token) {
         match token {
-            Token::Monitor => self.outbound.air.gate().unblock(),
+            Token::Monitor => self.outbound.monitor.gate().unblock(),
             Token::Wire(place) => {
                 if let Some(wire) = self.outbound.wire(place) {
                     wire.unblock();

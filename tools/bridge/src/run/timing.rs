@@ -82,10 +82,10 @@ impl<P: Port> Running<P> {
         for token in std::iter::once(Token::Monitor).chain((0..self.networks.len()).map(Token::Wire)) {
             let gate = match token {
                 Token::Wire(place) => self.outbound.wire(place),
-                _ => Some(self.outbound.air.gate()),
+                _ => Some(self.outbound.monitor.gate()),
             };
             if let Some(gate) = gate.filter(|gate| !gate.is_settled()) {
-                gate.set_waited_for(gate.is_blocked());
+                gate.settle();
                 changed.push((token, gate.port.descriptor(), gate.is_blocked()));
             }
         }

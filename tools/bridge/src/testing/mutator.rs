@@ -7,6 +7,7 @@ use crate::inbound::filter::{monitor_filter, Shown};
 use crate::inbound::judging::{judge_wired, Judge, Judged};
 use crate::network::Network;
 use crate::outbound::air::Transmitter;
+use crate::outbound::monitor::Monitor;
 use crate::stations::{Errand, Stations};
 use crate::testing::samples::{data, network, radiotap, Recorder, Seeded, Unit, OTHER, OURS, STATION};
 
@@ -155,7 +156,8 @@ fn the_way_to_the_air() {
     ];
     let networks = [Network { rates: vec![0x82, 0x84, 12, 108], ..network(OURS) }, network(OTHER)];
     let (mut seeded, mut time) = (Seeded(5), 0);
-    let mut air = Transmitter::new(&networks, Recorder::default(), Recorder::default());
+    let mut air = Transmitter::new(&networks);
+    let mut monitor = Monitor::new(Recorder::default(), Recorder::default());
     let (mut given, mut again, mut beacons) = (0u64, 0u64, 0u64);
     for _ in 0..INPUTS / 2 {
         let mut octets = mutated(&mut seeded, &good);
@@ -180,27 +182,27 @@ fn the_way_to_the_air() {
             }
         }
         if seeded.below(50) == 0 {
-            air.expire(time);
+            monitor.expire(&mut air, time);
         }
         if seeded.below(10) == 0 {
             air.reports_read();
         }
-        air.gate().port.unsent = [0, 100][seeded.below(2)];
-        air.flush_beacons();
-        air.flush(time, u64::MAX);
-        let sent = &mut air.gate().port.sent;
+        monitor.gate().port.unsent = [0, 100][seeded.below(2)];
+        monitor.flush_beacons(&mut air);
+        monitor.flush(&mut air, time, u64::MAX);
+        let sent = &mut monitor.gate().port.sent;
         again +=
             sent.drain(..).filter(|packet| packet.get(SENDING_LEN + 1).map_or(false, |f| f & 0x08 != 0)).count() as u64;
     }
     air.end();
-    air.gate().port.unsent = 0;
+    monitor.gate().port.unsent = 0;
     while let Some(due) = air.due() {
-        air.expire(due);
-        air.flush(due, u64::MAX);
+        monitor.expire(&mut air, due);
+        monitor.flush(&mut air, due, u64::MAX);
     }
     let unsent: u64 = air.accounts().iter().flat_map(|account| account.unsent.values()).sum();
     assert_eq!(air.sent() - beacons + unsent, given + air.unacknowledged().again);
-    assert!(again > 1000 && air.is_idle(), "{again}");
+    assert!(again > 1000 && monitor.is_idle(&air), "{again}");
     assert!(air.accounts().iter().all(|account| account.waiting == 0));
 }
 

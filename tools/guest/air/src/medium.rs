@@ -12,13 +12,15 @@ use std::collections::{BTreeMap, HashMap};
 use std::hash::{Hash, Hasher};
 use std::rc::Rc;
 
+use tx_time::{DIFS, SLOT};
+
 use crate::airtime::{Airtime, Airtimes, Flow};
 use crate::exchange::Exchange;
 use crate::frame::{Address, Kind};
 use crate::hwsim::{Attempt, Sent};
 use crate::owners::Owners;
 use crate::queues::{Discipline, Queue};
-use crate::rate::{Rate, DIFS, SLOT};
+use crate::rate::Rate;
 use crate::rules::{Lost, Radio, Rules, Try};
 
 const LEAST_WINDOW: [u64; 2] = [15, 31];

@@ -40,3 +40,22 @@ pub struct Account {
     /// How many frames never went, and why.
     pub unsent: BTreeMap<Unsent, u64>,
 }
+
+impl Account {
+    /// A frame of so many octets waits.
+    pub(super) fn count_in(&mut self, octets: usize) {
+        self.waiting += 1;
+        self.octets += octets;
+    }
+
+    /// A frame of so many octets waits no more.
+    pub(super) fn count_out(&mut self, octets: usize) {
+        self.waiting -= 1;
+        self.octets -= octets;
+    }
+
+    /// A frame never went.
+    pub(super) fn count_unsent(&mut self, why: Unsent) {
+        *self.unsent.entry(why).or_default() += 1;
+    }
+}

@@ -1,13 +1,15 @@
 use super::*;
 use crate::formats::frames::{Address, BEACON};
 use crate::formats::radiotap::{captured, Outcome};
+use crate::inbound::frame::LONGEST;
 use crate::os::clock::{MILLISECOND, SECOND};
 use crate::outbound::air::account::Unsent;
 use crate::outbound::air::air_time::Size;
 use crate::outbound::air::dequeue::{FEW, LOOK_EVERY};
-use crate::outbound::air::enqueue::{MOST_FOR_STATION, MOST_OCTETS};
 use crate::outbound::air::frame::{MOST_LIFETIME, PROBE_RESPONSE};
 use crate::outbound::air::in_flight::MOST_OUT;
+use crate::outbound::air::queue::{MOST_FOR_STATION, MOST_OCTETS};
+use crate::outbound::monitor::Monitor;
 use crate::testing::samples::{network, Recorder, Unit, OTHER, OURS, STATION, STRANGER};
 
 const RATES: [u8; 12] = [0x82, 0x84, 0x8b, 0x96, 12, 18, 24, 36, 48, 72, 96, 108];
@@ -33,9 +35,10 @@ impl Seen {
     }
 }
 
-/// A transmitter, with a clock that is set by hand.
+/// A transmitter and its interface, with a clock that is set by hand.
 struct Driver {
-    air: Transmitter<Recorder>,
+    air: Transmitter,
+    monitor: Monitor<Recorder>,
     now: Nanos,
     on_air: VecDeque<Seen>,
 }
@@ -45,8 +48,8 @@ fn driver(weights: [u8; 2]) -> Driver {
         Network { rates: RATES.to_vec(), weight: weights[0], ..network(OURS) },
         Network { rates: OTHERS_RATES.to_vec(), weight: weights[1], ..network(OTHER) },
     ];
-    let air = Transmitter::new(&networks, Recorder::default(), Recorder::default());
-    Driver { air, now: SECOND, on_air: VecDeque::new() }
+    let monitor = Monitor::new(Recorder::default(), Recorder::default());
+    Driver { air: Transmitter::new(&networks), monitor, now: SECOND, on_air: VecDeque::new() }
 }
 
 fn seen(packets: &mut Vec<Vec<u8>>) -> Vec<Seen> {
@@ -65,13 +68,27 @@ impl Driver {
 
     /// What goes on the air now.
     fn flush(&mut self) -> Vec<Seen> {
-        self.air.flush_beacons();
-        self.air.flush(self.now, Nanos::MAX);
-        seen(&mut self.air.gate.port.sent)
+        self.monitor.flush_beacons(&mut self.air);
+        self.flush_others();
+        seen(&mut self.monitor.gate.port.sent)
+    }
+
+    /// What is no beacon goes on the air now.
+    fn flush_others(&mut self) {
+        self.monitor.flush(&mut self.air, self.now, Nanos::MAX);
+    }
+
+    /// What was waited for in vain until then isn't any more.
+    fn expire(&mut self, now: Nanos) {
+        self.monitor.expire(&mut self.air, now);
+    }
+
+    fn has_room(&self) -> bool {
+        self.monitor.has_room(&self.air)
     }
 
     fn beacons(&mut self) -> Vec<Seen> {
-        seen(&mut self.air.beacons.gate.port.sent)
+        seen(&mut self.monitor.beacons.port.sent)
     }
 
     /// The radio tells of a frame, at once.
@@ -129,7 +146,7 @@ impl Driver {
     }
 
     fn unsent(&self, place: Place, why: Unsent) -> u64 {
-        self.air.accounts[place].unsent.get(&why).copied().unwrap_or(0)
+        self.air.queue.accounts[place].unsent.get(&why).copied().unwrap_or(0)
     }
 }
 
@@ -281,10 +298,10 @@ fn while_a_sample_is_on_the_air_frames_wait_in_order_and_not_for_ever() {
     assert!(driver.air.awaits_outcomes());
     let due = driver.air.due().unwrap();
     assert_eq!(due, driver.now + MOST_OUT);
-    driver.air.expire(due - 1);
+    driver.expire(due - 1);
     assert_eq!(driver.flush(), []);
     driver.now = due;
-    driver.air.expire(due);
+    driver.expire(due);
     assert_eq!(numbers(&driver.flush()), [3]);
 }
 
@@ -295,10 +312,10 @@ fn no_more_frames_wait_for_a_station_than_there_is_room_for_and_the_oldest_are_d
     driver.join(0, STATION);
     (0..200).for_each(|number| {
         driver.send(0, unit(OURS, STATION, number));
-        driver.air.flush(driver.now, Nanos::MAX);
+        driver.flush_others();
     });
     assert_eq!(numbers(&driver.flush()), [0]);
-    assert_eq!(driver.air.accounts[0].waiting, MOST_FOR_STATION);
+    assert_eq!(driver.air.queue.accounts[0].waiting, MOST_FOR_STATION);
     assert_eq!(driver.unsent(0, Unsent::Crowded), 199 - MOST_FOR_STATION as u64);
     driver.now += MILLISECOND;
     let sample = Seen { rate: 22, retries: 1, frame: unit(OURS, STATION, 0) };
@@ -314,17 +331,17 @@ fn a_radio_that_tells_nothing_is_given_all_at_the_lowest_rate_as_it_sends() {
         driver.send(0, long(OURS, STRANGER, number));
         driver.flush();
         driver.now += 300 * MILLISECOND;
-        driver.air.expire(driver.now);
+        driver.expire(driver.now);
     }
     (0..3).for_each(|number| driver.send(0, long(OURS, STRANGER, number)));
-    driver.air.gate.port.unsent = 5000;
+    driver.monitor.gate.port.unsent = 5000;
     assert_eq!(driver.flush().len(), 1);
     driver.now += 10 * MILLISECOND;
-    driver.air.expire(driver.now);
+    driver.expire(driver.now);
     assert_eq!(driver.flush(), []);
-    driver.air.gate.port.unsent = 0;
+    driver.monitor.gate.port.unsent = 0;
     driver.now += LOOK_EVERY;
-    driver.air.expire(driver.now);
+    driver.expire(driver.now);
     let sent = driver.flush();
     assert_eq!((sent.len(), sent[0].rate), (1, 2));
 }
@@ -346,10 +363,10 @@ fn a_beacon_goes_before_all_that_waits_and_nothing_that_came_behind_it_before_it
     let group = of_network(0x08, OURS, Address::BROADCAST, 3, vec![0; 8]);
     driver.send(0, group);
     driver.send(0, of_network(BEACON, OURS, Address::BROADCAST, 4, vec![0; 30]));
-    driver.air.beacons.gate.port.room = Some(0);
+    driver.monitor.beacons.port.room = Some(0);
     driver.send(0, unit(OURS, STATION, 5));
     assert_eq!((driver.flush(), driver.beacons()), (vec![], vec![]));
-    driver.air.beacons.gate.port.room = None;
+    driver.monitor.beacons.port.room = None;
     let sent = driver.flush();
     assert_eq!(numbers(&driver.beacons()), [4]);
     assert_eq!((sent.len(), numbers(&sent).contains(&3)), (2, true));
@@ -358,12 +375,12 @@ fn a_beacon_goes_before_all_that_waits_and_nothing_that_came_behind_it_before_it
 #[test]
 fn of_beacons_that_find_no_room_the_last_ones_are_kept() {
     let mut driver = driver([1, 1]);
-    driver.air.beacons.gate.port.room = Some(0);
+    driver.monitor.beacons.port.room = Some(0);
     for number in 0..50 {
         driver.send(0, of_network(BEACON, OURS, Address::BROADCAST, number, vec![]));
         driver.flush();
     }
-    driver.air.beacons.gate.port.room = None;
+    driver.monitor.beacons.port.room = None;
     driver.flush();
     assert_eq!(numbers(&driver.beacons()), [46, 47, 48, 49]);
 }
@@ -392,7 +409,7 @@ fn networks_take_turns_by_time_on_the_air() {
         let mut used = [0; 2];
         for round in 0..4000u16 {
             for place in 0..2 {
-                while driver.air.accounts[place].waiting < 4 {
+                while driver.air.queue.accounts[place].waiting < 4 {
                     let bssid = [OURS, OTHER][place];
                     let body = vec![0; if place == 0 { LONG } else { 200 }];
                     driver.send(place, of_network(0x08, bssid, STRANGER, round, body));
@@ -418,7 +435,7 @@ fn the_radio_has_no_more_at_once_than_it_sends_in_eight_milliseconds() {
     (0..40).for_each(|number| driver.send(0, long(OURS, STATION, number)));
     let sent = driver.flush();
     assert!((8..=17).contains(&sent.len()), "{}", sent.len());
-    assert!(!driver.air.has_room() && driver.air.awaits_outcomes() && !driver.air.is_idle());
+    assert!(!driver.has_room() && driver.air.awaits_outcomes() && !driver.monitor.is_idle(&driver.air));
     for seen in &sent {
         driver.now += MILLISECOND / 2;
         driver.reported(0, seen, 0, true);
@@ -438,7 +455,7 @@ fn a_station_whose_frame_is_out_too_long_is_given_nothing_more() {
     driver.send(0, long(OURS, STATION, 9));
     let first = driver.flush();
     driver.now += 2 * MILLISECOND;
-    driver.air.gate.port.unsent = 1500;
+    driver.monitor.gate.port.unsent = 1500;
     driver.send(0, long(OURS, STATION, 10));
     driver.send(1, unit(OTHER, STRANGER, 7));
     assert_eq!(numbers(&driver.flush()), [7]);
@@ -457,13 +474,13 @@ fn a_frame_that_left_the_radio_keeps_none_waiting_until_outcomes_were_looked_at(
     let first = driver.flush();
     driver.now += 2 * MILLISECOND;
     driver.send(0, long(OURS, STATION, 10));
-    assert!(!driver.air.is_unsettled);
+    assert!(!driver.air.in_flight.is_unknown(0, STATION));
     let second = driver.flush();
     assert_eq!(numbers(&second), [10]);
-    assert!(driver.air.is_unsettled);
+    assert!(driver.air.in_flight.is_unknown(0, STATION));
     driver.reported(0, &second[0], 0, true);
     driver.air.reports_read();
-    assert!(!driver.air.is_unsettled);
+    assert!(!driver.air.in_flight.is_unknown(0, STATION));
     driver.now += 2 * MILLISECOND;
     driver.send(0, long(OURS, STATION, 11));
     assert_eq!(driver.flush(), []);
@@ -479,7 +496,7 @@ fn behind_a_question_of_the_bridge_frames_go_once_it_is_told_of() {
     driver.air.send_own(0, crate::stations::own_frames::null(OURS, STATION, 2057), 3, driver.now);
     let asked = driver.flush();
     assert_eq!((asked.len(), asked[0].rate, asked[0].retries), (1, 2, 3));
-    driver.air.gate.port.unsent = 100;
+    driver.monitor.gate.port.unsent = 100;
     driver.now += 20 * MILLISECOND;
     driver.send(0, of_network(0xb0, OURS, STATION, 9, vec![0, 0, 2, 0, 0, 0]));
     assert_eq!(driver.flush(), []);
@@ -493,16 +510,16 @@ fn frames_of_which_the_radio_never_tells_leave_it_room() {
     driver.at_54();
     (0..40).for_each(|number| driver.send(0, deauthentication(number)));
     let sent = driver.flush().len();
-    driver.air.gate.port.unsent = 100;
+    driver.monitor.gate.port.unsent = 100;
     driver.now += MOST_OUT - 1;
-    driver.air.expire(driver.now);
+    driver.expire(driver.now);
     assert_eq!(driver.flush(), []);
     driver.now += 1;
-    driver.air.expire(driver.now);
+    driver.expire(driver.now);
     assert_eq!(driver.flush().len(), sent);
-    driver.air.gate.port.unsent = 0;
+    driver.monitor.gate.port.unsent = 0;
     driver.now += 100 * MILLISECOND;
-    driver.air.expire(driver.now);
+    driver.expire(driver.now);
     assert_eq!(driver.flush().len(), sent);
 }
 
@@ -525,13 +542,13 @@ fn what_waited_for_a_station_before_it_joined_goes_before_what_comes_behind() {
 #[test]
 fn a_refused_frame_is_counted_and_the_next_is_sent() {
     let mut driver = driver([1, 1]);
-    driver.air.gate.port.longest = Some(60);
+    driver.monitor.gate.port.longest = Some(60);
     for number in 1..5 {
         let body = vec![0; if number % 4 == 1 || number == 4 { 4 } else { 60 }];
         driver.send(0, of_network(0x08, OURS, STATION, number, body));
     }
     assert_eq!(numbers(&driver.run(usize::MAX)), [1, 4]);
-    assert_eq!(driver.air.counts()["refused by mon0: Message too long"], 2);
+    assert_eq!(driver.monitor.counts()["refused by mon0: Message too long"], 2);
     assert_eq!(driver.unsent(0, Unsent::Refused), 2);
 }
 
@@ -541,32 +558,32 @@ fn a_refused_frame_is_counted_and_the_next_is_sent() {
 fn what_waits_for_an_interface_that_is_down_goes_once_it_is_up_unless_it_is_late() {
     for (down, lost) in [(LONGEST / 2, 0), (LONGEST * 2, 2)] {
         let mut driver = driver([1, 1]);
-        driver.air.gate.port.is_down = true;
-        driver.air.beacons.gate.port.is_down = true;
+        driver.monitor.gate.port.is_down = true;
+        driver.monitor.beacons.port.is_down = true;
         driver.send(0, deauthentication(3));
         driver.send(1, unit(OTHER, STATION, 4));
         assert_eq!((driver.flush(), driver.air.is_down(), driver.air.chosen.len()), (vec![], true, 2));
         driver.send(0, of_network(BEACON, OURS, Address::BROADCAST, 5, Vec::new()));
         driver.send(1, of_network(0xc0, OTHER, STATION, 6, vec![8, 0]));
-        assert_eq!((driver.flush(), driver.beacons(), driver.air.has_room()), (vec![], vec![], false));
+        assert_eq!((driver.flush(), driver.beacons(), driver.has_room()), (vec![], vec![], false));
         driver.now += down;
-        driver.air.gate.port.is_down = false;
-        driver.air.beacons.gate.port.is_down = false;
+        driver.monitor.gate.port.is_down = false;
+        driver.monitor.beacons.port.is_down = false;
         driver.air.came_up(down);
         driver.send(0, of_network(BEACON, OURS, Address::BROADCAST, 7, Vec::new()));
         let sent = driver.run(3);
         assert_eq!(numbers(&sent), if lost > 0 { vec![6] } else { vec![3, 4, 6] });
         assert_eq!(numbers(&driver.beacons()), [7]);
         assert_eq!(driver.unsent(0, Unsent::Late) + driver.unsent(1, Unsent::Late), lost);
-        assert_eq!(driver.air.counts()["refused by mon0: Network is down"], 1);
-        assert!(!driver.air.is_down() && driver.air.chosen.is_empty() && driver.air.scheduler.is_empty());
+        assert_eq!(driver.monitor.counts()["refused by mon0: Network is down"], 1);
+        assert!(!driver.air.is_down() && driver.air.chosen.is_empty() && driver.air.queue.scheduler.is_empty());
     }
 }
 
 #[test]
 fn what_waits_for_room_goes_later_and_late_units_are_dropped() {
     let mut driver = driver([1, 1]);
-    driver.air.gate.port.room = Some(1);
+    driver.monitor.gate.port.room = Some(1);
     driver.send(0, unit(OURS, STATION, 1));
     let first = driver.flush();
     assert_eq!(numbers(&first), [1]);
@@ -574,12 +591,12 @@ fn what_waits_for_room_goes_later_and_late_units_are_dropped() {
     driver.send(0, unit(OURS, STATION, 2));
     driver.send(1, of_network(0xc0, OTHER, STRANGER, 3, vec![4, 0]));
     assert_eq!(driver.flush(), []);
-    assert!(driver.air.gate().is_blocked() && !driver.air.has_room());
+    assert!(driver.monitor.gate().is_blocked() && !driver.has_room());
     driver.send(0, unit(OURS, STATION, 4));
     driver.now += MOST_LIFETIME + 1;
     driver.send(0, unit(OURS, STATION, 5));
-    driver.air.gate().port.room = None;
-    driver.air.gate().unblock();
+    driver.monitor.gate().port.room = None;
+    driver.monitor.gate().unblock();
     let sent = driver.run(usize::MAX);
     let numbers = numbers(&sent);
     assert!(numbers.contains(&3) && numbers.contains(&5) && !numbers.contains(&4), "{numbers:?}");
@@ -607,28 +624,28 @@ fn units_that_are_late_for_a_while_go_all_the_same() {
 #[test]
 fn what_waits_of_a_network_is_bounded_and_the_longest_queue_loses_its_oldest() {
     let mut driver = driver([1, 1]);
-    driver.air.gate.port.room = Some(0);
+    driver.monitor.gate.port.room = Some(0);
     driver.send(0, of_network(0x08, OURS, STATION, 0, vec![0; 4000]));
     for number in 0..4000u16 {
         let [high, low] = (number % 40).to_be_bytes();
         driver.send(0, of_network(0x08, OURS, Address::of([2, 9, 0, 0, high, low]), number, vec![0; 4000]));
         driver.send(1, of_network(0x08, OTHER, Address::of([2, 9, 0, 0, high, low]), number, vec![0; 10]));
     }
-    let Account { waiting, octets, .. } = driver.air.accounts[0].clone();
+    let Account { waiting, octets, .. } = driver.air.queue.accounts[0].clone();
     assert!(octets <= MOST_OCTETS && waiting == MOST_OCTETS / 4024, "{waiting} {octets}");
     assert_eq!(driver.unsent(0, Unsent::Full) + driver.unsent(0, Unsent::Crowded) + waiting as u64, 4001);
     assert_eq!(driver.unsent(1, Unsent::Full), 0);
-    assert_eq!(driver.air.scheduler.waiting(0, Receiver::Station(STATION)), 1);
+    assert_eq!(driver.air.queue.scheduler.waiting(0, Receiver::Station(STATION)), 1);
 }
 
 #[test]
 fn what_a_network_used_of_the_air_is_counted_with_all_its_tries() {
     let mut driver = driver([1, 1]);
     driver.at_54();
-    let before = driver.air.accounts[0].used;
+    let before = driver.air.queue.accounts[0].used;
     driver.send(0, long(OURS, STATION, 9));
     let sent = driver.flush();
     driver.reported(0, &sent[0], 6, true);
     let size = Size { octets: sent[0].frame.len(), rate: 108, is_acknowledged: true };
-    assert_eq!(driver.air.accounts[0].used - before, size.cost().sending(7));
+    assert_eq!(driver.air.queue.accounts[0].used - before, size.cost().sending(7));
 }

@@ -1,27 +1,12 @@
-//! How long a frame takes on the air of the 2.4 GHz band: what shares of the air are reckoned by.
+//! What a frame takes of the air of the 2.4 GHz band: what shares of the air are reckoned by.
 //!
-//! Times are those of IEEE Std 802.11-2016 (16.3.4 and 18.5.3.2; tables 15-4, 16-4 and 18-5), with long preambles and
-//! long slots. A frame is sent for its preamble and its octets, and for SIFS and the acknowledgement where one is
-//! awaited: by this shares are reckoned. A try takes DIFS and half of its contention window besides, which doubles with
-//! each try (10.3.3): by this one reckons how long to try.
+//! A frame is sent for its preamble and its octets, and for SIFS and the acknowledgement where one is awaited (the crate
+//! `tx_time`): by this shares are reckoned. A try takes DIFS and half of its contention window besides, which doubles
+//! with each try (IEEE Std 802.11-2016, 10.3.3): by this one reckons how long to try.
+use tx_time::{is_spread, of_acknowledgement, of_frame, DIFS, SLOT};
+
 use crate::os::clock::Nanos;
 
-const MICROSECOND: Nanos = 1000;
-const SLOT: Nanos = 20 * MICROSECOND;
-const SIFS: Nanos = 10 * MICROSECOND;
-const DIFS: Nanos = SIFS + 2 * SLOT;
-const LONG_PREAMBLE: Nanos = 192 * MICROSECOND;
-const OFDM_PREAMBLE: Nanos = 20 * MICROSECOND;
-const OFDM_SYMBOL: Nanos = 4 * MICROSECOND;
-const SIGNAL_EXTENSION: Nanos = 6 * MICROSECOND;
-/// The service field and the tail, in bits.
-const OFDM_BITS: u64 = 16 + 6;
-const FCS_LEN: usize = 4;
-const ACK_LEN: usize = 14;
-/// The rates of DSSS and HR/DSSS in units of 500 kb/s; all others are of OFDM.
-const SPREAD: [u8; 4] = [2, 4, 11, 22];
-/// The mandatory rates of OFDM, at which acknowledgements are sent (10.7.6.5.2).
-const MANDATORY: [u8; 3] = [12, 24, 48];
 const LEAST_WINDOW: [u64; 2] = [15, 31];
 const MOST_WINDOW: u64 = 1023;
 
@@ -39,17 +24,9 @@ pub struct Size {
 impl Size {
     /// What it takes of the air, reckoned once for all that is asked of it.
     pub fn cost(self) -> Cost {
-        let once = airtime(self.rate, self.octets) + self.acknowledgement();
+        let acknowledgement = if self.is_acknowledged { of_acknowledgement(self.rate) } else { 0 };
+        let once = of_frame(self.rate, self.octets) + acknowledgement;
         Cost { once, window: LEAST_WINDOW[usize::from(is_spread(self.rate))] }
-    }
-
-    fn acknowledgement(self) -> Nanos {
-        if !self.is_acknowledged {
-            return 0;
-        }
-        let mandatory: &[u8] = if is_spread(self.rate) { &SPREAD } else { &MANDATORY };
-        let rate = mandatory.iter().copied().filter(|rate| *rate <= self.rate).max().unwrap_or(self.rate);
-        SIFS + airtime(rate, ACK_LEN - FCS_LEN)
     }
 }
 
@@ -103,22 +80,6 @@ fn wider(window: u64) -> u64 {
     (2 * window + 1).min(MOST_WINDOW)
 }
 
-/// How long a frame is on the air.
-fn airtime(rate: u8, octets: usize) -> Nanos {
-    let bits = 8 * (octets + FCS_LEN) as u64;
-    let rate = u64::from(rate.max(1));
-    if is_spread(rate as u8) {
-        return LONG_PREAMBLE + bits * 2 * MICROSECOND / rate;
-    }
-    let bits_of_symbol = 2 * rate;
-    let symbols = (OFDM_BITS + bits + bits_of_symbol - 1) / bits_of_symbol;
-    OFDM_PREAMBLE + OFDM_SYMBOL * symbols + SIGNAL_EXTENSION
-}
-
-fn is_spread(rate: u8) -> bool {
-    SPREAD.contains(&rate)
-}
-
 #[cfg(test)]
 mod tests {
     use super::*;
@@ -130,25 +91,6 @@ mod tests {
 
     fn cost(octets: usize, rate: u8) -> Cost {
         size(octets, rate).cost()
-    }
-
-    #[test]
-    fn frames_take_as_long_as_the_standard_says() {
-        // 1,500 octets with the check sequence at 1 Mb/s: 192 and 12,000 microseconds.
-        assert_eq!(airtime(2, 1496), 12_192_000);
-        assert_eq!(airtime(22, 1496), 192_000 + 1_090_909);
-        // At 54 Mb/s 216 bits a symbol: 12,022 bits are 56 symbols. At 6 Mb/s 24 bits: 501.
-        assert_eq!(airtime(108, 1496), 20_000 + 56 * 4_000 + 6_000);
-        assert_eq!(airtime(12, 1496), 20_000 + 501 * 4_000 + 6_000);
-    }
-
-    #[test]
-    fn acknowledgements_are_sent_at_mandatory_rates() {
-        // At 24 Mb/s 134 bits are two symbols, at 6 Mb/s six.
-        assert_eq!(size(0, 108).acknowledgement(), 10_000 + 20_000 + 8_000 + 6_000);
-        assert_eq!(size(0, 18).acknowledgement(), 10_000 + 20_000 + 24_000 + 6_000);
-        assert_eq!(size(0, 2).acknowledgement(), 10_000 + 192_000 + 112_000);
-        assert_eq!(Size { is_acknowledged: false, ..size(0, 2) }.acknowledgement(), 0);
     }
 
     #[test]
@@ -164,7 +106,7 @@ mod tests {
 
     #[test]
     fn seven_tries_of_a_long_unit_fit_25_milliseconds_at_54_megabits_and_two_at_one() {
-        let most = 25_200 * MICROSECOND;
+        let most = 25 * MILLISECOND + MILLISECOND / 5;
         assert_eq!(cost(1436, 108).tries_within(most, 2, 11), 7);
         assert_eq!(cost(1436, 2).tries_within(most, 2, 11), 2);
         assert_eq!(cost(2400, 2).tries_within(most, 2, 11), 2);

@@ -1,77 +1,53 @@
-//! Beacons: they go at once, by a socket of their own.
+//! The beacons that wait, apart from all other frames.
 use std::collections::VecDeque;
 
-use crate::control::faults::is_down;
-use crate::os::sockets::{Port, AT_A_TIME};
-use crate::outbound::counts::{count_refused, Counts};
-use crate::outbound::gate::Gate;
+use super::Transmitter;
 
-/// The beacons that wait for room.
+/// The beacons that wait, as packets.
 #[derive(Debug)]
-pub struct Beacons<P> {
-    pub(super) gate: Gate<P>,
-    frames: VecDeque<Vec<u8>>,
+pub struct Beacons {
+    packets: VecDeque<Vec<u8>>,
     most: usize,
 }
 
-/// What came of those that waited.
-#[derive(Debug, Default)]
-pub struct Flushed {
-    /// How many went.
-    pub sent: u64,
-    /// Whether the interface is down, which refused the others.
-    pub is_down: bool,
-}
-
-impl<P: Port> Beacons<P> {
+impl Beacons {
     /// None waits yet of so many networks.
-    pub fn new(port: P, networks: usize) -> Beacons<P> {
-        Beacons { gate: Gate::new(port), frames: VecDeque::new(), most: 2 * networks }
+    pub fn new(networks: usize) -> Beacons {
+        Beacons { packets: VecDeque::new(), most: 2 * networks }
     }
 
     /// A beacon waits, two of each network at most: older ones are worth nothing beside it.
-    pub fn push(&mut self, octets: Vec<u8>) {
-        if self.frames.len() >= self.most {
-            self.frames.pop_front();
+    pub fn push(&mut self, packet: Vec<u8>) {
+        if self.packets.len() >= self.most {
+            self.packets.pop_front();
         }
-        self.frames.push_back(octets);
+        self.packets.push_back(packet);
     }
 
     /// Whether none waits.
     pub fn is_empty(&self) -> bool {
-        self.frames.is_empty()
+        self.packets.is_empty()
+    }
+}
+
+impl Transmitter {
+    /// Whether beacons wait.
+    pub fn has_beacons(&self) -> bool {
+        !self.beacons.is_empty()
     }
 
-    /// Whether one waits that has room.
-    pub fn has_room(&self) -> bool {
-        !self.frames.is_empty() && !self.gate.is_blocked()
+    /// The beacons that wait, as packets, in their order.
+    pub fn beacons(&self) -> impl Iterator<Item = &[u8]> {
+        self.beacons.packets.iter().map(Vec::as_slice)
     }
 
-    /// The interface is up again.
-    pub fn forget_fault(&self) {
-        self.gate.port.forget_fault();
+    /// The radio was given the first so many of the beacons.
+    pub fn gave_beacons(&mut self, number: usize) {
+        self.sent += self.beacons.packets.drain(..number).count() as u64;
     }
 
-    /// Sends those that wait.
-    pub fn flush(&mut self, counts: &mut Counts) -> Flushed {
-        let mut flushed = Flushed::default();
-        self.gate.unblock();
-        while self.has_room() {
-            let mut frames: [&[u8]; AT_A_TIME] = [&[]; AT_A_TIME];
-            frames.iter_mut().zip(&self.frames).for_each(|(frame, beacon)| *frame = beacon);
-            let number = self.frames.len().min(AT_A_TIME);
-            match self.gate.send(&frames[..number]) {
-                Ok(number) => {
-                    self.frames.drain(..number);
-                    flushed.sent += number as u64;
-                }
-                Err(fault) => {
-                    let beacon = self.frames.pop_front();
-                    flushed.is_down |= is_down(&fault);
-                    count_refused(&self.gate, beacon.map_or(0, |beacon| beacon.len()), &fault, counts);
-                }
-            }
-        }
-        flushed
+    /// The interface refused the first beacon: it is dropped. Answers how many octets its packet had.
+    pub fn refused_beacon(&mut self) -> usize {
+        self.beacons.packets.pop_front().map_or(0, |packet| packet.len())
     }
 }

@@ -1,10 +1,30 @@
 //! What the radio was given and hasn't told of yet, and whether it is given more: as much as it sends in some
-//! milliseconds.
+//! milliseconds. A frame that the radio has can't be overtaken by another network's, so that is bounded by the clock.
 //!
-//! A frame that the radio has can't be overtaken by another network's. So what it has at once is bounded by the clock:
-//! by the last outcomes one knows how long the radio takes for what is reckoned, others' turns on the air included. One
-//! frame it always has. A radio that lets newer frames go before one that it has had for long is given nothing more
-//! until that one went. Nothing is sent or timed here.
+//! Each frame is given with a reckoned time: what it is expected to take of the radio. The rules, of any order of
+//! calls:
+//!
+//! 1. *Pace*: how much time of the clock goes by in reckoned time, by the last outcomes. Each weighs an eighth. An
+//!    outcome's time of the clock began when its frame was given, or at the latest outcome before it if that was
+//!    later. It counts for at most 100 ms. The pace is a quarter at least.
+//! 2. *Room*: a radio that has nothing is given any frame. Another is given a frame if that and all it has take at most
+//!    8 ms by its pace.
+//! 3. *Done*: with a frame that is given the radio is done once it is done with those before and then took that frame's
+//!    time. That is never later than all frames of which it hasn't told take from now on. Here no radio is faster than
+//!    is reckoned.
+//! 4. *Overdue*: a frame that has been out for more than twice as long as the radio needed to be done with it.
+//! 5. Once the radio tells of an overdue frame, those given behind it for other receivers have their time anew. They
+//!    are overdue after twice what all behind it take up to them, from now on, unless they have longer anyway.
+//! 6. *Awaited*: if the radio tells of a frame before older ones for other receivers, these are awaited for longer:
+//!    twice what it took. A receiver waits for its oldest frame once that is out for longer than it is awaited.
+//! 7. A radio whose oldest frame is overdue and out for more than 16 ms lets newer ones overtake it: it is given none.
+//! 8. Once its socket is empty, the radio has no frame any more, and none takes any of its time. Those that it had have
+//!    *left*. If what it told was read since, and a frame wasn't in it, that one is *missing*: it may be out after all.
+//!    The oldest frame is the first that hasn't left.
+//! 9. A frame of which nothing was told for 200 ms is taken out. The radio tells of a frame once; of several of one
+//!    name it tells of the first.
+//!
+//! Nothing is sent or timed here.
 use std::collections::VecDeque;
 
 use crate::formats::frames::Address;
@@ -44,8 +64,8 @@ struct FrameInFlight<W> {
     /// What of the radio's time it is reckoned to take from now on.
     reckoned: Nanos,
     since: Nanos,
-    /// When it has been out for twice the time in which the radio was reckoned to be done with it, since the radio got
-    /// it or since one before it that took longer was told of.
+    /// When it has been out for twice the time in which the radio was reckoned to be done with it. That time began when
+    /// the radio got it, or when one before it that took longer was told of.
     overdue: Nanos,
     /// The same, where what the radio got later for others and let go before it makes that time longer.
     awaited: Nanos,
@@ -58,7 +78,7 @@ enum State {
     /// As far as one knows.
     Out,
     /// It doesn't, by what its socket says; what became of the frame wasn't looked at since.
-    Done,
+    Left,
     /// It was looked at since, and the frame wasn't among those that the radio told of.
     Missing,
 }
@@ -113,7 +133,7 @@ impl<W> InFlight<W> {
 
     /// The first frame that the radio may still have.
     fn oldest(&self) -> Option<&FrameInFlight<W>> {
-        self.frames.iter().find(|given| given.state != State::Done)
+        self.frames.iter().find(|given| given.state != State::Left)
     }
 
     /// How long the radio takes for what is reckoned to take so long, by its pace.
@@ -201,8 +221,8 @@ impl<W> InFlight<W> {
 
     /// Whether the radio has sent a frame for this receiver, and it isn't known what became of that.
     pub fn is_unknown(&self, place: Place, receiver: Address) -> bool {
-        let mut done = self.frames.iter().take_while(|given| given.state == State::Done);
-        done.any(|given| given.name.receiver == receiver && given.name.place == place)
+        let mut left = self.frames.iter().filter(|given| given.state == State::Left);
+        left.any(|given| given.name.receiver == receiver && given.name.place == place)
     }
 
     /// Whether the radio has a frame for this receiver, or it isn't known what became of one.
@@ -221,15 +241,15 @@ impl<W> InFlight<W> {
         for given in &mut self.frames {
             given.reckoned = 0;
             if given.state == State::Out {
-                given.state = State::Done;
+                given.state = State::Left;
             }
         }
     }
 
     /// What the radio told was looked at since `settle`: a frame that wasn't in it may be out after all.
     pub fn reports_read(&mut self) {
-        let done = self.frames.iter_mut().filter(|given| given.state == State::Done);
-        done.for_each(|given| given.state = State::Missing);
+        let left = self.frames.iter_mut().filter(|given| given.state == State::Left);
+        left.for_each(|given| given.state = State::Missing);
     }
 
     /// Takes out the frames of which nothing will be told any more at this time.
@@ -268,3 +288,7 @@ impl<W> InFlight<W> {
 #[cfg(test)]
 #[path = "in_flight_test.rs"]
 mod tests;
+
+#[cfg(test)]
+#[path = "in_flight_model_test.rs"]
+mod model_tests;

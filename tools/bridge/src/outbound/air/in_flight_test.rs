@@ -128,6 +128,20 @@ fn a_frame_is_overdue_though_what_became_of_older_ones_is_unread() {
 }
 
 #[test]
+fn what_became_of_a_frame_is_unknown_though_an_older_one_is_missing() {
+    let mut in_flight = in_flight();
+    in_flight.give(name(1), (), MILLISECOND, 0);
+    in_flight.settle();
+    in_flight.reports_read();
+    in_flight.give(FrameName { receiver: OTHER, ..name(2) }, (), MILLISECOND, 0);
+    assert!(!in_flight.is_unknown(0, OTHER));
+    in_flight.settle();
+    assert!(in_flight.is_unknown(0, OTHER) && !in_flight.is_unknown(0, STATION));
+    in_flight.reports_read();
+    assert!(!in_flight.is_unknown(0, OTHER));
+}
+
+#[test]
 fn a_frame_behind_one_that_takes_long_has_its_time_once_that_was_told_of() {
     let (mut in_flight, late) = (of_two(), 20 * MILLISECOND);
     in_flight.give(name(3), (), MILLISECOND, 0);

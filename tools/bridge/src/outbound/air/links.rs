@@ -18,6 +18,7 @@ use crate::network::Network;
 use crate::os::clock::Nanos;
 use crate::outbound::air::in_flight::MOST_OUT;
 use crate::outbound::air::rate_control::{Choice, RateControl};
+use crate::outbound::air::reporting::Reporting;
 use crate::outbound::air::scheduler::Place;
 
 /// How long the frames for a station wait at most for what became of the one before.
@@ -27,8 +28,6 @@ const MOST_STATIONS: usize = 2007;
 /// The most stations of a network of which the answer to an association request is awaited, and to a probe request.
 const MOST_JOINING: usize = 256;
 const MOST_ASKING: usize = 64;
-/// After so many waits in vain, before anything was told, the radio is one that tells nothing.
-const MOST_VAIN: u32 = 8;
 
 const SUPPORTED_RATES: u8 = 1;
 const EXTENDED_RATES: u8 = 50;
@@ -98,8 +97,7 @@ pub struct Links {
     networks: Vec<NetworkLinks>,
     waits: VecDeque<(Nanos, Place, Address)>,
     turns: u64,
-    vain: u32,
-    was_told: bool,
+    reporting: Reporting,
     unacknowledged: Unacknowledged,
 }
 
@@ -117,8 +115,7 @@ impl Links {
             networks: networks.iter().map(members).collect(),
             waits: VecDeque::new(),
             turns: 0,
-            vain: 0,
-            was_told: false,
+            reporting: Reporting::Unknown { vain: 0 },
             unacknowledged: Unacknowledged::default(),
         }
     }
@@ -157,7 +154,10 @@ impl Links {
         let found = joining.iter().position(|(joining, _)| *joining == address);
         if let Some((_, rates)) = found.and_then(|found| joining.remove(found)) {
             if links.len() >= MOST_STATIONS && !links.contains_key(&address) {
-                let oldest = links.iter().min_by_key(|(_, station)| station.used).map(|(address, _)| *address);
+                let oldest = links
+                    .iter()
+                    .min_by_key(|(address, station)| (station.used, **address))
+                    .map(|(address, _)| *address);
                 oldest.map(|address| links.remove(&address));
             }
             let station = Link { rates, last: None, waits_until: None, goes_since: 0, used: self.turns };
@@ -238,7 +238,7 @@ impl Links {
             Some(station) => station,
             None => return Next::Nothing,
         };
-        self.was_told = true;
+        self.reporting = self.reporting.after_outcome();
         let number = number(frame);
         let last = station.last.as_mut().filter(|last| last.number == number);
         let is_sample = last.as_ref().map_or(false, |last| last.choice.is_sample);
@@ -296,7 +296,7 @@ impl Links {
             let station = self.networks[place].links.get_mut(&address);
             if let Some(station) = station.filter(|station| station.waits_until == Some(until)) {
                 station.go(now);
-                self.vain += u32::from(!self.was_told);
+                self.reporting = self.reporting.after_vain_wait();
                 return Some((place, address));
             }
         }
@@ -305,7 +305,7 @@ impl Links {
 
     /// Whether the radio tells what becomes of frames, as far as one knows.
     pub fn is_told(&self) -> bool {
-        self.vain < MOST_VAIN
+        self.reporting != Reporting::Silent
     }
 
     /// What became so far of units that nobody acknowledged.
@@ -369,96 +369,5 @@ fn requested_rates(frame: Frame<'_>) -> Option<Vec<u8>> {
 }
 
 #[cfg(test)]
-mod tests {
-    use super::*;
-    use crate::testing::samples::network;
-
-    const BSSID: [u8; 6] = [2, 0, 0, 0, 1, 1];
-    const STATION: [u8; 6] = [2, 0, 0, 0, 2, 0];
-    const RATES: [u8; 12] = [0x82, 0x84, 0x8b, 0x96, 12, 18, 24, 36, 48, 72, 96, 108];
-
-    fn frame(control: u8, to: [u8; 6], from: [u8; 6], body: &[u8]) -> Vec<u8> {
-        [&[control, 0, 0, 0][..], &to, &from, &BSSID, &[0, 0], body].concat()
-    }
-
-    fn request(control: u8, from: [u8; 6]) -> Vec<u8> {
-        let fixed = if control == 0 { 4 } else { 10 };
-        let elements = [&[0, 1, b'a', 1, 8][..], &RATES[..8], &[50, 4], &RATES[8..]].concat();
-        frame(control, BSSID, from, &[vec![0; fixed], elements].concat())
-    }
-
-    fn links() -> Links {
-        let network = Network { rates: RATES.to_vec(), ..network(Address::of(BSSID)) };
-        Links::new(&[network.clone(), Network { bssid: Address::of([2, 0, 0, 0, 1, 2]), ..network }])
-    }
-
-    fn made_up(number: usize) -> [u8; 6] {
-        let [.., high, low] = number.to_be_bytes();
-        [2, 0, 0, 9, high, low]
-    }
-
-    fn join(links: &mut Links, place: Place, from: [u8; 6]) {
-        links.hear(place, Frame::of(&request(0, from)).unwrap());
-        links.join(place, Address::of(from));
-    }
-
-    #[test]
-    fn a_request_is_read_at_each_length_without_harm() {
-        let whole = request(0x20, STATION);
-        for cut in 10..=whole.len() {
-            let found = requested_rates(Frame::of(&whole[..cut]).unwrap());
-            assert_eq!(found == Some(RATES.to_vec()), cut == whole.len(), "{cut}");
-        }
-    }
-
-    /// A flood in one network pushes out that network's own.
-    #[test]
-    fn no_more_stations_of_a_network_are_known_than_there_is_room_for() {
-        let mut links = links();
-        join(&mut links, 1, STATION);
-        (0..=MOST_STATIONS).for_each(|number| {
-            join(&mut links, 0, made_up(number));
-            let unit = Rc::new(frame(0x08, made_up(number), BSSID, &[]));
-            links.choose(0, Address::of(made_up(number)), &unit, false, 0);
-        });
-        assert_eq!(links.networks[0].links.len(), MOST_STATIONS);
-        assert!(!links.knows(0, Address::of(made_up(0))) && links.knows(0, Address::of(made_up(1))));
-        assert!(links.knows(1, Address::of(STATION)) && !links.knows(0, Address::of(STATION)));
-    }
-
-    #[test]
-    fn requests_that_await_an_answer_are_bounded_by_network() {
-        let mut links = links();
-        links.hear(1, Frame::of(&request(0, STATION)).unwrap());
-        (0..=MOST_JOINING).for_each(|number| links.hear(0, Frame::of(&request(0, made_up(number))).unwrap()));
-        for (place, from, is_known) in [(0, made_up(0), false), (0, made_up(1), true), (1, STATION, true)] {
-            links.join(place, Address::of(from));
-            assert_eq!(links.knows(place, Address::of(from)), is_known);
-        }
-    }
-
-    #[test]
-    fn who_asked_for_a_network_alone_is_answered_once() {
-        let mut links = links();
-        let probe = frame(PROBE_REQUEST, BSSID, STATION, &[0, 0]);
-        (0..2).for_each(|_| links.hear(0, Frame::of(&probe).unwrap()));
-        assert!(!links.answers(1, Address::of(STATION)));
-        assert!(links.answers(0, Address::of(STATION)) && !links.answers(0, Address::of(STATION)));
-        (0..=MOST_ASKING).for_each(|number| {
-            links.hear(0, Frame::of(&frame(PROBE_REQUEST, BSSID, made_up(number), &[])).unwrap());
-        });
-        assert!(!links.answers(0, Address::of(made_up(0))) && links.answers(0, Address::of(made_up(1))));
-    }
-
-    #[test]
-    fn what_is_told_of_strangers_changes_nothing() {
-        let mut links = links();
-        join(&mut links, 0, STATION);
-        let outcome = Outcome { is_acknowledged: false, retries: 7, rate: Some(2) };
-        let stranger = frame(0x08, [2, 0, 0, 0, 9, 9], BSSID, &[]);
-        for cut in 0..=stranger.len() {
-            assert_eq!(links.reported(0, Address::of([2, 0, 0, 0, 9, 9]), &stranger[..cut], outcome, 1), Next::Nothing);
-        }
-        assert_eq!((links.unacknowledged(), links.due()), (Unacknowledged::default(), None));
-    }
-}
+#[path = "links_test.rs"]
+mod tests;

@@ -1,12 +1,56 @@
 //! The way of a frame to the air: when it goes, at which rate, how often it is tried, and when it is given up.
 //!
-//! Beacons go at once, by a socket of their own. All other frames wait: those of each network in queues of its own, one
-//! for each station, one for its groups, and one for answers to whoever isn't associated. Whose frame goes next is said
-//! by `scheduler`, how much the radio has at once by `in_flight`, and at which rate a station is sent to by `links`.
+//! This is a state machine without sockets and clocks: calls bring the time, and the same calls have the same answers.
+//! `monitor` does what is left to others. It hands the packets to the radio's sockets, in their order, asks the socket
+//! whether it is empty, and says when time has passed.
+//!
+//! The rules, of any order of calls. A *receiver* is a station, all groups of a network, or all others, who aren't
+//! associated with it.
+//!
+//! What may wait (`queue`, `beacons`):
+//!
+//! 1. A beacon waits apart from all else. At most twice as many wait as there are networks: one more drops the oldest.
+//! 2. Any other frame waits in its network for its receiver. At most 64 wait for a station, 256 for groups and 256 for
+//!    others. One more drops the oldest of its receiver.
+//! 3. Of a network 2 MB wait at most. What is beyond that is dropped: the oldest frame of the receiver for which most
+//!    wait, of several the last in their order.
+//! 4. A unit that is sent once more drops nothing, and so may be one too many.
+//!
+//! What goes next (`scheduler`):
+//!
+//! 5. No frame goes while a beacon waits, but for beacons.
+//! 6. Of the networks with a frame that may go, the proved rule says which one sends. Its receivers take turns by the
+//!    same rule.
+//!
+//! When it is held:
+//!
+//! 7. A station's frames are held while `links` waits for what became of the frame before, for 200 ms at most. It waits
+//!    for a sample, for a unit that is sent once more, and for each frame behind a lost one.
+//! 8. They are held while the radio's oldest frame is theirs and overdue (`in_flight`). If the station loses tries,
+//!    they are held too while what became of one that left the radio is unread. If few wait then, or the last one was
+//!    lost, they are held while the radio has any of them.
+//! 9. All but beacons are held while the radio has as much as it sends in some 8 ms, unless the bridge ends.
+//! 10. All but beacons are held while the interface is down or its socket has no room.
+//!
+//! When it is dropped, besides 1 to 3:
+//!
+//! 11. When a frame's turn comes, it is dropped if it has waited longer than its kind is worth (`frame`). Late units
+//!     go for a while all the same (`lateness`).
+//! 12. A frame that the interface refuses is dropped. One that had its turn before the interface went down is dropped
+//!     once that lasted for 50 ms.
+//!
+//! In which order:
+//!
+//! 13. Frames for one receiver go in the order in which they came. Only a lost unit goes once more before the others
+//!     for its station, and only where nothing was sent to that since.
+//! 14. Each frame waits, went or was dropped: one of them, once. Those that were dropped are counted with the reason,
+//!     but for beacons that had no room.
+//!
 //! Rate and cost are chosen when a frame goes. What the radio then says of its tries corrects the share of its network.
 pub mod account;
 pub mod air_time;
 mod beacons;
+mod chosen;
 mod dequeue;
 mod enqueue;
 pub mod frame;
@@ -15,26 +59,25 @@ pub mod lateness;
 pub mod links;
 mod outcomes;
 pub mod proved_rule;
+mod queue;
 pub mod rate_control;
+mod reporting;
 pub mod scheduler;
 
 use std::collections::VecDeque;
 
 use crate::formats::frames::Frame;
-use crate::inbound::frame::LONGEST;
 use crate::network::Network;
 use crate::os::clock::Nanos;
-use crate::os::sockets::{Port, AT_A_TIME};
-use crate::outbound::air::account::{Account, Unsent};
+use crate::outbound::air::account::Account;
 use crate::outbound::air::air_time::Cost;
 use crate::outbound::air::beacons::Beacons;
-use crate::outbound::air::frame::{OutboundFrame, Receiver};
+use crate::outbound::air::frame::Receiver;
 use crate::outbound::air::in_flight::{FrameName, InFlight};
 use crate::outbound::air::lateness::Lateness;
 use crate::outbound::air::links::{Links, Unacknowledged};
-use crate::outbound::air::scheduler::{Place, Scheduler};
-use crate::outbound::counts::Counts;
-use crate::outbound::gate::Gate;
+use crate::outbound::air::queue::Queue;
+use crate::outbound::air::scheduler::Place;
 
 /// What is known of a frame that the radio has.
 #[derive(Debug, Clone, Copy)]
@@ -44,12 +87,38 @@ struct Sent {
     is_own: bool,
 }
 
-/// Sends the frames of all networks by a monitor interface.
+/// How much the radio is given of what waits, beacons left out.
+#[derive(Debug, Clone, Copy, PartialEq, Eq)]
+enum Intake {
+    /// As much as it sends in some milliseconds.
+    Bounded,
+    /// Nothing until it has told of a frame: it has as much as it may have at once.
+    Closed,
+    /// All, however much it has: the bridge ends.
+    Unbounded,
+}
+
+/// Whether what the radio told of frames is to be read though no frame waits for it.
+#[derive(Debug, Clone, Copy, PartialEq, Eq)]
+enum Reports {
+    Read,
+    /// The radio is late with a frame, unless what it told of that one is unread.
+    Wanted,
+}
+
+/// How the interface is.
+#[derive(Debug, Clone, Copy, PartialEq, Eq)]
+enum Interface {
+    Up,
+    /// The radio is given nothing but beacons, which it refuses.
+    Down,
+}
+
+/// The frames of all networks that one radio sends.
 #[derive(Debug)]
-pub struct Transmitter<P> {
-    gate: Gate<P>,
-    beacons: Beacons<P>,
-    scheduler: Scheduler<Receiver, OutboundFrame>,
+pub struct Transmitter {
+    beacons: Beacons,
+    queue: Queue,
     links: Links,
     lateness: Lateness,
     in_flight: InFlight<Sent>,
@@ -57,54 +126,34 @@ pub struct Transmitter<P> {
     chosen: VecDeque<(FrameName, Vec<u8>)>,
     /// The room of frames that were sent, for those that come.
     spare: Vec<Vec<u8>>,
-    accounts: Vec<Account>,
-    /// Whether the radio has as much as it may have at once.
-    is_full: bool,
-    /// Until when it is busy, since it had that.
+    intake: Intake,
+    /// Until when the radio is busy, since it had as much as it may have at once.
     busy_until: Nanos,
-    /// Whether the radio has sent frames of which nobody looked yet what became of them.
-    is_unsettled: bool,
-    /// Whether the radio is late with a frame, unless it has told of that one and nobody looked yet.
-    is_late: bool,
+    reports: Reports,
     /// When the radio's socket is looked at, while frames wait for the radio.
     look_due: Option<Nanos>,
-    /// Whether the radio is given all that waits.
-    is_ending: bool,
-    /// Whether the interface is down, so that the radio is given nothing but beacons, which it refuses.
-    is_down: bool,
+    interface: Interface,
     sent: u64,
-    /// What the interface refused.
-    counts: Counts,
 }
 
-impl<P: Port> Transmitter<P> {
-    /// For these networks, of these weights, by two sockets of the monitor interface: one for beacons alone.
-    pub fn new(networks: &[Network], port: P, beacons: P) -> Transmitter<P> {
+impl Transmitter {
+    /// For these networks, of these weights. Nothing waits.
+    pub fn new(networks: &[Network]) -> Transmitter {
         Transmitter {
-            gate: Gate::new(port),
-            beacons: Beacons::new(beacons, networks.len()),
-            scheduler: Scheduler::new(networks.iter().map(|network| network.weight)),
+            beacons: Beacons::new(networks.len()),
+            queue: Queue::new(networks.iter().map(|network| network.weight)),
             links: Links::new(networks),
             lateness: Lateness::default(),
             in_flight: InFlight::new(),
             chosen: VecDeque::new(),
             spare: Vec::new(),
-            accounts: vec![Account::default(); networks.len()],
-            is_full: false,
+            intake: Intake::Bounded,
             busy_until: 0,
-            is_unsettled: false,
-            is_late: false,
+            reports: Reports::Read,
             look_due: None,
-            is_ending: false,
-            is_down: false,
+            interface: Interface::Up,
             sent: 0,
-            counts: Counts::new(),
         }
-    }
-
-    /// The monitor interface.
-    pub fn gate(&mut self) -> &mut Gate<P> {
-        &mut self.gate
     }
 
     /// How many frames were sent.
@@ -112,14 +161,9 @@ impl<P: Port> Transmitter<P> {
         self.sent
     }
 
-    /// What the interface refused.
-    pub fn counts(&self) -> &Counts {
-        &self.counts
-    }
-
     /// What the air was to each network.
     pub fn accounts(&self) -> &[Account] {
-        &self.accounts
+        &self.queue.accounts
     }
 
     /// What became so far of units that nobody acknowledged.
@@ -140,55 +184,25 @@ impl<P: Port> Transmitter<P> {
         }
     }
 
-    /// Whether a frame waits that may go now.
-    pub fn has_room(&self) -> bool {
-        let waits = !self.chosen.is_empty() || self.scheduler.has_ready() && !self.is_full;
-        waits && !self.gate.is_blocked() && !self.is_down || self.beacons.has_room()
+    /// Whether a frame that is no beacon waits and may go now, if the socket has room.
+    pub fn has_next(&self) -> bool {
+        let waits = !self.chosen.is_empty() || self.queue.scheduler.has_ready() && self.intake != Intake::Closed;
+        waits && self.interface == Interface::Up
     }
 
-    /// Whether nothing waits, for room or to be sent.
-    pub fn is_idle(&self) -> bool {
-        self.scheduler.is_empty() && self.chosen.is_empty() && self.beacons.is_empty() && self.gate.is_settled()
+    /// Whether nothing waits.
+    pub fn is_empty(&self) -> bool {
+        self.queue.scheduler.is_empty() && self.chosen.is_empty() && self.beacons.is_empty()
     }
 
     /// Whether the interface is down.
     pub fn is_down(&self) -> bool {
-        self.is_down
-    }
-
-    /// The interface is down: what is to be sent waits.
-    pub fn went_down(&mut self) {
-        self.is_down = true;
-    }
-
-    /// The interface is up again after so long. What had its turn before is dropped where it waited too long meanwhile;
-    /// what waits for its turn is looked at when that comes.
-    pub fn came_up(&mut self, after: Nanos) {
-        self.is_down = false;
-        self.gate.port.forget_fault();
-        self.beacons.forget_fault();
-        if after > LONGEST {
-            for (name, packet) in std::mem::take(&mut self.chosen) {
-                *self.accounts[name.place].unsent.entry(Unsent::Late).or_default() += 1;
-                self.spare.push(packet);
-                self.in_flight.forget(name);
-                self.release(name.place, name.receiver);
-            }
-            self.spare.truncate(AT_A_TIME);
-        }
-    }
-
-    /// Sends the beacons that wait.
-    pub fn flush_beacons(&mut self) {
-        let flushed = self.beacons.flush(&mut self.counts);
-        self.sent += flushed.sent;
-        self.is_down |= flushed.is_down;
+        self.interface == Interface::Down
     }
 
     /// From now on the radio is given all that waits, however much it has.
     pub fn end(&mut self) {
-        self.is_ending = true;
-        self.is_full = false;
+        self.intake = Intake::Unbounded;
     }
 }
 
@@ -202,3 +216,7 @@ fn microseconds(time: Nanos) -> u32 {
 #[cfg(test)]
 #[path = "air_test.rs"]
 mod tests;
+
+#[cfg(test)]
+#[path = "calls_test.rs"]
+mod calls_tests;

@@ -17,6 +17,8 @@
 //! 5. Each frame that came waits, was served or was dropped: one of them, once.
 //! 6. The work of a call doesn't grow with the frames that wait. It grows with the number of networks, and with the
 //!    logarithm of the number of receivers; `longest` looks at each receiver of its network.
+//! 7. Of receivers for which nothing waits no more than some thousands are known for what they owe. Where more of a
+//!    network owe, all of them are forgotten, and owe nothing.
 //!
 //! A receiver may be held: its next frame waits for what becomes of the one before. It isn't waiting for a turn then.
 use std::collections::{BTreeSet, HashMap, VecDeque};

@@ -58,6 +58,18 @@ impl Model {
         Some(frame)
     }
 
+    fn take_all(&mut self, place: Place, receiver: u8, every: u32) -> Vec<u32> {
+        let waiting = std::mem::take(&mut self.of(place, receiver).waiting);
+        let (taken, kept) = waiting.into_iter().partition(|frame| frame % every == 0);
+        self.of(place, receiver).waiting = kept;
+        taken
+    }
+
+    fn longest(&self, place: Place) -> Option<u8> {
+        let waiting = self.networks[place].receivers.iter().filter(|receiver| !receiver.waiting.is_empty());
+        waiting.max_by_key(|receiver| (receiver.waiting.len(), receiver.name)).map(|receiver| receiver.name)
+    }
+
     fn correct(&mut self, place: Place, receiver: u8, more: u32) {
         self.networks[place].debt += self.networks[place].scale * u128::from(more);
         self.of(place, receiver).debt += u128::from(more);
@@ -130,6 +142,8 @@ impl Watch {
 }
 
 const RECEIVERS: usize = 5;
+const CALLS: usize = if cfg!(debug_assertions) { 100_000 } else { 1_000_000 };
+const CALLS_OF_A_RUN: usize = 2000;
 
 /// The frame that goes next, which costs so much.
 fn next<R: Copy + Ord + Hash, T>(scheduler: &mut Scheduler<R, T>, cost: u32) -> Option<T> {
@@ -137,21 +151,21 @@ fn next<R: Copy + Ord + Hash, T>(scheduler: &mut Scheduler<R, T>, cost: u32) -> 
     scheduler.serve(place, cost)
 }
 
-/// A million calls in any order: the same frames in the same order as by the slow model, and what the sentences
+/// Calls in any order: the same frames in the same order as by the slow model, and what the sentences
 /// promise of shares and of newcomers.
 #[test]
 fn any_calls_go_by_the_rule() {
     let mut seeded = Seeded(11);
     let mut served = 0u64;
-    for run in 0..500 {
+    for run in 0..CALLS / CALLS_OF_A_RUN {
         let number = 1 + seeded.below(4);
         let weights: Vec<u8> = (0..number).map(|_| 1 + seeded.below(16) as u8).collect();
         let (mut scheduler, mut model, mut watch) =
             (Scheduler::new(weights.clone()), Model::new(&weights), Watch::new(&weights));
         let (mut pushed, mut gone, pushes) = (0u32, 0u32, 1 + seeded.below(6));
-        for _ in 0..2000 {
+        for _ in 0..CALLS_OF_A_RUN {
             let (place, receiver) = (seeded.below(number), seeded.below(RECEIVERS) as u8);
-            match seeded.below(8 + pushes) {
+            match seeded.below(9 + pushes) {
                 0..=3 => {
                     let cost = 1 + seeded.below(1000) as u32;
                     let first = model.first();
@@ -185,7 +199,14 @@ fn any_calls_go_by_the_rule() {
                     assert_eq!(scheduler.drop_first(place, receiver), dropped);
                     gone += u32::from(dropped.is_some());
                 }
-                8 => {
+                8 if seeded.below(4) == 0 => {
+                    let every = 1 + seeded.below(3) as u32;
+                    let taken = scheduler.take_all(place, receiver, |frame| frame % every == 0);
+                    assert_eq!(taken, model.take_all(place, receiver, every));
+                    gone += taken.len() as u32;
+                }
+                8 => {}
+                9 => {
                     scheduler.push_first(place, receiver, pushed);
                     model.of(place, receiver).waiting.insert(0, pushed);
                     pushed += 1;
@@ -199,12 +220,13 @@ fn any_calls_go_by_the_rule() {
             watch.look(&model);
             assert_eq!(scheduler.waiting(place, receiver), model.of(place, receiver).waiting.len());
             assert_eq!(scheduler.is_held(place, receiver), model.of(place, receiver).is_held);
+            assert_eq!(scheduler.longest(place), model.longest(place));
         }
         let waiting: usize =
             model.networks.iter().flat_map(|network| &network.receivers).map(|one| one.waiting.len()).sum();
         assert_eq!((pushed, scheduler.is_empty()), (gone + waiting as u32, waiting == 0), "{run}");
     }
-    assert!(served > 100_000, "{served}");
+    assert!(served > CALLS as u64 / 10, "{served}");
 }
 
 /// Networks that all want all get what their weights say, whatever their frames cost.
