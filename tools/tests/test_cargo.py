@@ -7,12 +7,20 @@ import unittest
 
 from common import TOOLS, ToolTest
 
-AIR = os.path.join(TOOLS, "guest", "air")
-# A version that Debian has no more.
+# How cargo finds Debian's crates, a crate that needs one of them, and a version of that which Debian has no more.
+CONFIG = os.path.join(TOOLS, "bridge", ".cargo")
+MANIFEST = """[package]
+name = "any"
+version = "0.1.0"
+edition = "2021"
+
+[dependencies]
+libc = "0.2"
+"""
 CHOSEN = """version = 3
 
 [[package]]
-name = "air"
+name = "any"
 version = "0.1.0"
 dependencies = ["libc"]
 
@@ -32,10 +40,14 @@ class Cargo(ToolTest):
     def test_crates_of_another_debian(self):
         """Versions that cargo chose once and that are gone, as after an upgrade of Debian, are chosen anew. Those that
         are there stay chosen."""
-        crate = shutil.copytree(AIR, self.path("air"))
+        crate = self.path("any")
+        shutil.copytree(CONFIG, os.path.join(crate, ".cargo"))
+        os.mkdir(os.path.join(crate, "src"))
         lock = os.path.join(crate, "Cargo.lock")
-        with open(lock, "w", encoding="ascii") as file:
-            file.write(CHOSEN)
+        for path, text in ((os.path.join(crate, "Cargo.toml"), MANIFEST), (lock, CHOSEN),
+                           (os.path.join(crate, "src", "main.rs"), "fn main() {}\n")):
+            with open(path, "w", encoding="ascii") as file:
+                file.write(text)
         self.begin(crate)
         self.assertNotIn('"0.2.1"', self.text_of(lock))
         before = os.stat(lock)
