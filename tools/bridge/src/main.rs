@@ -91,10 +91,18 @@ use run::{Bridge, Manner};
 
 const WRONG_WORDS: u8 = 2;
 
+/// Writes what of the log still waits, whatever ends the bridge.
+struct FinishesLog;
+
+impl Drop for FinishesLog {
+    fn drop(&mut self) {
+        log::finish();
+    }
+}
+
 fn main() -> ExitCode {
-    let code = begin();
-    log::finish();
-    code
+    let _at_the_end = FinishesLog;
+    begin()
 }
 
 fn begin() -> ExitCode {

@@ -2,7 +2,7 @@
 use std::fs::File;
 use std::io::{self, ErrorKind, Write};
 use std::sync::{Arc, Mutex, MutexGuard, PoisonError};
-use std::time::Duration;
+use std::time::{Duration, Instant};
 
 use crate::apctl::program::PIECE_LEN;
 use crate::apctl::records::Event;
@@ -132,17 +132,19 @@ impl Recording {
     }
 
     fn finish_within(&mut self, most: Duration) {
+        let until = Instant::now() + most;
         self.flush();
         let mut left = self.writer.finish(most);
         if left == 0 && self.left_out > 0 {
             self.tell_left_out();
-            left = self.writer.finish(most);
+            left = self.writer.finish(until.saturating_duration_since(Instant::now()));
         }
         if left > 0 {
+            self.writer.abandon();
             let name = &self.name;
             log::write_event(
                 Level::Warning,
-                format_args!("--record {name}: too slow, so its last {left} octets are left out there"),
+                format_args!("--record {name}: too slow, so its last {left} octets are left out, and a line may be cut"),
             );
         }
     }

@@ -5,11 +5,12 @@
 //! and told.
 use std::fmt;
 use std::fs::File;
-use std::io::{self, Write};
+use std::io::{self, ErrorKind, Write};
 use std::os::unix::fs::MetadataExt;
 use std::os::unix::io::AsFd;
 use std::sync::{Mutex, MutexGuard, PoisonError};
-use std::time::{Duration, UNIX_EPOCH};
+use std::thread;
+use std::time::{Duration, Instant, UNIX_EPOCH};
 
 use humantime::format_rfc3339_seconds;
 
@@ -27,6 +28,8 @@ const MOST_A_SECOND: u64 = 200;
 const MOST_WAITING: usize = 4 << 20;
 /// How long what waits is written at the end.
 const TO_FINISH: Duration = Duration::from_secs(2);
+/// How often the thread that writes tries again where standard error is told not to wait.
+const UNTIL_TAKEN: Duration = Duration::from_millis(10);
 
 /// The name as long as it isn't known by which one a person has begun this.
 pub const UNNAMED: &str = "bridge";
@@ -75,6 +78,7 @@ impl Level {
 
 /// Writes a line of this bridge. Where nobody reads it any more, nothing is to be done.
 pub fn write(level: Level, text: impl fmt::Display) {
+    let text = text.to_string();
     let mut log = log();
     let line = log.line(level, String::new(), text);
     log.write(line);
@@ -82,6 +86,7 @@ pub fn write(level: Level, text: impl fmt::Display) {
 
 /// Writes a line of what happened now.
 pub fn write_event(level: Level, text: impl fmt::Display) {
+    let text = text.to_string();
     let mut log = log();
     let line = log.event(level, text);
     log.write(line);
@@ -118,9 +123,20 @@ pub fn write_at_once() {
     log().writer = None;
 }
 
-/// Writes pieces whole. What this stream doesn't take is lost: nobody is left who could be told.
+/// Writes pieces whole, also where somebody has told standard error not to wait. What this stream doesn't take any more
+/// is lost: nobody is left who could be told.
 fn write_to(mut stream: File) -> impl FnMut(&[u8]) + Send {
-    move |piece| drop(stream.write_all(piece))
+    move |mut piece| {
+        while !piece.is_empty() {
+            match stream.write(piece) {
+                Ok(0) => return,
+                Ok(length) => piece = &piece[length..],
+                Err(fault) if fault.kind() == ErrorKind::Interrupted => {}
+                Err(fault) if fault.kind() == ErrorKind::WouldBlock => thread::sleep(UNTIL_TAKEN),
+                Err(_) => return,
+            }
+        }
+    }
 }
 
 /// Writes what still waits, for a bounded time.
@@ -176,11 +192,12 @@ impl Log {
     }
 
     fn finish(&mut self, most: Duration) {
+        let until = Instant::now() + most;
         let left = self.writer.as_ref().map_or(0, |writer| writer.finish(most));
         if left == 0 && self.dropped > 0 {
             self.tell_dropped();
             if let Some(writer) = &self.writer {
-                writer.finish(most);
+                writer.finish(until.saturating_duration_since(Instant::now()));
             }
         }
     }
@@ -246,7 +263,6 @@ mod tests {
     use crate::testing::samples::read_all;
     use std::os::unix::io::OwnedFd;
     use std::os::unix::net::UnixStream;
-    use std::thread;
 
     #[test]
     fn moments_are_written_as_dates() {
@@ -301,6 +317,19 @@ mod tests {
             };
         }
         assert_eq!(next, LINES + 1);
+    }
+
+    /// As where whoever shares standard error has told it not to wait.
+    #[test]
+    fn a_stream_that_does_not_wait_gets_each_line() {
+        let (near, far) = UnixStream::pair().unwrap();
+        near.set_nonblocking(true).unwrap();
+        let mut log = log_to(near, LINES * 100);
+        (0..LINES).for_each(|number| log.write(line_of(number)));
+        let reader = thread::spawn(|| read_all(far));
+        log.finish(Duration::from_secs(20));
+        drop(log);
+        assert_eq!(reader.join().unwrap(), (0..LINES).map(line_of).collect::<String>());
     }
 
     #[test]

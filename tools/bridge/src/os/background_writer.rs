@@ -7,6 +7,9 @@ use std::sync::{Arc, Condvar, Mutex, MutexGuard, PoisonError};
 use std::thread;
 use std::time::Duration;
 
+/// How many pieces wait at most, however small they are: each takes memory of its own.
+const MOST_PIECES: usize = 1 << 16;
+
 /// Pieces wait here, in order and a bounded number of octets, until a thread has written them.
 #[derive(Debug)]
 pub struct BackgroundWriter(Arc<Shared>);
@@ -42,7 +45,7 @@ impl BackgroundWriter {
     /// A piece waits from now on. Where there is no room for it, it comes back.
     pub fn push(&self, piece: Vec<u8>) -> Result<(), Vec<u8>> {
         let mut waiting = self.0.lock();
-        if piece.len() > self.0.most_octets - waiting.octets {
+        if piece.len() > self.0.most_octets - waiting.octets || waiting.pieces.len() >= MOST_PIECES {
             return Err(piece);
         }
         waiting.octets += piece.len();
@@ -55,6 +58,13 @@ impl BackgroundWriter {
     pub fn finish(&self, most: Duration) -> usize {
         let waited = self.0.changed.wait_timeout_while(self.0.lock(), most, |waiting| waiting.octets > 0);
         waited.unwrap_or_else(PoisonError::into_inner).0.octets
+    }
+
+    /// Forgets the pieces that wait. The one that is being written goes on.
+    pub fn abandon(&self) {
+        let mut waiting = self.0.lock();
+        let octets: usize = waiting.pieces.drain(..).map(|piece| piece.len()).sum();
+        waiting.octets -= octets;
     }
 }
 
@@ -94,7 +104,7 @@ impl Shared {
 #[cfg(test)]
 mod tests {
     use super::*;
-    use std::sync::mpsc::channel;
+    use std::sync::mpsc::{channel, Receiver, Sender};
 
     const LONG: Duration = Duration::from_secs(20);
     const SHORT: Duration = Duration::from_millis(20);
@@ -130,5 +140,39 @@ mod tests {
         assert_eq!([push(5, 11), push(6, 10)], [Err(vec![5; 11]), Ok(())]);
         assert_eq!(writer.finish(LONG), 0);
         assert_eq!(written.try_iter().collect::<Vec<_>>(), [vec![1; 6], vec![3; 4], vec![], vec![6; 10]]);
+    }
+
+    /// A writer that writes a piece for each word that it gets, what it has written, and how it gets words.
+    fn held() -> (BackgroundWriter, Sender<()>, Receiver<Vec<u8>>) {
+        let ((go_on, goes_on), (to, written)) = (channel(), channel());
+        let writer = BackgroundWriter::start(1 << 20, move |piece| {
+            if goes_on.recv().is_ok() {
+                to.send(piece.to_vec()).unwrap();
+            }
+        });
+        (writer.unwrap(), go_on, written)
+    }
+
+    #[test]
+    fn small_pieces_are_bounded_too() {
+        let (writer, _go_on, _written) = held();
+        let taken = (0..2 * MOST_PIECES).filter(|_| writer.push(vec![1]).is_ok()).count();
+        assert!((MOST_PIECES..MOST_PIECES + 2).contains(&taken), "{taken}");
+    }
+
+    /// What waits is never written; what comes later is.
+    #[test]
+    fn what_is_abandoned_is_not_written() {
+        let (writer, go_on, written) = held();
+        (1..4).for_each(|octet| writer.push(vec![octet]).unwrap());
+        go_on.send(()).unwrap();
+        assert_eq!(written.recv().unwrap(), [1]);
+        writer.abandon();
+        writer.push(vec![4]).unwrap();
+        (0..2).for_each(|_| go_on.send(()).unwrap());
+        writer.finish(LONG);
+        drop(writer);
+        let rest: Vec<_> = written.iter().collect();
+        assert!(rest == [[4]] || rest == [[2], [4]], "{rest:?}");
     }
 }

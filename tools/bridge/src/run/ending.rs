@@ -41,7 +41,6 @@ impl<P: OfSocket> Bridge<P> {
             self.send()?;
         }
         self.feeder.close();
-        self.feeder.finish_record();
         Ok(())
     }
 }

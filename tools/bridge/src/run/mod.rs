@@ -154,6 +154,7 @@ impl<P: OfSocket> Bridge<P> {
             return Err(fault.clone());
         }
         let rest = self.drain();
+        self.feeder.finish_record();
         let status = self.program.status(now() + TO_END).map_err(|fault| Fault::of("the program", &fault))?;
         self.keep(true);
         if let Some(running) = &mut self.running {
