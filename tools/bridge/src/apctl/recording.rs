@@ -126,19 +126,9 @@ impl Recording {
         }
     }
 
-    /// Writes what waits, for a bounded time.
+    /// Writes what waits, for a bounded time. What isn't written by then never is.
     pub fn finish(&mut self) {
-        self.finish_within(TO_FINISH);
-    }
-
-    fn finish_within(&mut self, most: Duration) {
-        let until = Instant::now() + most;
-        self.flush();
-        let mut left = self.writer.finish(most);
-        if left == 0 && self.left_out > 0 {
-            self.tell_left_out();
-            left = self.writer.finish(until.saturating_duration_since(Instant::now()));
-        }
+        let left = self.finish_within(TO_FINISH);
         if left > 0 {
             self.writer.abandon();
             let name = &self.name;
@@ -147,6 +137,18 @@ impl Recording {
                 format_args!("--record {name}: too slow, so its last {left} octets are left out, and a line may be cut"),
             );
         }
+    }
+
+    /// Writes what waits, for so long at most, and answers how many octets aren't written.
+    fn finish_within(&mut self, most: Duration) -> usize {
+        let until = Instant::now() + most;
+        self.flush();
+        let left = self.writer.finish(most);
+        if left == 0 && self.left_out > 0 {
+            self.tell_left_out();
+            return self.writer.finish(until.saturating_duration_since(Instant::now()));
+        }
+        left
     }
 }
 
