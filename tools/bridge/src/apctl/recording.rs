@@ -134,7 +134,7 @@ impl Recording {
             let name = &self.name;
             log::write_event(
                 Level::Warning,
-                format_args!("--record {name}: too slow, so its last {left} octets are left out, and a line may be cut"),
+                format_args!("--record {name}: too slow: its last {left} octets are left out, and a line may be cut"),
             );
         }
     }
