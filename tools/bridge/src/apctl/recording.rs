@@ -304,6 +304,8 @@ mod tests {
         assert_eq!(record.fault().as_deref(), Some("Broken pipe"));
     }
 
+    const GAP: &str = " lines are missing here: the record was too slow";
+
     /// As a disk that is too slow: nobody waits for it, and once it goes on a comment says what is missing.
     #[test]
     fn what_is_not_taken_in_time_is_left_out_and_counted() {
@@ -313,8 +315,6 @@ mod tests {
         let events = 10 * most / 2;
         (0..events).for_each(|_| record.write(Event::Tick));
         record.finish_within(SHORT);
-        let left_out = record.left_out;
-        assert!(left_out > events / 2, "{left_out}");
         let reader = thread::spawn(|| read_all(far));
         record.finish_within(LONG);
         record.write(Event::Tables);
@@ -322,8 +322,11 @@ mod tests {
         let written = record.written();
         drop(record);
         let text = reader.join().unwrap();
-        let wanted = format!("# {left_out} lines are missing here: the record was too slow\n# I\n");
+        // There may be several gaps, as the thread that writes has its turns.
+        let gap = |line: &str| line.strip_prefix("# ")?.strip_suffix(GAP)?.parse::<usize>().ok();
+        let left_out: usize = text.lines().filter_map(gap).sum();
+        assert!(left_out > events / 2, "{left_out}");
         assert_eq!((text.len() as u64, text.matches("T\n").count()), (written, events - left_out));
-        assert!(text.ends_with(&wanted), "{}", &text[text.len() - 200..]);
+        assert!(text.ends_with("# I\n"), "{}", &text[text.len() - 200..]);
     }
 }

@@ -298,25 +298,25 @@ mod tests {
         let mut log = log_to(near, 10_000);
         (0..LINES).for_each(|number| log.write(line_of(number)));
         log.finish(Duration::from_millis(20));
-        assert!(log.dropped > 1000, "{}", log.dropped);
         let reader = thread::spawn(|| read_all(far));
         log.finish(Duration::from_secs(20));
         assert_eq!(log.dropped, 0);
         log.write(line_of(LINES));
         log.finish(Duration::from_secs(20));
         drop(log);
-        let mut next = 0;
+        let (mut next, mut missing) = (0, 0);
         for line in reader.join().unwrap().lines() {
             let told = line.strip_suffix(" lines are missing here: nothing took them");
-            next += match told.and_then(|told| told.split_once("Z live: ")) {
-                Some((_, number)) => number.parse().unwrap(),
-                None => {
-                    assert_eq!(line, line_of(next).trim_end());
-                    1
-                }
-            };
+            if let Some((_, number)) = told.and_then(|told| told.split_once("Z live: ")) {
+                let number: usize = number.parse().unwrap();
+                (next, missing) = (next + number, missing + number);
+            } else {
+                assert_eq!(line, line_of(next).trim_end());
+                next += 1;
+            }
         }
         assert_eq!(next, LINES + 1);
+        assert!(missing > LINES / 2, "{missing}");
     }
 
     /// As where whoever shares standard error has told it not to wait.
