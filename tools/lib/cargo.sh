@@ -11,8 +11,9 @@ use_debians_cargo() {
     /usr/bin/cargo metadata --format-version 1 --offline --locked >/dev/null 2>&1 || rm -f Cargo.lock
 }
 
-# Runs the tests of the crate in this folder, or those of the packages that the words name. A test that can't run here says `not run:` and isn't counted. The last
-# line is 'N passed, M failed'; the status is 1 where a test failed, or none was built.
+# Runs the tests of the crate in this folder, or those of the packages that the words name. A test that can't run here
+# says `not run:` and isn't counted. The last line is 'N passed, M failed'; the status is 1 where a test failed, or none
+# was built.
 test_by_cargo() {
     local said passed failed not_run
     said=$(mktemp)

@@ -230,7 +230,7 @@ class Origins(ToolTest):
                 file.write(written)
         status, picture, stderr = tool("picture", self.path("input"), self.path("report"))
         self.assertEqual((status, stderr), (0, ""))
-        self.assertIn("capture, s", picture)
+        self.assertIn("time, s", picture)
 
 
 class Examples(ToolTest):
