@@ -1,6 +1,6 @@
 //! The threads of several sources.
 
-ghost use Rattle.std.specs.Prelude.{◌≡◌, IfErr};
+ghost use Rattle.std.specs.Prelude.{◌≡◌, ◌+◌, ◌-◌, ◌^◌, min, IfErr};
 ghost use Rattle.play.specs.Faults.{IsPlayFault};
 ghost use Rattle.play.specs.Sources.{lists_of};
 
@@ -104,7 +104,9 @@ fn play_source<N: PlayName, G: Gate, R: Wait>(
     Ok(())
 }
 
-/// The number of a line at a place, from 1, as the gate is told it.
-fn number_of(line: usize) -> u32 {
+/// The number of a line at a place, from 1, as the gate is told it; 4,294,967,295 from there on.
+fn number_of(line: usize) -> u32
+    ensures { result ≡ min (line + 1) (2 ^ 32 - 1) }
+{
     u32::try_from(line).unwrap_or(u32::MAX).saturating_add(1)
 }

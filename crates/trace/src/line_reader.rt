@@ -3,7 +3,7 @@
 //! A [`LineReader`] lends the lines that end in each piece; the pieces may be cut anywhere.
 
 ghost use Rattle.std.specs.Prelude.{◌≡◌, ◌+◌, ◌<◌, ◌≤◌, ◌++◌, List, [], ℕ, length, Err, IfOk};
-ghost use Rattle.std.specs.Prelude.{IfSome, MatchResult, None, Ok, OnOk, OnErr};
+ghost use Rattle.std.specs.Prelude.{IfSome, MatchResult, None, Some, Ok, OnOk, OnErr};
 ghost use Rattle.std.specs.Str.Lines.{strip_carriage_return};
 ghost use Rattle.text_io.specs.Endings.{Gives, IsFaultOf};
 ghost use Rattle.text_io.specs.Faults.{read_ending};
@@ -12,6 +12,7 @@ ghost use Rattle.trace.specs.TraceText.{bssids_of, line_of, lines_of};
 ghost use Rattle.trace.specs.Pieces.{new_reader, before_line, said_in, said_last, as_list, Takes, after_line};
 ghost use Rattle.trace.specs.Pieces.{AreTakenSoFar, AreTaken, Remains, EndsPiece};
 ghost use Rattle.ap_config.specs.declared.config.RadioConfig.{RadioConfig};
+ghost use Rattle.trace.specs.declared.fault.TraceFault.{TraceFault};
 ghost use Rattle.trace.specs.Pieces.{answer_to, answer_to_end, after_piece, after_end, past, past_end, Leaves, keeping};
 
 use crate::fault::{LineFault, TraceFault, TraceTextFault};
@@ -90,10 +91,12 @@ impl LineReader {
         piece: &[u8],
         lines: &mut T,
     ) -> Result<(), TraceTextFault>
-        ensures { (c : RadioConfig) (text : List ℕ)
+        ensures all { (c : RadioConfig) (text : List ℕ)
             → AreTakenSoFar c text self.old (λ said. T.has_taken c said lines.old) → MatchResult result
             (λ _. AreTakenSoFar c (text ++ piece.now) self.new (λ said. T.has_taken c said lines.new))
             (λ fault. IsFaultOf (lines_of c (text ++ piece.now)) (read_ending fault)) }
+        ensures met { IfSome self.old.fault (λ met. result ≡ Err (ReadFault.At met)) }
+        ensures stays { (met : TraceFault) → result ≡ Err (ReadFault.At met) → self.new.fault ≡ Some met }
     {
         self.take_unless_met(piece, lines)
     }
@@ -173,6 +176,8 @@ impl LineReader {
         ensures takes { Takes result (answer_to self.old piece.now)
             (λ c said. T.has_taken c said lines.old) (λ c said. T.has_taken c said lines.new) }
         ensures after { OnOk result (self.new ≡ after_piece self.old piece.now) }
+        ensures met { IfSome self.old.fault (λ met. result ≡ Err (ReadFault.At met)) }
+        ensures stays { (met : TraceFault) → result ≡ Err (ReadFault.At met) → self.new.fault ≡ Some met }
     {
         if let Some(fault) = self.fault {
             return Err(ReadFault::At(fault));

@@ -20,6 +20,7 @@ use crate::name::ApName;
 use crate::outcome::Outcome;
 use crate::seat::Seat;
 use crate::transmitter::Transmitter;
+use crate::waiting::Waiting;
 use air_queue::AirQueue;
 use ap_config::MAX_NETWORKS;
 use events::{Event, LentLine};
@@ -28,7 +29,6 @@ use network::Bss;
 use std::alloc::Global;
 use std::hint;
 use std::marker::Model;
-use std::sync::atomic::{AtomicU64, Ordering};
 use std::sync::{Mutex, MutexGuard, Wait};
 
 /// The access point N: its networks, each under a lock of its own, and the air queue in which their frames meet
@@ -40,8 +40,7 @@ pub struct Ap<N: ApName> {
     pub(crate) bssids: Vec<MacAddr>,
     pub(crate) seats: Vec<Mutex<Seat<N>>>,
     pub(crate) queue: AirQueue,
-    /// Whose frames wait, by a bit for each place: what stands under the lock, without the lock.
-    pub(crate) waiting: AtomicU64,
+    pub(crate) waiting: Waiting,
 }
 
 /// How often a thread tries to get a lock before it sleeps until it is let go.
@@ -214,10 +213,7 @@ impl<N: ApName> Ap<N> {
         requires { place < length N.config.networks }
         ensures { result ≢ Outcome.NotHeard }
     {
-        let mut seat = self.sit(rt, place);
-        let outcome = seat.take(event);
-        self.tell(place, seat.waits());
-        outcome
+        self.sit(rt, place).take(event, &self.waiting)
     }
 
     /// Hands frames of the network at a place to the air queue, the first that waits first, until none waits or the
@@ -225,13 +221,10 @@ impl<N: ApName> Ap<N> {
     pub fn pump<R: Wait>(&self, rt: &R, place: usize) -> u32
         requires { place < length N.config.networks }
     {
-        if !self.may_wait(place) {
+        if !self.waiting.may_wait(place) {
             return 0;
         }
-        let mut seat = self.sit(rt, place);
-        let handing = seat.hand_all(rt, &self.queue);
-        self.tell(place, handing.waits);
-        handing.count
+        self.sit(rt, place).hand_all(rt, &self.queue, &self.waiting)
     }
 
     /// The network at a place, under its lock. Who holds it does so for one event, so it is tried some times before a
@@ -247,23 +240,6 @@ impl<N: ApName> Ap<N> {
             hint::spin_loop();
         }
         seat.lock(rt)
-    }
-
-    /// Tells without the lock whether frames of the network at a place wait. Who calls it has the lock.
-    fn tell(&self, place: usize, waits: bool) {
-        if waits == self.may_wait(place) {
-            return;
-        }
-        if waits {
-            self.waiting.fetch_or(bit_of(place), Ordering::SeqCst);
-        } else {
-            self.waiting.fetch_and(!bit_of(place), Ordering::SeqCst);
-        }
-    }
-
-    /// Whether frames of the network at a place wait, as the last that had its lock told.
-    fn may_wait(&self, place: usize) -> bool {
-        self.waiting.load(Ordering::SeqCst) & bit_of(place) != 0
     }
 
     /// Lets the first frame of the air queue leave, after room was made for it: it is the last that left then.
@@ -290,9 +266,4 @@ impl<N: ApName> Ap<N> {
     {
         self.seats[place].lock(rt).show(f)
     }
-}
-
-/// The bit of a place.
-fn bit_of(place: usize) -> u64 {
-    1 << (place % 64)
 }

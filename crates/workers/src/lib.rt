@@ -27,6 +27,7 @@ mod receipts;
 mod seat;
 mod start;
 mod transmitter;
+mod waiting;
 
 pub use ap::Ap;
 pub use caller::{Caller, Entry};

@@ -1,6 +1,6 @@
 //! What stands under a network's lock (*profile*).
 
-ghost use Rattle.std.specs.Prelude.{◌≡◌, ◌+◌, ◌≤◌, ◌++◌, ◌∷◌, [], false, length, OnOk, IfErr};
+ghost use Rattle.std.specs.Prelude.{◌≡◌, ◌≤◌, length};
 ghost use Rattle.std.specs.Fn.{FnOnceTakesAt, FnOnceReturnsAt};
 ghost use Rattle.air_queue.specs.Passes.{NetPassView};
 ghost use Rattle.network.specs.BssView.{BssView};
@@ -8,43 +8,38 @@ ghost use Rattle.workers.specs.Seats.{IsSeated, IsNetworkOf, AnswersEvent, Hands
 
 use crate::name::ApName;
 use crate::outcome::Outcome;
+use crate::waiting::Waiting;
 use air_queue::{AirQueue, NetPass};
 use events::{AirItem, Event, Handed};
 use network::Bss;
 use std::marker::{Model, PhantomData};
 use std::sync::Wait;
 
-/// What became of the frames of a network that waited.
-#[derive(Clone, Copy, Debug)]
-pub(crate) struct Handing {
-    /// How many went to the air queue.
-    pub(crate) count: u32,
-    /// Whether some wait still, since the queue was full.
-    pub(crate) waits: bool,
-}
-
 /// A network of the access point N with its pass to the air queue, as they stand under one lock (*profile*). What was
 /// pushed and then what waits is all that the network alone sends for its history: no frame is lost, doubled or
-/// overtaken.
+/// overtaken. Where it told last that none waits, none does: so it tells before its lock is let go.
 #[derive(Drop)]
 pub struct Seat<N: ApName> {
     bss: Bss,
     pass: NetPass,
+    /// Whether frames wait, as it told last.
+    told: bool,
     of: PhantomData<N>,
 }
 
 impl<N: ApName> Model for Seat<N> {
+    ghost use Rattle.std.specs.Prelude.{◌≡◌, [], false};
     ghost use Rattle.workers.specs.Seats.{SeatView, IsSeated};
 
     ghost Value = { SeatView };
 
     ghost view = { λ s. record { network = s.bss; pass = s.pass } };
 
-    ghost invariant = { λ s. IsSeated N.config N.queue s.bss s.pass };
+    ghost invariant = { λ s. IsSeated N.config N.queue s.bss s.pass × (s.told ≡ false → s.bss.waiting ≡ []) };
 }
 
 impl<N: ApName> Seat<N> {
-    /// The seat of a network.
+    /// The seat of a network, which has told nothing: its frames may wait.
     pub(crate) fn new(bss: Bss, pass: NetPass) -> Seat<N>
         requires { IsSeated N.config N.queue bss pass }
         ensures { result ≡ record { network = bss; pass = pass } }
@@ -52,18 +47,22 @@ impl<N: ApName> Seat<N> {
         Seat {
             bss,
             pass,
+            told: true,
             of: PhantomData,
         }
     }
 
-    /// Offers the network an event.
-    pub(crate) fn take(&mut self, event: Event) -> Outcome
+    /// Offers the network an event, and tells whether frames wait then.
+    pub(crate) fn take(&mut self, event: Event, waiting: &Waiting) -> Outcome
         ensures answer { AnswersEvent event self.old.network self.new.network result }
         ensures setting { self.new.network.setting ≡ self.old.network.setting }
         ensures bounded { length self.new.network.history ≤ self.new.network.setting.network.max_events }
         ensures pass { self.new.pass ≡ self.old.pass }
     {
-        Outcome::from(self.bss.take(event))
+        let outcome = Outcome::from(self.bss.take(event));
+        let waits = self.bss.waiting_len() > 0;
+        self.told = waiting.tell(self.pass.place(), self.told, waits);
+        outcome
     }
 
     /// Pushes the first frame that waits, which goes on waiting where it comes back.
@@ -85,35 +84,23 @@ impl<N: ApName> Seat<N> {
         }
     }
 
-    /// Pushes the frames that wait, the first of them first, until none waits or one comes back.
-    pub(crate) fn hand_all<R: Wait>(&mut self, rt: &R, queue: &AirQueue) -> Handing
+    /// Pushes the frames that wait, the first of them first, until none waits, which it tells, or one comes back.
+    /// Answers how many it pushed.
+    pub(crate) fn hand_all<R: Wait>(&mut self, rt: &R, queue: &AirQueue, waiting: &Waiting) -> u32
         requires { queue.now.name ≡ N.queue }
-        ensures history { self.new.network.history ≡ self.old.network.history }
-        ensures none { result.waits ≡ false → self.new.network.waiting ≡ [] }
+        ensures { self.new.network.history ≡ self.old.network.history }
     {
         for count in 0..u32::MAX {
             match self.hand(rt, queue) {
                 Handed::Moved => {}
                 Handed::Nothing => {
-                    return Handing {
-                        count,
-                        waits: false,
-                    };
+                    self.told = waiting.tell(self.pass.place(), self.told, false);
+                    return count;
                 }
-                Handed::QueueFull => return Handing { count, waits: true },
+                Handed::QueueFull => return count,
             }
         }
-        Handing {
-            count: u32::MAX,
-            waits: true,
-        }
-    }
-
-    /// Whether frames wait.
-    pub(crate) fn waits(&self) -> bool
-        ensures { result ≡ false → self.now.network.waiting ≡ [] }
-    {
-        self.bss.waiting_len() > 0
+        u32::MAX
     }
 
     /// What `f` answers of the network.
@@ -129,7 +116,12 @@ impl<N: ApName> Seat<N> {
         ensures parts { (result.0 ≡ self.network) × (result.1 ≡ self.pass) }
         ensures seated { IsSeated N.config N.queue result.0 result.1 }
     {
-        let Seat { bss, pass, of: _ } = self;
+        let Seat {
+            bss,
+            pass,
+            told: _,
+            of: _,
+        } = self;
         (bss, pass)
     }
 }

@@ -11,6 +11,7 @@ use crate::name::ApName;
 use crate::parts::Parts;
 use crate::seat::Seat;
 use crate::transmitter::Transmitter;
+use crate::waiting::Waiting;
 use air_queue::NetPass;
 use ap_config::{RadioConfig, checked_networks};
 use mac_frame::NoMemory;
@@ -18,7 +19,6 @@ use network::Bss;
 use std::alloc::Global;
 use std::marker::PhantomData;
 use std::sync::Mutex;
-use std::sync::atomic::AtomicU64;
 
 impl<N: ApName> Ap<N> {
     /// The access point N of its parts, whose networks have taken no event, its callers without entries, and the
@@ -47,7 +47,7 @@ impl<N: ApName> Ap<N> {
             bssids,
             seats,
             queue,
-            waiting: AtomicU64::new(0),
+            waiting: Waiting::new(),
         };
         let transmitter = Transmitter {
             pass: radio,

@@ -42,6 +42,10 @@ pub(super) enum Move {
     Pumps(u32),
     /// So many frames of the network at a place go to the queue, and its first leaves.
     PumpsAt(usize, u32),
+    /// The same of each network, the first first.
+    PumpsEach(u32),
+    /// No frame of any network goes to the queue.
+    PumpsNone,
     /// A frame leaves, or none, and this many have left then.
     Leaves(bool, usize),
     /// The first network shows how many events it took, how many intervals began, how many of its events are unread,
@@ -165,6 +169,17 @@ const PUMP_THE_SECOND: &[Move] = &[
     Move::PumpsAt(1, 1),
 ];
 
+/// Each network takes a tick, its beacon goes to the queue and leaves, and nothing of it waits then.
+const PUMP_EACH: &[Move] = &[
+    Move::Gives(Given::Tick, [Outcome::Took(0), Outcome::Took(0)]),
+    Move::PumpsEach(1),
+    Move::Leaves(false, MAX_NETWORKS),
+    Move::PumpsNone,
+    Move::Gives(Given::Tick, [Outcome::Took(1), Outcome::Took(1)]),
+    Move::PumpsEach(1),
+    Move::Leaves(false, 2 * MAX_NETWORKS),
+];
+
 /// Each of two callers lets a station of its own join, and gives a tick.
 const IN_TURN: &[Move] = &[
     Move::Takes(Given::Air(AUTHENTICATION_REQUEST), 0),
@@ -272,6 +287,31 @@ fn pumps_at<N: ApName, R: Wait>(
     )
 }
 
+/// The same of each network, the first first.
+fn pumps_each<N: ApName, R: Wait>(
+    rt: &R,
+    ap: &Ap<N>,
+    transmitter: &mut Transmitter<N>,
+    count: u32,
+) -> Result<bool, Fail> {
+    for place in 0..ap.networks() {
+        if !pumps_at(rt, ap, transmitter, place, count)? {
+            return Ok(false);
+        }
+    }
+    Ok(true)
+}
+
+/// Whether no frame of any network goes to the queue.
+fn pumps_none<N: ApName, R: Wait>(rt: &R, ap: &Ap<N>) -> bool {
+    for place in 0..ap.networks() {
+        if ap.pump(rt, place) != 0 {
+            return false;
+        }
+    }
+    true
+}
+
 /// Whether that comes of a move.
 fn comes_of<N: ApName, R: Wait>(
     rt: &R,
@@ -290,6 +330,8 @@ fn comes_of<N: ApName, R: Wait>(
         }
         Move::Pumps(count) => Ok(ap.pump(rt, 0) == count),
         Move::PumpsAt(place, count) => pumps_at(rt, ap, transmitter, place, count),
+        Move::PumpsEach(count) => pumps_each(rt, ap, transmitter, count),
+        Move::PumpsNone => Ok(pumps_none(rt, ap)),
         Move::Leaves(leaves, count) => {
             Ok(ap.leave(rt, transmitter)? == leaves && transmitter.left().len() == count)
         }
@@ -410,6 +452,15 @@ fn a_pump_hands_both_frames_that_wait(rt: HostRuntime) -> Result<(), Fail> {
 fn a_pump_hands_the_frames_of_its_network(rt: HostRuntime) -> Result<(), Fail> {
     let config = radio(rt.alloc(), 64, &[100; MAX_NETWORKS])?;
     let _end = run(&rt, rt.alloc(), config, 1, Job::Moves(PUMP_THE_SECOND))?;
+    Ok(())
+}
+
+/// No two places are taken for one.
+#[test]
+fn a_pump_hands_the_frame_of_each_of_sixteen_networks(rt: HostRuntime) -> Result<(), Fail> {
+    let config = radio(rt.alloc(), 64, &[100; MAX_NETWORKS])?;
+    let end = run(&rt, rt.alloc(), config, 1, Job::Moves(PUMP_EACH))?;
+    assert!(rt; are_two_of_each(&end));
     Ok(())
 }
 

@@ -55,7 +55,7 @@ struct Row {
 
 /// Of several faults the first is told: a bad receipt, then an event that no receipt tells of, then a network that is
 /// not full.
-const ROWS: [Row; 19] = [
+const ROWS: [Row; 21] = [
     Row {
         what: "its own caller, after Took and Full",
         told: &[],
@@ -242,6 +242,28 @@ const ROWS: [Row; 19] = [
             handed: Handed::AllButTheLast,
         },
         expected: Some(FinishFault::Uncovered),
+    },
+    Row {
+        what: "another event, and full, where one more fits",
+        told: &[(&[1], 2)],
+        most: 100,
+        callers: 1,
+        visit: Visit {
+            gift: Gift::WiredFrame,
+            handed: Handed::AllButTheLast,
+        },
+        expected: Some(FinishFault::BadReceipt),
+    },
+    Row {
+        what: "place 1 is not there, event 1 is not told of, and full, where one more fits",
+        told: &[(&[1, 1000], 2)],
+        most: 100,
+        callers: 1,
+        visit: Visit {
+            gift: Gift::Ticks(2),
+            handed: Handed::AllButTheLast,
+        },
+        expected: Some(FinishFault::BadReceipt),
     },
     Row {
         what: "full, and then event 1 of a network that is full now",

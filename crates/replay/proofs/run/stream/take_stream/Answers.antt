@@ -27,7 +27,7 @@ loop-preserved g c =
           (λ said. g.T.TakeLines.has_taken config said c.loop.networks) c.take_piece.new.self
           (λ said. g.T.TakeLines.has_taken config said c.take_piece.new.lines) s c.in-Ok.ensures.prefix.1
           c.in-Ok.ensures.reads kept
-          (c.in_ok-take_piece.ensures config s.text s.replayed);
+          (c.in_ok-take_piece.ensures.all config s.text s.replayed);
       none_failed = kept ∙ c.loop.invariant.none_failed;
       whole = c.read_some.auto.buffer ∙ c.loop.invariant.whole;
     }
@@ -105,7 +105,7 @@ returns-in_err-take_piece g c config h =
           });
       end =
           is_fault config (s.text ++ piece) e (stops_in config s.text piece _ _ s.replayed short)
-          (c.in_err-take_piece.ensures config s.text s.replayed);
+          (c.in_err-take_piece.ensures.all config s.text s.replayed);
     })
 
 pub returns : goal.returns
