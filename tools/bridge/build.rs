@@ -1,5 +1,7 @@
-//! Links the static library of the proved rule of shares, which `tools/bridge/build` makes where it is missing.
-use std::path::PathBuf;
+//! Links the static library of the proved rule of shares, which `tools/bridge/build` makes where it is missing, and
+//! refuses to build where the library and the bridge don't lay the record of a network out alike.
+use std::fs::read_to_string;
+use std::path::{Path, PathBuf};
 
 fn main() {
     let folder = std::env::var_os("AIR_SHARE").map_or_else(
@@ -10,4 +12,19 @@ fn main() {
     println!("cargo:rerun-if-changed={}", folder.join("libair_share_c.a").display());
     println!("cargo:rustc-link-search=native={}", folder.display());
     println!("cargo:rustc-link-lib=static=air_share_c");
+    let of_library = fields(&folder.join("../../air_share/src/lane.rt"), "pub struct Lane {");
+    let of_bridge = fields(Path::new("src/outbound/air/proved_rule.rs"), "struct NetworkDebt {");
+    assert_eq!(of_library, of_bridge, "the library and the bridge lay the record of a network out differently");
+}
+
+/// The fields of a record that is laid out as C does it: their names and types, in order.
+fn fields(source: &Path, record: &str) -> Vec<String> {
+    println!("cargo:rerun-if-changed={}", source.display());
+    let text = read_to_string(source).unwrap_or_else(|fault| panic!("{}: {fault}", source.display()));
+    let lines: Vec<&str> = text.lines().map(str::trim).collect();
+    let begin = lines.iter().position(|line| *line == record).unwrap_or_else(|| panic!("no {record}"));
+    let attributes = lines[..begin].iter().rev().take_while(|line| line.starts_with("#["));
+    assert!(attributes.into_iter().any(|line| *line == "#[repr(C)]"), "{record} isn't laid out as C does it");
+    let inside = lines[begin + 1..].iter().take_while(|line| **line != "}").filter(|line| !line.starts_with("///"));
+    inside.map(|line| line.trim_start_matches("pub ").to_owned()).collect()
 }

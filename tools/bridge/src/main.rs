@@ -12,8 +12,8 @@
 //!                                                                                 ▲       │                │
 //!  the clock, `tables` of tools/live ─────────────────────────────────────────────┘       │                │
 //!                                                                                         │                │
-//!  wire1 ◀─┬─ sendmmsg ◀─────── wire: each in order;                 ◀═══════════════════ │                │
-//!  wire2 ◀─┘  8 at most a call                                                   records  │                │
+//!  wire1 ◀─┬─ send ◀─────────── wire: each in order;                 ◀═══════════════════ │                │
+//!  wire2 ◀─┘  8 at most in a row                                                records  │                │
 //!  mon0 ◀──── beacons, at once ◀─ air                                                     └────────────────┘
 //!  mon0 ◀──── as much as the  ◀── scheduler: whose turn it is, of the networks and of a network's receivers
 //!             radio sends in      links: at which rate, and again where it is lost
@@ -32,8 +32,9 @@
 //! before all that waits, group frames of its network included; what the program sends after a beacon never goes before
 //! it. While a network has frames waiting for the air, no other one gets more than its share of it and one frame
 //! (`scheduler`). All memory is bounded. One thread does all by `epoll`, and waits nowhere else but where many frames come
-//! for a millisecond at most, in which some gather (`batching`). What may make a writer wait, standard error and the
-//! record, threads of their own write (`os::background_writer`): what these don't take in time is dropped and counted.
+//! for a millisecond at most, in which some gather (`batching`). What may make a writer wait, standard error, the record
+//! and what `tools/live` is told, threads of their own write (`os::background_writer`): what these don't take in time is
+//! dropped and counted.
 //!
 //! It leaves every decision on a frame to the program, and leaves to `tools/live` all that takes rights: it has none of
 //! its own (`os::sandbox`). It speaks with that by lines of a Unix socket: it reads `state`, with the files by which
@@ -42,7 +43,7 @@
 //! join again; the end of its input ends it. It writes `ready`, once the networks are open, `sending`, once the first
 //! beacon was seen as sent, `unsent` where none was for a while, and `sending` again, `elsewhere MHZ` where the radio
 //! hears on another frequency than its channel's, and `here` once it is back, `alive` while the program answers, `down
-//! PLACE` where a wire ended, `dismissed`, `status N` with the status of the program, and `fault TEXT`, after which it
+//! PLACE` where a wire ended, `dismissed`, `status N` with the status of the program, and `fault CODE TEXT`, after which it
 //! ends with status 1.
 //!
 //! Where a bridge takes the place of another one, stations stay (`handover::replay`). The state that the one before
@@ -72,36 +73,41 @@ mod stations;
 #[cfg(test)]
 mod testing;
 
+use crate::os::clock::Duration;
 use std::os::unix::io::{AsFd, RawFd};
 use std::process::ExitCode;
 
 use crate::apctl::program::Program;
 use crate::apctl::recording::Recording;
 use crate::handover::state::Setting;
+use crate::handover::state_files::MOST_WRITTEN;
 use control::arguments::Arguments;
 use control::clients::Clients;
 use control::faults::{self, Fault};
 use control::log;
-use control::parent::{say, Handed, Notice, Requests};
-use os::clock::{Nanos, SECOND};
+use control::notices::{self, say, Notice};
+use control::parent::{Handed, Requests};
+use os::handed::{inherited, inherited_listener};
+use os::interfaces::Interfaces;
+use os::packet_socket::PacketSocket;
+use os::port::OfSocket;
 use os::sandbox::{self, Bounds};
-use os::sockets::{inherited, inherited_listener, OfSocket, PacketSocket};
-use outbound::Outbound;
 use run::{Bridge, Manner};
 
 const WRONG_WORDS: u8 = 2;
 
-/// Writes what of the log still waits, whatever ends the bridge.
-struct FinishesLog;
+/// Writes what of notices and the log still waits, whatever ends the bridge.
+struct FinishesWriting;
 
-impl Drop for FinishesLog {
+impl Drop for FinishesWriting {
     fn drop(&mut self) {
+        notices::finish();
         log::finish();
     }
 }
 
 fn main() -> ExitCode {
-    let _at_the_end = FinishesLog;
+    let _at_the_end = FinishesWriting;
     begin()
 }
 
@@ -127,26 +133,39 @@ fn run(words: &Arguments) -> Result<(), Fault> {
     sandbox::give_up_capabilities()?;
     let requests =
         std::io::stdin().as_fd().try_clone_to_owned().map_err(|fault| Fault::of("standard input", &fault))?;
-    let record = words.record.as_ref().map(|(descriptor, name)| record(*descriptor, name)).transpose()?;
+    sandbox::bound_files(most_of_files(words))?;
+    let record = words.record.as_ref().map(|named| record(named, words.record_limit)).transpose()?;
     let clients = words.socket.map(listen).transpose()?;
     let bounds = words.bounds.map(|memory| Bounds::of(&words.program, &words.config, memory)).transpose()?;
     let (program, feeder) = Program::start(&words.program, &words.config, bounds, record)?;
     let manner = Manner {
         setting: Setting { phy: words.phy.clone(), channel: words.channel, interval: words.interval },
+        networks: words.networks.clone(),
         by: words.by,
-        most_silence: Some(Nanos::from(words.idle) * SECOND).filter(|silence| *silence > 0),
+        most_silence: Some(Duration::from_secs(words.idle.into())).filter(|silence| !silence.is_zero()),
+        tells_wires: words.tells_wires,
         tells_alive: words.tells_alive,
+        has_sent: words.has_sent,
     };
     log::write_in_background()?;
+    notices::say_in_background()?;
+    let process = program.process();
     let mut bridge = Bridge::new(program, feeder, Requests::new(requests.into()), clients, manner)?;
-    sandbox::keep_to_calls()?;
+    sandbox::keep_to_calls(process)?;
     bridge.serve(|handed| open(words, handed))
 }
 
+/// How many octets a file has at most that the bridge writes: those of the state, and the record. There is no bound where
+/// the record has no limit, or the log is led into a file.
+fn most_of_files(words: &Arguments) -> Option<u64> {
+    let of_record = if words.record.is_some() { words.record_limit } else { Some(0) };
+    of_record.filter(|_| !log::is_file()).map(|most| most.max(MOST_WRITTEN as u64))
+}
+
 /// The file of the record, which `tools/live` has made.
-fn record(descriptor: RawFd, name: &str) -> Result<Recording, Fault> {
-    let file = inherited(descriptor).map_err(|fault| Fault::of(format!("--record {name}"), &fault))?;
-    Recording::new(name, file.into()).map_err(|fault| Fault::of("no thread for the record", &fault))
+fn record((descriptor, name): &(RawFd, String), limit: Option<u64>) -> Result<Recording, Fault> {
+    let file = inherited(*descriptor).map_err(|fault| Fault::of(format!("--record {name}"), &fault))?;
+    Recording::new(name, file.into(), limit).map_err(|fault| Fault::of("no thread for the record", &fault))
 }
 
 /// The socket by which whoever wants asks the bridge.
@@ -155,18 +174,18 @@ fn listen(descriptor: RawFd) -> Result<Clients, Fault> {
 }
 
 /// The sockets of the monitor interface and of each wire, as `tools/live` opened them.
-fn open(words: &Arguments, handed: Handed) -> Result<Outbound<PacketSocket>, Fault> {
+fn open(words: &Arguments, handed: Handed) -> Result<Interfaces<PacketSocket>, Fault> {
     let mut sockets = handed.sockets.into_iter();
     let mut next = |interface: &str| match sockets.next() {
         Some(socket) => Ok(PacketSocket::of(interface, socket)),
-        None => Err(Fault::new(format!("{interface}: no socket was handed over"))),
+        None => Err(Fault::Request(format!("{interface}: no socket was handed over"))),
     };
     let (monitor, beacons, acknowledged) = (next(&words.monitor)?, next(&words.monitor)?, next(&words.monitor)?);
     let mut wires: Vec<Option<PacketSocket>> = words.networks.iter().map(|_| None).collect();
     for place in handed.wires {
         let wire = words.networks.get(place).and_then(|network| network.wire.as_deref());
-        let wire = wire.ok_or_else(|| Fault::new(format!("the network of the place {place} has no wire")))?;
+        let wire = wire.ok_or_else(|| Fault::Request(format!("the network of the place {place} has no wire")))?;
         wires[place] = Some(next(wire)?);
     }
-    Ok(Outbound::new(words.networks.clone(), monitor, beacons, wires).with_acknowledged(acknowledged))
+    Ok(Interfaces::new(monitor, beacons, wires).with_acknowledged(acknowledged))
 }

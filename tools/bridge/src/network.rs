@@ -16,6 +16,8 @@ pub struct Network {
     pub max_stations: u16,
     /// How many stations it knows at most.
     pub max_known: u16,
+    /// How many units it keeps for stations that doze, at most.
+    pub quota: u32,
     /// The interface of its wire, if it has one.
     pub wire: Option<String>,
     /// Its share of the air, as a part of all networks' shares: from 1 to `scheduler::MOST_WEIGHT`.

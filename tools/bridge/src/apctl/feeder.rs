@@ -1,13 +1,13 @@
 //! What is said to the program goes into its pipe, as far as it has read what was said before.
 use std::collections::VecDeque;
 use std::io::{ErrorKind, Write};
-use std::os::unix::io::{AsRawFd, RawFd};
+use std::os::unix::io::{AsFd, BorrowedFd};
 use std::process::ChildStdin;
 
+use crate::apctl::protocol::{push_mark, push_record, Event};
 use crate::apctl::recording::Recording;
-use crate::apctl::records::{push_record, Event};
 use crate::control::faults::Fault;
-use crate::os::sockets::octets_in_pipe;
+use crate::os::socket_options::octets_in_pipe;
 
 /// How many events are in the pipe at most that the program hasn't read: what is said then waits no longer than these
 /// take, a beacon interval above all.
@@ -23,17 +23,19 @@ pub struct Feeder {
     said: u64,
     ends: VecDeque<u64>,
     tick_end: u64,
+    /// How many records the program was given.
+    records: u64,
 }
 
 impl Feeder {
     pub fn new(input: ChildStdin, record: Option<Recording>) -> Feeder {
         let (pending, ends) = (Vec::new(), VecDeque::new());
-        Feeder { input: Some(input), record, pending, said: 0, ends, tick_end: 0 }
+        Feeder { input: Some(input), record, pending, said: 0, ends, tick_end: 0, records: 0 }
     }
 
     /// By which one waits for room, while there is an input.
-    pub fn descriptor(&self) -> Option<RawFd> {
-        self.input.as_ref().map(AsRawFd::as_raw_fd)
+    pub fn descriptor(&self) -> Option<BorrowedFd<'_>> {
+        self.input.as_ref().map(AsFd::as_fd)
     }
 
     /// How many more frames may be said now. What the program has ended to read is never read, and lost.
@@ -70,14 +72,26 @@ impl Feeder {
         if let Some(record) = &mut self.record {
             record.write(event);
         }
+        self.push(|pending| push_record(event, pending));
+        if event == Event::Tick {
+            self.tick_end = self.said;
+        }
+    }
+
+    /// Says a mark, and answers its number: the program has answered all that was said before once it answers that. A
+    /// mark isn't recorded, as `run` takes none.
+    pub fn mark(&mut self) -> u64 {
+        self.push(push_mark);
+        self.records
+    }
+
+    fn push(&mut self, push: impl FnOnce(&mut Vec<u8>)) {
+        self.records += 1;
         if self.input.is_some() {
             let before = self.pending.len();
-            push_record(event, &mut self.pending);
+            push(&mut self.pending);
             self.said += (self.pending.len() - before) as u64;
             self.ends.push_back(self.said);
-            if event == Event::Tick {
-                self.tick_end = self.said;
-            }
         }
     }
 

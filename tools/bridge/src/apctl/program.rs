@@ -1,26 +1,26 @@
 //! The program while it is live: what is said to it goes into a pipe, and its answers come by another.
 use std::io::{self, ErrorKind, Read};
-use std::os::unix::io::{AsRawFd, RawFd};
+use std::os::unix::io::{AsFd, BorrowedFd};
 use std::os::unix::process::ExitStatusExt;
 use std::process::{Child, ChildStdout, Command, Stdio};
 use std::thread::sleep;
 use std::time::Duration;
 
 use crate::apctl::feeder::Feeder;
+use crate::apctl::protocol::{Answer, Answers};
 use crate::apctl::recording::Recording;
-use crate::apctl::records::{Answer, Answers};
 use crate::control::faults::{reason, Fault};
-use crate::os::clock::{now, Nanos};
+use crate::os::clock::{now, Instant};
 use crate::os::pipes::{set_nonblocking, set_room};
 use crate::os::sandbox::Bounds;
 
 const PIPE_LEN: i32 = 1 << 20;
-pub const PIECE_LEN: usize = 1 << 16;
+pub(super) const PIECE_LEN: usize = 1 << 16;
 const EVERY: Duration = Duration::from_millis(5);
 
 /// Why the program wasn't begun. Landlock knows a file by its place in the kernel, which a file system of another
 /// machine may give anew each time that a file is opened (9p does).
-pub fn not_begun(path: &str, is_bounded: bool, fault: &io::Error) -> Fault {
+fn not_begun(path: &str, is_bounded: bool, fault: &io::Error) -> Fault {
     let of_landlock = match fault.kind() {
         ErrorKind::PermissionDenied if is_bounded => {
             " within its bounds: where the file system is another machine's (9p), copy the program and the configuration \
@@ -28,7 +28,7 @@ pub fn not_begun(path: &str, is_bounded: bool, fault: &io::Error) -> Fault {
         }
         _ => "",
     };
-    Fault::new(format!("{path}: {}{of_landlock}", reason(fault)))
+    Fault::NotBegun(format!("{path}: {}{of_landlock}", reason(fault)))
 }
 
 /// `PROGRAM live --octets CONFIG`.
@@ -60,7 +60,7 @@ impl Program {
         let mut child = command.spawn().map_err(|fault| not_begun(path, is_bounded, &fault))?;
         match (child.stdin.take(), child.stdout.take()) {
             (Some(input), Some(output)) => {
-                for pipe in [input.as_raw_fd(), output.as_raw_fd()] {
+                for pipe in [input.as_fd(), output.as_fd()] {
                     prepare(pipe)?;
                 }
                 let answers = Answers::new();
@@ -68,13 +68,18 @@ impl Program {
                 let program = Program { child, output, answers, piece, was_last: false, has_ended: false };
                 Ok((program, Feeder::new(input, record)))
             }
-            _ => Err(Fault::new(format!("{path}: it has no pipes"))),
+            _ => Err(Fault::NotBegun(format!("{path}: it has no pipes"))),
         }
     }
 
+    /// The number of its process.
+    pub fn process(&self) -> u32 {
+        self.child.id()
+    }
+
     /// By which one waits for its answers.
-    pub fn descriptor(&self) -> RawFd {
-        self.output.as_raw_fd()
+    pub fn descriptor(&self) -> BorrowedFd<'_> {
+        self.output.as_fd()
     }
 
     /// Reads what it wrote, a piece of it at most, and answers whether there was one. After a piece that was all that
@@ -98,7 +103,7 @@ impl Program {
 
     /// The next answer of what was read.
     pub fn next_answer(&mut self) -> Result<Option<Answer>, Fault> {
-        self.answers.next().map_err(|unknown| Fault::new(unknown.to_string()))
+        self.answers.next().map_err(|unknown| Fault::WrongAnswer(unknown.to_string()))
     }
 
     /// Whether it has closed its output.
@@ -107,7 +112,7 @@ impl Program {
     }
 
     /// Its status once it has ended, as a shell tells it; it is killed where it doesn't end by then.
-    pub fn status(&mut self, until: Nanos) -> io::Result<i32> {
+    pub fn status(&mut self, until: Instant) -> io::Result<i32> {
         while self.child.try_wait()?.is_none() && now() < until {
             sleep(EVERY);
         }
@@ -120,7 +125,7 @@ impl Program {
 }
 
 /// A pipe that blocks nobody and is as large as it may be.
-fn prepare(pipe: RawFd) -> Result<(), Fault> {
+fn prepare(pipe: BorrowedFd<'_>) -> Result<(), Fault> {
     set_nonblocking(pipe)?;
     // One that stays smaller is only slower.
     let _ = set_room(pipe, PIPE_LEN);

@@ -2,13 +2,13 @@
 use std::fs::File;
 use std::io::{self, ErrorKind, Write};
 use std::sync::{Arc, Mutex, MutexGuard, PoisonError};
-use std::time::{Duration, Instant};
 
 use crate::apctl::program::PIECE_LEN;
-use crate::apctl::records::Event;
+use crate::apctl::protocol::Event;
 use crate::control::faults::reason;
 use crate::control::log::{self, Level};
 use crate::os::background_writer::BackgroundWriter;
+use crate::os::clock::{now, Duration};
 
 /// How many octets of lines wait at most until the file has taken them: at 4,000 units a second those of some seconds.
 const MOST_WAITING: usize = 16 << 20;
@@ -17,8 +17,8 @@ const TO_FINISH: Duration = Duration::from_secs(2);
 
 /// The lines that the program is given, as `run` reads them; a question for the tables stands there as a comment.
 /// Nobody waits for the file: lines that it doesn't take in time are left out, and a comment there counts them. Where
-/// nothing more can be written, as on a full disk, the recording stops: it is told once, the file keeps whole lines
-/// alone, and all else goes on.
+/// nothing more can be written, as on a full disk, or the file has reached its limit, the recording stops: it is told
+/// once, the file keeps whole lines alone, and all else goes on.
 #[derive(Debug)]
 pub struct Recording {
     name: String,
@@ -48,14 +48,15 @@ impl Progress {
 }
 
 impl Recording {
-    /// Into a file that is open for writing and empty; its name is for people.
-    pub fn new(name: &str, file: File) -> io::Result<Recording> {
-        Recording::with_most(name, file, MOST_WAITING)
+    /// Into a file that is open for writing and empty, and which has so many octets at most, where it has a limit; its
+    /// name is for people.
+    pub fn new(name: &str, file: File, limit: Option<u64>) -> io::Result<Recording> {
+        Recording::with_most(name, file, limit, MOST_WAITING)
     }
 
-    fn with_most(name: &str, file: File, most_waiting: usize) -> io::Result<Recording> {
+    fn with_most(name: &str, file: File, limit: Option<u64>, most_waiting: usize) -> io::Result<Recording> {
         let progress = Arc::<Progress>::default();
-        let mut lines = Lines { name: name.to_owned(), file: Some(file), progress: Arc::clone(&progress) };
+        let mut lines = Lines { name: name.to_owned(), file: Some(file), limit, progress: Arc::clone(&progress) };
         let writer = BackgroundWriter::start(most_waiting, move |piece| lines.write(piece))?;
         Ok(Recording { name: name.to_owned(), pending: Vec::new(), writer, progress, left_out: 0, has_stopped: false })
     }
@@ -141,12 +142,12 @@ impl Recording {
 
     /// Writes what waits, for so long at most, and answers how many octets aren't written.
     fn finish_within(&mut self, most: Duration) -> usize {
-        let until = Instant::now() + most;
+        let until = now() + most;
         self.flush();
         let left = self.writer.finish(most);
         if left == 0 && self.left_out > 0 {
             self.tell_left_out();
-            return self.writer.finish(until.saturating_duration_since(Instant::now()));
+            return self.writer.finish(until.since(now()));
         }
         left
     }
@@ -157,19 +158,33 @@ struct Lines {
     name: String,
     /// `None` once the recording has stopped.
     file: Option<File>,
+    /// How many octets the file has at most.
+    limit: Option<u64>,
     progress: Arc<Progress>,
 }
 
 impl Lines {
-    /// Writes whole lines.
+    /// Writes whole lines, as far as the file's limit lets them in.
     fn write(&mut self, lines: &[u8]) {
+        let room = self.limit.map_or(u64::MAX, |limit| limit.saturating_sub(self.progress.lock().written));
+        let fitting = match usize::try_from(room) {
+            Ok(room) if room < lines.len() => whole_lines(&lines[..room]),
+            _ => lines.len(),
+        };
+        self.write_out(&lines[..fitting]);
+        if let Some(limit) = self.limit.filter(|_| fitting < lines.len() && self.file.is_some()) {
+            self.stop(&[], Level::Notice, format!("the limit of {limit} octets is reached"));
+        }
+    }
+
+    fn write_out(&mut self, lines: &[u8]) {
         let mut done = 0;
         while let Some(file) = self.file.as_mut().filter(|_| done < lines.len()) {
             match file.write(&lines[done..]) {
-                Ok(0) => self.stop(&lines[..done], &io::Error::from(ErrorKind::WriteZero)),
+                Ok(0) => self.fail(&lines[..done], &io::Error::from(ErrorKind::WriteZero)),
                 Ok(length) => done += length,
                 Err(fault) if fault.kind() == ErrorKind::Interrupted => {}
-                Err(fault) => self.stop(&lines[..done], &fault),
+                Err(fault) => self.fail(&lines[..done], &fault),
             }
         }
         if self.file.is_some() {
@@ -177,22 +192,29 @@ impl Lines {
         }
     }
 
+    /// Stops the recording, since nothing more can be written.
+    fn fail(&mut self, written: &[u8], fault: &io::Error) {
+        self.stop(written, Level::Warning, reason(fault));
+    }
+
     /// Stops the recording: so much was written, of which the last line is cut off where it isn't whole. Nobody is kept
     /// waiting meanwhile who asks how far the file is.
-    fn stop(&mut self, written: &[u8], fault: &io::Error) {
-        let whole = written.iter().rposition(|octet| *octet == b'\n').map_or(0, |place| place + 1);
-        let written = self.progress.lock().written + whole as u64;
+    fn stop(&mut self, written: &[u8], level: Level, why: String) {
+        let written = self.progress.lock().written + whole_lines(written) as u64;
         if let Some(file) = self.file.take() {
             // What is no file, as a pipe, has no length to set.
             let _ = file.set_len(written);
         }
-        let text = reason(fault);
-        log::write_event(
-            Level::Warning,
-            format_args!("--record {}: {text}: nothing more is recorded. All else goes on", self.name),
-        );
-        *self.progress.lock() = Reached { written, fault: Some(text) };
+        let name = &self.name;
+        let text = format!("--record {name}: {why}: nothing more is recorded. All else goes on");
+        log::write_event(level, text);
+        *self.progress.lock() = Reached { written, fault: Some(why) };
     }
+}
+
+/// How many of these octets are whole lines.
+fn whole_lines(octets: &[u8]) -> usize {
+    octets.iter().rposition(|octet| *octet == b'\n').map_or(0, |place| place + 1)
 }
 
 fn comment(text: &str) -> Vec<u8> {
@@ -257,7 +279,7 @@ mod tests {
     #[test]
     fn events_are_recorded_as_lines() {
         let (path, file) = file_of("lines");
-        let mut record = Recording::new("today", file).unwrap();
+        let mut record = Recording::new("today", file, None).unwrap();
         for event in [Event::Tick, Event::Tables, Event::Air(&[1, 2])] {
             record.write(event);
         }
@@ -272,7 +294,7 @@ mod tests {
     #[test]
     fn where_the_disk_is_full_the_recording_stops() {
         let file = OpenOptions::new().write(true).open("/dev/full").unwrap();
-        let mut record = Recording::new("today", file).unwrap();
+        let mut record = Recording::new("today", file, None).unwrap();
         record.write(Event::Tick);
         record.finish_within(LONG);
         assert_eq!((record.written(), record.fault().as_deref()), (0, Some("No space left on device")));
@@ -287,18 +309,39 @@ mod tests {
         let (path, mut file) = file_of("cut");
         file.write_all(b"T\nA 0102\nA 03").unwrap();
         let progress = Arc::new(Progress(Mutex::new(Reached { written: 2, fault: None })));
-        let mut lines = Lines { name: "today".to_owned(), file: Some(file), progress: Arc::clone(&progress) };
-        lines.stop(b"A 0102\nA 03", &io::Error::from_raw_os_error(libc::ENOSPC));
+        let progress_too = Arc::clone(&progress);
+        let mut lines = Lines { name: "today".to_owned(), file: Some(file), limit: None, progress: progress_too };
+        lines.fail(b"A 0102\nA 03", &io::Error::from_raw_os_error(libc::ENOSPC));
         assert_eq!(std::fs::read_to_string(&path).unwrap(), "T\nA 0102\n");
         assert_eq!(progress.lock().written, 9);
         std::fs::remove_file(path).unwrap();
+    }
+
+    /// The file has whole lines, and never more octets than the limit; that it has ended is told as other ends are.
+    #[test]
+    fn a_record_ends_at_its_limit() {
+        const LIMIT: u64 = 10;
+        for lines in [&[b"T\n".repeat(3)][..], &[b"A 01\n".to_vec(), b"A 02\nA 03\nA 04\n".to_vec(), b"T\n".to_vec()]] {
+            let (path, file) = file_of("limit");
+            let progress = Arc::<Progress>::default();
+            let progress_too = Arc::clone(&progress);
+            let mut of_file =
+                Lines { name: "today".to_owned(), file: Some(file), limit: Some(LIMIT), progress: progress_too };
+            lines.iter().for_each(|piece| of_file.write(piece));
+            let (all, Reached { written, fault }) = (lines.concat(), progress.lock().clone());
+            let is_ended = all.len() as u64 > LIMIT;
+            assert_eq!(std::fs::read(&path).unwrap(), all[..all.len().min(LIMIT as usize)]);
+            assert_eq!((written, fault.is_some()), ((all.len() as u64).min(LIMIT), is_ended));
+            assert!(fault.map_or(true, |fault| fault == "the limit of 10 octets is reached"));
+            std::fs::remove_file(path).unwrap();
+        }
     }
 
     #[test]
     fn what_takes_nothing_stops_the_recording() {
         let (near, far) = UnixStream::pair().unwrap();
         drop(far);
-        let mut record = Recording::new("pipe", OwnedFd::from(near).into()).unwrap();
+        let mut record = Recording::new("pipe", OwnedFd::from(near).into(), None).unwrap();
         record.write(Event::Tick);
         record.finish_within(LONG);
         assert_eq!(record.fault().as_deref(), Some("Broken pipe"));
@@ -311,7 +354,7 @@ mod tests {
     fn what_is_not_taken_in_time_is_left_out_and_counted() {
         let (near, far) = UnixStream::pair().unwrap();
         let most = 4 * PIECE_LEN;
-        let mut record = Recording::with_most("slow", OwnedFd::from(near).into(), most).unwrap();
+        let mut record = Recording::with_most("slow", OwnedFd::from(near).into(), None, most).unwrap();
         let events = 10 * most / 2;
         (0..events).for_each(|_| record.write(Event::Tick));
         record.finish_within(SHORT);

@@ -2,13 +2,13 @@
 use std::collections::{HashMap, VecDeque};
 
 use crate::formats::frames::Address;
-use crate::os::clock::{Nanos, SECOND};
+use crate::os::clock::{Duration, Instant, SECOND};
 use crate::stations::station::State;
 
 /// The tables of one second ago are new enough.
-const NEW_ENOUGH: Nanos = SECOND;
+const NEW_ENOUGH: Duration = SECOND;
 /// Whoever waits for tables is answered without them after so long.
-const MOST_WAIT: Nanos = SECOND;
+const MOST_WAIT: Duration = SECOND;
 
 /// How many questions for tables the program may have that it hasn't answered.
 const MOST_ASKERS: usize = 16;
@@ -40,13 +40,19 @@ pub struct Table {
 pub struct Tables {
     networks: usize,
     askers: VecDeque<Asker>,
-    asked: Option<Nanos>,
+    asked: Option<Instant>,
     coming: Vec<Table>,
-    last: Option<(Nanos, Vec<Table>)>,
+    last: Option<(Instant, Vec<Table>)>,
     came: u64,
 }
 
 impl Table {
+    /// The station for which most units are kept, and how many.
+    pub fn holder(&self) -> Option<(Address, u64)> {
+        let holding = self.stations.iter().map(|(address, (_, kept))| (*kept, *address)).filter(|(kept, _)| *kept > 0);
+        holding.max().map(|(kept, address)| (address, kept))
+    }
+
     /// The count of this name.
     pub fn count(&self, name: &str) -> Option<u64> {
         self.counts.iter().find(|(found, _)| found == name).map(|(_, number)| *number)
@@ -65,7 +71,7 @@ impl Tables {
     }
 
     /// The program was asked for them.
-    pub fn ask(&mut self, asker: Asker, now: Nanos) {
+    pub fn ask(&mut self, asker: Asker, now: Instant) {
         self.askers.push_back(asker);
         if asker == Asker::Status {
             self.asked = Some(now);
@@ -73,7 +79,7 @@ impl Tables {
     }
 
     /// Whether the status has to ask for them.
-    pub fn are_wanted(&self, now: Nanos) -> bool {
+    pub fn are_wanted(&self, now: Instant) -> bool {
         !self.are_new(now) && self.may_be_asked() && self.asked.map_or(true, |asked| now >= asked + NEW_ENOUGH)
     }
 
@@ -83,12 +89,12 @@ impl Tables {
     }
 
     /// Whether there are such that were asked for less than a second ago.
-    pub fn are_new(&self, now: Nanos) -> bool {
-        self.last.as_ref().map_or(false, |(since, _)| now < since + NEW_ENOUGH)
+    pub fn are_new(&self, now: Instant) -> bool {
+        self.last.as_ref().map_or(false, |(since, _)| now < *since + NEW_ENOUGH)
     }
 
     /// Whether whoever waits since then is answered without.
-    pub fn is_late(&self, since: Nanos, now: Nanos) -> bool {
+    pub fn is_late(&self, since: Instant, now: Instant) -> bool {
         now >= since + MOST_WAIT
     }
 
@@ -98,7 +104,7 @@ impl Tables {
     }
 
     /// Takes a line of the program, and answers whether it is to be shown to people.
-    pub fn take(&mut self, line: &str, now: Nanos) -> bool {
+    pub fn take(&mut self, line: &str, now: Instant) -> bool {
         let is_shown = self.askers.front() != Some(&Asker::Status);
         let words: Vec<&str> = line.split(' ').collect();
         match words[..] {
@@ -144,7 +150,7 @@ fn station_of(words: &[&str]) -> (State, u64) {
 #[cfg(test)]
 mod tests {
     use super::*;
-    use crate::testing::samples::{STATION, STRANGER};
+    use crate::testing::samples::{at, NANOSECOND, STATION, STRANGER};
 
     const LINES: [&str; 7] = [
         "network 02:00:00:00:01:01 ssid 6c6162",
@@ -156,7 +162,7 @@ mod tests {
         "events 0 clock 0 unread 0 lost 0 kept 0",
     ];
 
-    fn take_all(tables: &mut Tables, now: Nanos) -> Vec<bool> {
+    fn take_all(tables: &mut Tables, now: Instant) -> Vec<bool> {
         LINES.iter().chain(&["end"]).map(|line| tables.take(line, now)).collect()
     }
 
@@ -164,8 +170,8 @@ mod tests {
     fn tables_are_read() {
         let mut tables = Tables::new(2);
         assert_eq!(tables.last(), None);
-        tables.ask(Asker::Status, 0);
-        assert_eq!(take_all(&mut tables, 5), [false; 8]);
+        tables.ask(Asker::Status, Instant::START);
+        assert_eq!(take_all(&mut tables, Instant::from_nanos(5)), [false; 8]);
         let found = tables.last().unwrap();
         let counts = [("events", 84), ("clock", 46), ("unread", 1), ("lost", 2), ("kept", 3)];
         assert_eq!(found[0].counts, counts.map(|(name, number)| (name.to_owned(), number)));
@@ -173,49 +179,54 @@ mod tests {
         assert_eq!(found[0].stations[&STATION], (State::Associated(7), 3));
         assert_eq!(found[0].stations[&STRANGER], (State::Authenticated, 0));
         assert!(found[1].stations.is_empty());
+        assert_eq!((found[0].holder(), found[1].holder()), (Some((STATION, 3)), None));
     }
 
     #[test]
     fn only_those_for_people_are_shown() {
         let mut tables = Tables::new(2);
-        tables.ask(Asker::People, 0);
-        tables.ask(Asker::Status, 0);
-        tables.ask(Asker::People, 0);
-        assert_eq!(take_all(&mut tables, 0), [true; 8]);
-        assert!(!tables.take(LINES[0], 0));
-        let shown: Vec<bool> = LINES[1..].iter().chain(&["end"]).map(|line| tables.take(line, 0)).collect();
+        tables.ask(Asker::People, Instant::START);
+        tables.ask(Asker::Status, Instant::START);
+        tables.ask(Asker::People, Instant::START);
+        assert_eq!(take_all(&mut tables, Instant::START), [true; 8]);
+        assert!(!tables.take(LINES[0], Instant::START));
+        let shown: Vec<bool> =
+            LINES[1..].iter().chain(&["end"]).map(|line| tables.take(line, Instant::START)).collect();
         assert_eq!(shown, [false; 7]);
-        assert_eq!(take_all(&mut tables, 0), [true; 8]);
+        assert_eq!(take_all(&mut tables, Instant::START), [true; 8]);
         // At its end the program writes them without being asked.
-        assert_eq!(take_all(&mut tables, 0), [true; 8]);
+        assert_eq!(take_all(&mut tables, Instant::START), [true; 8]);
     }
 
     #[test]
     fn they_are_asked_for_once_a_second() {
         let mut tables = Tables::new(2);
-        assert!(tables.are_wanted(SECOND));
-        tables.ask(Asker::Status, SECOND);
-        assert!(!tables.are_wanted(SECOND + 1));
-        take_all(&mut tables, SECOND + 5);
-        assert!(tables.are_new(SECOND + 6) && !tables.are_wanted(SECOND + 6));
-        assert!(tables.are_wanted(2 * SECOND + 6));
-        assert!(tables.is_late(SECOND, 2 * SECOND) && !tables.is_late(SECOND, 2 * SECOND - 1));
+        assert!(tables.are_wanted(at(SECOND)));
+        tables.ask(Asker::Status, at(SECOND));
+        assert!(!tables.are_wanted(at(SECOND + NANOSECOND)));
+        take_all(&mut tables, at(SECOND + Duration::from_nanos(5)));
+        assert!(
+            tables.are_new(at(SECOND + Duration::from_nanos(6)))
+                && !tables.are_wanted(at(SECOND + Duration::from_nanos(6)))
+        );
+        assert!(tables.are_wanted(at(2 * SECOND + Duration::from_nanos(6))));
+        assert!(tables.is_late(at(SECOND), at(2 * SECOND)) && !tables.is_late(at(SECOND), at(2 * SECOND - NANOSECOND)));
     }
 
     /// A program that answers no question is asked no more, and what it writes without end isn't kept.
     #[test]
     fn what_is_kept_is_bounded() {
         let mut tables = Tables::new(1);
-        (0..MOST_ASKERS as u64).for_each(|second| tables.ask(Asker::Status, second));
-        assert!(!tables.may_be_asked() && !tables.are_wanted(100 * SECOND));
+        (0..MOST_ASKERS as u64).for_each(|second| tables.ask(Asker::Status, Instant::from_nanos(second)));
+        assert!(!tables.may_be_asked() && !tables.are_wanted(at(100 * SECOND)));
         for _ in 0..10 {
-            tables.take(LINES[0], 0);
+            tables.take(LINES[0], Instant::START);
         }
         for number in 0..MOST_KNOWN + 100 {
             let [.., high, low] = (number as u32).to_be_bytes();
-            tables.take(&format!("station 02:aa:00:00:{high:02x}:{low:02x} authenticated"), 0);
+            tables.take(&format!("station 02:aa:00:00:{high:02x}:{low:02x} authenticated"), Instant::START);
         }
-        tables.take("end", 0);
+        tables.take("end", Instant::START);
         let found = tables.last().unwrap();
         assert_eq!((found.len(), found[0].stations.len()), (1, MOST_KNOWN));
         assert!(tables.may_be_asked());

@@ -11,10 +11,11 @@ use crate::network::Network;
 use crate::outbound::air::scheduler::MOST_WEIGHT;
 
 /// How it is called.
-pub const USAGE: &str = "bridge [--name NAME] --phy NAME --channel NUMBER --monitor NAME --interval UNITS \
-                         [--by active-monitors|managed|access-points] [--idle SECONDS] [--socket DESCRIPTOR] [--alive] \
-                         [--record DESCRIPTOR:NAME] [--bounds OCTETS] \
-                         --network BSSID/SSID/RATES/STATIONS/KNOWN/SHARE[/WIRE]... PROGRAM CONFIG";
+const USAGE: &str = "bridge [--name NAME] --phy NAME --channel NUMBER --monitor NAME --interval UNITS \
+                         [--by active-monitors|managed|access-points] [--idle SECONDS] [--no-update] \
+                         [--socket DESCRIPTOR] [--alive] [--sends] [--record DESCRIPTOR:NAME] \
+                         [--record-limit OCTETS] [--bounds OCTETS] \
+                         --network BSSID/SSID/RATES/STATIONS/KNOWN/QUOTA/SHARE[/WIRE]... PROGRAM CONFIG";
 
 /// What the words ask for.
 #[derive(Debug, Clone, PartialEq, Eq)]
@@ -33,12 +34,18 @@ pub struct Arguments {
     pub by: Option<By>,
     /// After how many seconds an associated station of which nothing was heard is asked; 0 asks nobody.
     pub idle: u32,
+    /// Whether wires learn which stations join.
+    pub tells_wires: bool,
     /// The listening socket by which it is asked, as a descriptor.
     pub socket: Option<RawFd>,
     /// Whether it is told that the program answers.
     pub tells_alive: bool,
+    /// Whether an earlier bridge saw the radio send as it is set up.
+    pub has_sent: bool,
     /// The file of the record as a descriptor, with its name for people.
     pub record: Option<(RawFd, String)>,
+    /// How many octets that file has at most, where it has a limit.
+    pub record_limit: Option<u64>,
     /// How many octets of address space the program has, where it runs within bounds (`sandbox::Bounds`).
     pub bounds: Option<u64>,
     /// The networks in the order of the configuration.
@@ -71,8 +78,9 @@ impl Arguments {
     /// Reads them.
     pub fn read(words: impl IntoIterator<Item = String>) -> Result<Arguments, WrongArguments> {
         let mut words = words.into_iter();
-        let (mut monitor, mut interval, mut record) = (None, None, None);
-        let (mut phy, mut channel, mut idle, mut socket, mut tells_alive) = (None, None, IDLE, None, false);
+        let (mut monitor, mut interval, mut record, mut record_limit) = (None, None, None, None);
+        let (mut phy, mut channel, mut idle, mut socket) = (None, None, IDLE, None);
+        let (mut tells_wires, mut tells_alive, mut has_sent) = (true, false, false);
         let (mut name, mut bounds, mut by) = (log::UNNAMED.to_owned(), None, None);
         let (mut networks, mut rest) = (Vec::new(), Vec::new());
         while let Some(word) = words.next() {
@@ -86,8 +94,11 @@ impl Arguments {
                 "--by" => by = Some(read_by(&value()?)?),
                 "--idle" => idle = read_number(&value()?, "number of seconds", 0..=u32::MAX)?,
                 "--socket" => socket = Some(read_number(&value()?, "descriptor", FIRST_DESCRIPTOR..=RawFd::MAX)?),
+                "--no-update" => tells_wires = false,
                 "--alive" => tells_alive = true,
+                "--sends" => has_sent = true,
                 "--record" => record = Some(read_record(&value()?)?),
+                "--record-limit" => record_limit = Some(read_number(&value()?, "number of octets", 1..=u64::MAX)?),
                 "--bounds" => bounds = Some(read_number(&value()?, "number of octets", LEAST_BOUNDS..=u64::MAX)?),
                 "--network" => networks.push(read_network(&value()?)?),
                 _ => rest.push(word),
@@ -106,9 +117,12 @@ impl Arguments {
             interval: interval.ok_or_else(|| lacks("--interval"))?,
             by,
             idle,
+            tells_wires,
             socket,
             tells_alive,
+            has_sent,
             record,
+            record_limit,
             bounds,
             networks,
             program,
@@ -146,15 +160,20 @@ fn read_network(text: &str) -> Result<Network, WrongArguments> {
     let (ssid, rates) = (octets(), octets());
     let mut number = || parts.next().and_then(|part| part.parse().ok()).filter(|number: &u16| *number > 0);
     let (max_stations, max_known) = (number(), number());
+    let quota: Option<u32> = parts.next().and_then(|part| part.parse().ok());
     let weight: Option<u8> = parts.next().and_then(|part| part.parse().ok()).filter(|weight| WEIGHTS.contains(weight));
     let wire = parts.next().map(str::to_owned);
-    let read =
-        bssid.zip(ssid).zip(rates).zip(max_stations.zip(max_known)).zip(weight).filter(|_| parts.next().is_none());
+    let read = bssid
+        .zip(ssid)
+        .zip(rates)
+        .zip(max_stations.zip(max_known))
+        .zip(quota.zip(weight))
+        .filter(|_| parts.next().is_none());
     match read {
-        Some(((((bssid, ssid), rates), (max_stations, max_known)), weight)) => {
-            Ok(Network { bssid, ssid, rates, max_stations, max_known, wire, weight })
+        Some(((((bssid, ssid), rates), (max_stations, max_known)), (quota, weight))) => {
+            Ok(Network { bssid, ssid, rates, max_stations, max_known, quota, wire, weight })
         }
-        None => Err(WrongArguments(format!("{text} is no BSSID/SSID/RATES/STATIONS/KNOWN/SHARE[/WIRE]"))),
+        None => Err(WrongArguments(format!("{text} is no BSSID/SSID/RATES/STATIONS/KNOWN/QUOTA/SHARE[/WIRE]"))),
     }
 }
 
@@ -164,9 +183,9 @@ mod tests {
     use crate::testing::samples::{network, OTHER, OURS};
 
     const GOOD: &str = "--name waltigon-live \
-                        --phy phy0 --channel 6 --monitor mon0 --interval 100 --by managed --idle 60 --socket 5 \
-                        --alive --record 6:r:1 --bounds 2000000 --network 02:00:00:00:01:01/6c6162/8284/64/256/1/wire1 --network \
-                        02:00:00:00:01:02/20/16/2007/10000/16 apctl config";
+                        --phy phy0 --channel 6 --monitor mon0 --interval 100 --by managed --idle 60 --no-update --socket 5 \
+                        --alive --sends --record 6:r:1 --record-limit 5000 --bounds 2000000 --network 02:00:00:00:01:01/6c6162/8284/64/256/500/1/wire1 --network \
+                        02:00:00:00:01:02/20/16/2007/10000/0/16 apctl config";
 
     fn read(text: &str) -> Result<Arguments, WrongArguments> {
         Arguments::read(text.split_whitespace().map(str::to_owned))
@@ -179,6 +198,7 @@ mod tests {
                 rates: vec![0x82, 0x84],
                 max_stations: 64,
                 max_known: 256,
+                quota: 500,
                 wire: Some("wire1".into()),
                 ..network(OURS)
             },
@@ -187,6 +207,7 @@ mod tests {
                 rates: vec![0x16],
                 max_stations: 2007,
                 max_known: 10_000,
+                quota: 0,
                 weight: 16,
                 ..network(OTHER)
             },
@@ -199,18 +220,23 @@ mod tests {
             interval: 100,
             by: Some(By::Managed),
             idle: 60,
+            tells_wires: false,
             socket: Some(5),
             tells_alive: true,
+            has_sent: true,
             record: Some((6, "r:1".into())),
+            record_limit: Some(5000),
             bounds: Some(2_000_000),
             networks,
             program: "apctl".into(),
             config: "config".into(),
         };
         assert_eq!(read(GOOD), Ok(wanted));
-        let fewer =
-            read(&GOOD.replace("--idle 60 --socket 5 --alive", "").replace("--name waltigon-live", "")).unwrap();
-        assert_eq!((fewer.idle, fewer.socket, fewer.tells_alive), (300, None, false));
+        let most = "--idle 60 --no-update --socket 5 --alive --sends";
+        let fewer = read(&GOOD.replace(most, "").replace("--name waltigon-live", ""))
+            .unwrap();
+        assert_eq!((fewer.idle, fewer.socket, fewer.tells_alive, fewer.has_sent), (300, None, false, false));
+        assert!(fewer.tells_wires);
         for (word, by) in [("active-monitors", By::ActiveMonitors), ("access-points", By::AccessPoints)] {
             assert_eq!(read(&GOOD.replace("managed", word)).unwrap().by, Some(by));
         }
@@ -241,12 +267,15 @@ mod tests {
             ("256", "x"),
             ("6:r:1", "r"),
             ("2000000", "2000"),
+            ("limit 5000", "limit 0"),
+            ("limit 5000", "limit 5M"),
             ("6:r:1", "2:r"),
-            ("64/256/1/wire1", ""),
-            ("/10000/16", ""),
-            ("10000/16", "10000"),
-            ("10000/16", "10000/17"),
-            ("256/1/", "256/0/"),
+            ("64/256/500/1/wire1", ""),
+            ("/10000/0/16", ""),
+            ("10000/0/16", "10000/0"),
+            ("10000/0/16", "10000/0/17"),
+            ("500/1/", "500/0/"),
+            ("500/1/", "x/1/"),
             ("01:01", "01"),
             ("wire1", "a/b"),
             ("apctl config", "apctl"),

@@ -10,19 +10,21 @@ use std::os::unix::fs::MetadataExt;
 use std::os::unix::io::AsFd;
 use std::sync::{Mutex, MutexGuard, PoisonError};
 use std::thread;
-use std::time::{Duration, Instant, UNIX_EPOCH};
+use std::time::UNIX_EPOCH;
 
 use humantime::format_rfc3339_seconds;
 
 use crate::control::faults::Fault;
 use crate::os::background_writer::BackgroundWriter;
-use crate::os::clock::{wall_now, Nanos, SECOND};
+use crate::os::clock::{now, wall_now, Duration, Instant, SECOND};
 
 /// How many lines are written in a second at most that stations of one network can cause.
 const MOST_OF_NETWORK: u64 = 50;
 /// How many lines are written in a second at most that stations can cause, of all networks: where there are more than
 /// four, each has an equal part of these. So no other network's lines keep those of one out.
 const MOST_A_SECOND: u64 = 200;
+/// How many faults of the program are written in a second at most: want of memory is one of each event.
+const MOST_FAULTS: u64 = 10;
 /// How many octets of lines wait at most until standard error takes them: the tables of 16 networks of 2,007 stations
 /// are half of that.
 const MOST_WAITING: usize = 4 << 20;
@@ -32,7 +34,7 @@ const TO_FINISH: Duration = Duration::from_secs(2);
 const UNTIL_TAKEN: Duration = Duration::from_millis(10);
 
 /// The name as long as it isn't known by which one a person has begun this.
-pub const UNNAMED: &str = "bridge";
+pub(super) const UNNAMED: &str = "bridge";
 
 static LOG: Mutex<Log> = Mutex::new(Log { name: None, stream: None, writer: None, dropped: 0 });
 
@@ -104,6 +106,12 @@ pub fn begin(name: &str) {
     log.name = Some(name.to_owned());
 }
 
+/// Whether standard error is led into a file.
+pub fn is_file() -> bool {
+    let stream = io::stderr().as_fd().try_clone_to_owned().map(File::from);
+    stream.and_then(|stream| stream.metadata()).map_or(false, |found| found.is_file())
+}
+
 /// From now on nobody waits for a line to be written.
 pub fn write_in_background() -> Result<(), Fault> {
     let stream = io::stderr().as_fd().try_clone_to_owned().map_err(|fault| Fault::of("standard error", &fault))?;
@@ -132,7 +140,7 @@ fn write_to(mut stream: File) -> impl FnMut(&[u8]) + Send {
                 Ok(0) => return,
                 Ok(length) => piece = &piece[length..],
                 Err(fault) if fault.kind() == ErrorKind::Interrupted => {}
-                Err(fault) if fault.kind() == ErrorKind::WouldBlock => thread::sleep(UNTIL_TAKEN),
+                Err(fault) if fault.kind() == ErrorKind::WouldBlock => thread::sleep(UNTIL_TAKEN.into()),
                 Err(_) => return,
             }
         }
@@ -192,12 +200,12 @@ impl Log {
     }
 
     fn finish(&mut self, most: Duration) {
-        let until = Instant::now() + most;
+        let until = now() + most;
         let left = self.writer.as_ref().map_or(0, |writer| writer.finish(most));
         if left == 0 && self.dropped > 0 {
             self.tell_dropped();
             if let Some(writer) = &self.writer {
-                writer.finish(until.saturating_duration_since(Instant::now()));
+                writer.finish(until.since(now()));
             }
         }
     }
@@ -212,16 +220,16 @@ fn looks_like_journal() -> bool {
 }
 
 /// A moment of the wall clock, as `2026-11-25T22:30:50Z`.
-fn date(moment: Nanos) -> String {
-    format_rfc3339_seconds(UNIX_EPOCH + Duration::from_nanos(moment)).to_string()
+fn date(since_1970: Duration) -> String {
+    format_rfc3339_seconds(UNIX_EPOCH + std::time::Duration::from(since_1970)).to_string()
 }
 
-/// Bounds the lines that stations can cause, for each network by itself: what is more is counted, and told once the
-/// second is over.
+/// Bounds the lines that stations can cause, for each network by itself, or the program: what is more is counted, and
+/// told once the second is over.
 #[derive(Debug)]
 pub struct Bounded {
     most: u64,
-    second: Nanos,
+    second: Instant,
     /// Of each network its lines of this second.
     lines: Vec<u64>,
 }
@@ -230,13 +238,18 @@ impl Bounded {
     /// For so many networks, of which nothing was written yet.
     pub fn new(networks: usize) -> Bounded {
         let part = MOST_A_SECOND / networks.max(1) as u64;
-        Bounded { most: part.clamp(1, MOST_OF_NETWORK), second: 0, lines: vec![0; networks] }
+        Bounded { most: part.clamp(1, MOST_OF_NETWORK), second: Instant::START, lines: vec![0; networks] }
+    }
+
+    /// For the faults of the program, which are as of one network.
+    pub fn of_faults() -> Bounded {
+        Bounded { most: MOST_FAULTS, second: Instant::START, lines: vec![0] }
     }
 
     /// Nothing is written before the end of time.
     #[cfg(test)]
     pub fn quiet(networks: usize) -> Bounded {
-        Bounded { most: 0, second: Nanos::MAX - SECOND, lines: vec![0; networks] }
+        Bounded { most: 0, second: Instant::NEVER - SECOND, lines: vec![0; networks] }
     }
 
     /// Whether one more line of the network of this place may be written; it is counted in any case.
@@ -246,7 +259,7 @@ impl Bounded {
     }
 
     /// Where a second is over, the next one begins; answers of which networks lines were left out in it, and how many.
-    pub fn take_left_out(&mut self, now: Nanos) -> Vec<(usize, u64)> {
+    pub fn take_left_out(&mut self, now: Instant) -> Vec<(usize, u64)> {
         if now < self.second + SECOND {
             return Vec::new();
         }
@@ -260,7 +273,7 @@ impl Bounded {
 #[cfg(test)]
 mod tests {
     use super::*;
-    use crate::testing::samples::read_all;
+    use crate::testing::samples::{at, read_all, NANOSECOND};
     use std::os::unix::io::OwnedFd;
     use std::os::unix::net::UnixStream;
 
@@ -347,15 +360,15 @@ mod tests {
     #[test]
     fn lines_of_a_second_are_bounded_for_each_network() {
         let mut bounded = Bounded::new(2);
-        assert_eq!(bounded.take_left_out(5 * SECOND), []);
+        assert_eq!(bounded.take_left_out(at(5 * SECOND)), []);
         assert!((0..MOST_OF_NETWORK).all(|_| bounded.takes(1)));
         assert!((0..7).all(|_| !bounded.takes(1)));
         assert!(bounded.takes(0));
-        assert_eq!(bounded.take_left_out(6 * SECOND - 1), []);
+        assert_eq!(bounded.take_left_out(at(6 * SECOND - NANOSECOND)), []);
         assert!(!bounded.takes(1) && bounded.takes(0));
-        assert_eq!(bounded.take_left_out(6 * SECOND), [(1, 8)]);
+        assert_eq!(bounded.take_left_out(at(6 * SECOND)), [(1, 8)]);
         assert!(bounded.takes(1));
-        assert_eq!(bounded.take_left_out(7 * SECOND), []);
+        assert_eq!(bounded.take_left_out(at(7 * SECOND)), []);
     }
 
     #[test]

@@ -1,13 +1,13 @@
-//! What is said between the bridge and `tools/live`, which started it: lines of a Unix socket, which is the bridge's
-//! standard input and output. Beside its lines `tools/live` hands over descriptors (unix(7), SCM_RIGHTS): the sockets
-//! of the interfaces, which the bridge may not open itself.
+//! What `tools/live`, which started the bridge, asks for: lines of a Unix socket, which is the bridge's standard input.
+//! Beside its lines it hands over descriptors (unix(7), SCM_RIGHTS): the sockets of the interfaces, which the bridge may
+//! not open itself.
 use std::collections::VecDeque;
-use std::io::{self, ErrorKind, Write};
-use std::os::unix::io::{AsRawFd, OwnedFd, RawFd};
+use std::io::ErrorKind;
+use std::os::unix::io::{AsFd, BorrowedFd, OwnedFd};
 use std::os::unix::net::UnixStream;
 
 use crate::control::faults::Fault;
-use crate::os::sockets::receive_handed;
+use crate::os::handed::receive_handed;
 
 /// How many octets of a line are kept at most, and how many descriptors that no line has named.
 pub const MOST_OCTETS: usize = 1024;
@@ -43,52 +43,6 @@ pub enum Request {
     End,
 }
 
-/// What `tools/live` is told.
-#[derive(Debug, Clone, PartialEq, Eq)]
-pub enum Notice {
-    /// The networks are open.
-    Ready,
-    /// The wire of the network of this place has ended.
-    Down(usize),
-    /// The first beacon was seen as sent, or one again behind `Unsent`.
-    Sending,
-    /// The radio shows no beacon as sent any more (`beacon_watch`).
-    Unsent,
-    /// The radio hears on this frequency, in MHz, which isn't its channel's.
-    Elsewhere(u16),
-    /// It hears on its channel again.
-    Here,
-    /// The program has answered the last beginning of a beacon interval; told once a second at most.
-    Alive,
-    /// All stations that were to be told that they have to join again were told so.
-    Dismissed,
-    /// The program has ended with this status.
-    Status(i32),
-    /// The bridge ends, since this is so.
-    Fault(Fault),
-}
-
-/// Tells `tools/live`. Where that has ended nothing is to be done: the bridge's input has ended too.
-pub fn say(notice: &Notice) {
-    let mut output = io::stdout();
-    let _ = output.write_all(line_of(notice).as_bytes()).and_then(|()| output.flush());
-}
-
-fn line_of(notice: &Notice) -> String {
-    match notice {
-        Notice::Ready => "ready\n".to_owned(),
-        Notice::Down(place) => format!("down {place}\n"),
-        Notice::Sending => "sending\n".to_owned(),
-        Notice::Unsent => "unsent\n".to_owned(),
-        Notice::Elsewhere(frequency) => format!("elsewhere {frequency}\n"),
-        Notice::Here => "here\n".to_owned(),
-        Notice::Alive => "alive\n".to_owned(),
-        Notice::Dismissed => "dismissed\n".to_owned(),
-        Notice::Status(status) => format!("status {status}\n"),
-        Notice::Fault(fault) => format!("fault {}\n", fault.to_string().replace('\n', " ")),
-    }
-}
-
 /// Reads requests as they come.
 #[derive(Debug)]
 pub struct Requests {
@@ -105,8 +59,8 @@ impl Requests {
     }
 
     /// By which one waits for it.
-    pub fn descriptor(&self) -> RawFd {
-        self.input.as_raw_fd()
+    pub fn descriptor(&self) -> BorrowedFd<'_> {
+        self.input.as_fd()
     }
 
     /// The next request, or `None` where none waits. Other lines are none.
@@ -123,13 +77,16 @@ impl Requests {
                 return Ok(Some(Request::End));
             }
             if self.octets.len() > MOST_OCTETS || self.descriptors.len() > MOST_DESCRIPTORS {
-                return Err(Fault::new("tools/live asks what isn't known"));
+                return Err(Fault::Request("tools/live asks what isn't known".to_owned()));
             }
             match receive_handed(&self.input, &mut self.octets, &mut self.descriptors) {
                 Ok(0) => self.has_ended = true,
                 Ok(_) => {}
                 Err(fault) if fault.kind() == ErrorKind::WouldBlock => return Ok(None),
                 Err(fault) if fault.kind() == ErrorKind::Interrupted => {}
+                Err(fault) if fault.kind() == ErrorKind::InvalidData => {
+                    return Err(Fault::Request("tools/live handed over too many descriptors at a time".to_owned()))
+                }
                 Err(_) => self.has_ended = true,
             }
         }
@@ -139,7 +96,7 @@ impl Requests {
     fn read(&mut self, line: &str) -> Result<Option<Request>, Fault> {
         let (word, rest) = line.split_once(' ').unwrap_or((line, ""));
         let places: Result<Vec<usize>, _> = rest.split_ascii_whitespace().map(str::parse).collect();
-        let places = places.map_err(|_| Fault::new(format!("tools/live asks what isn't known: {line}")))?;
+        let places = places.map_err(|_| Fault::Request(format!("tools/live asks what isn't known: {line}")))?;
         Ok(match (word, &places[..]) {
             ("state", []) => <[OwnedFd; OF_STATE]>::try_from(self.take(OF_STATE)?).ok().map(Request::State),
             ("open", _) => Some(Request::Open(Handed { sockets: self.take(OF_RADIO + places.len())?, wires: places })),
@@ -153,7 +110,7 @@ impl Requests {
     /// The first so many descriptors that were handed over.
     fn take(&mut self, number: usize) -> Result<Vec<OwnedFd>, Fault> {
         if self.descriptors.len() < number {
-            return Err(Fault::new("tools/live handed over too few descriptors"));
+            return Err(Fault::Request("tools/live handed over too few descriptors".to_owned()));
         }
         Ok(self.descriptors.drain(..number).collect())
     }
@@ -162,19 +119,12 @@ impl Requests {
 #[cfg(test)]
 mod tests {
     use super::*;
-    use crate::os::sockets::hand;
+    use crate::os::handed::hand;
     use std::fs::File;
+    use std::io::Write;
 
     fn nothing() -> OwnedFd {
         File::open("/dev/null").unwrap().into()
-    }
-
-    #[test]
-    fn notices_are_lines() {
-        let fault = Fault::new("two\nlines");
-        let notices = [Notice::Down(2), Notice::Unsent, Notice::Sending, Notice::Elsewhere(2412), Notice::Here];
-        let lines: String = notices.iter().chain([&Notice::Fault(fault)]).map(line_of).collect();
-        assert_eq!(lines, "down 2\nunsent\nsending\nelsewhere 2412\nhere\nfault two lines\n");
     }
 
     #[test]
@@ -211,6 +161,18 @@ mod tests {
         assert!(matches!(requests.next(), Ok(Some(Request::Wire(1, _)))));
         assert!(matches!(requests.next(), Ok(Some(Request::State(_)))));
         assert!(matches!(requests.next(), Ok(None)));
+    }
+
+    /// The kernel closes what there is no room for: then none of a line is known for sure.
+    #[test]
+    fn more_descriptors_than_there_is_room_for_are_refused() {
+        let (input, other) = UnixStream::pair().unwrap();
+        let mut requests = Requests::new(input);
+        let all: Vec<OwnedFd> = (0..64).map(|_| nothing()).collect();
+        hand(&other, b"open 0 2\n", &all[..60]).unwrap();
+        assert!(matches!(requests.next(), Ok(Some(Request::Open(_)))));
+        hand(&other, b"open 0 2\n", &all).unwrap();
+        assert!(matches!(requests.next(), Err(Fault::Request(_))));
     }
 
     #[test]

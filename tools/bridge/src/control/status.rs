@@ -8,10 +8,12 @@ use serde_json::ser::Formatter;
 use crate::apctl::recording::Recording;
 use crate::apctl::tables::{Table, Tables};
 use crate::control::by::By;
+use crate::control::log::Bounded;
 use crate::formats::frames::Address;
 use crate::network::Network;
-use crate::os::clock::{Nanos, MILLISECOND};
+use crate::os::clock::{Duration, Instant};
 use crate::outbound::air::account::Account;
+use crate::outbound::air::backlog::MOST_KEPT;
 use crate::run::intervals::BeaconDelays;
 use crate::stations::station::{State, Station};
 use crate::stations::table::StationTable;
@@ -21,21 +23,39 @@ pub const VERSION: &str = match option_env!("BRIDGE_VERSION") {
     Some(version) => version,
     None => env!("CARGO_PKG_VERSION"),
 };
+/// Of which kind the document is: another number where a member is gone or means something else (docs/JSON.md).
+const FORMAT: u32 = 1;
+/// What follows the last network.
+pub const END: &str = "]}";
 /// How many stations of a network are listed at most.
 const MOST_STATIONS: usize = 1000;
-const MICROSECOND: Nanos = 1000;
 /// How many faults of the program are kept.
 const MOST_FAULTS: usize = 32;
 
 /// The last faults that the program told, with their times.
-#[derive(Debug, Default)]
-pub struct Faults(VecDeque<(Nanos, String)>);
+#[derive(Debug)]
+pub struct Faults {
+    last: VecDeque<(Instant, String)>,
+    lines: Bounded,
+}
+
+impl Default for Faults {
+    fn default() -> Faults {
+        Faults { last: VecDeque::new(), lines: Bounded::of_faults() }
+    }
+}
 
 impl Faults {
-    /// The program told of one.
-    pub fn push(&mut self, text: &str, now: Nanos) {
-        self.0.truncate(MOST_FAULTS - 1);
-        self.0.push_front((now, text.to_owned()));
+    /// The program told of one. Answers whether it is written to the log too.
+    pub fn push(&mut self, text: &str, now: Instant) -> bool {
+        self.last.truncate(MOST_FAULTS - 1);
+        self.last.push_front((now, text.to_owned()));
+        self.lines.takes(0)
+    }
+
+    /// How many weren't written in the second that is over, where some weren't.
+    pub fn take_left_out(&mut self, now: Instant) -> Option<u64> {
+        self.lines.take_left_out(now).first().map(|(_, more)| *more)
     }
 }
 
@@ -46,9 +66,9 @@ pub type Named = BTreeMap<String, u64>;
 #[derive(Debug, Clone, Copy, Default)]
 pub struct OfRadio {
     /// Since when its interface is down.
-    pub down_since: Option<Nanos>,
+    pub down_since: Option<Instant>,
     /// Since when it has shown no beacon as sent.
-    pub unsent_since: Option<Nanos>,
+    pub unsent_since: Option<Instant>,
     /// On which frequency it hears, in MHz, where that isn't its channel's.
     pub elsewhere: Option<u16>,
     /// How many frames were heard on other frequencies.
@@ -66,7 +86,7 @@ pub struct Status<'a> {
     /// How it does.
     pub radio: OfRadio,
     /// When the program was started.
-    pub began: Nanos,
+    pub began: Instant,
     /// The program's last faults.
     pub faults: &'a Faults,
     /// What is recorded, where something is.
@@ -80,7 +100,9 @@ pub struct Status<'a> {
     /// The networks in order.
     pub networks: &'a [Network],
     /// Of each network since when its wire is down, if it is.
-    pub wires_down: Vec<Option<Nanos>>,
+    pub wires_down: Vec<Option<Instant>>,
+    /// Of each network how often its wire was told that a station is here.
+    pub updates: &'a [u64],
     /// What the air was to each.
     pub accounts: &'a [Account],
     /// Their stations.
@@ -88,17 +110,27 @@ pub struct Status<'a> {
     /// What the program said of them.
     pub tables: &'a Tables,
     /// The time.
-    pub now: Nanos,
+    pub now: Instant,
 }
 
 impl Status<'_> {
-    /// The line, without its end.
-    pub fn line(&self) -> String {
-        line_of(self)
+    /// The line up to its networks, of which each is added then, and at last the end.
+    pub fn begin(&self) -> String {
+        let mut text = line_of(self);
+        text.truncate(text.len() - END.len());
+        text
     }
 
-    fn ago(&self, moment: Nanos) -> Decimal {
-        Decimal::seconds(self.now.saturating_sub(moment))
+    /// Appends the network of this place.
+    pub fn add_network(&self, place: usize, to: &mut String) {
+        if place > 0 {
+            to.push(',');
+        }
+        to.push_str(&line_of(&NetworkPart { status: self, place }));
+    }
+
+    fn ago(&self, moment: Instant) -> Decimal {
+        Decimal::seconds(self.now.since(moment))
     }
 }
 
@@ -108,7 +140,7 @@ pub fn error(text: &str) -> String {
 }
 
 /// A document in one line of ASCII, which any reader takes.
-fn line_of(document: &impl Serialize) -> String {
+pub(super) fn line_of(document: &impl Serialize) -> String {
     let mut line = Vec::new();
     let outcome = document.serialize(&mut serde_json::Serializer::with_formatter(&mut line, Ascii));
     debug_assert!(outcome.is_ok(), "every name is a text, and a vector takes all");
@@ -133,19 +165,19 @@ impl Formatter for Ascii {
 
 /// A number with three places behind the point.
 #[derive(Debug, Clone, Copy)]
-struct Decimal {
+pub(super) struct Decimal {
     thousandths: u64,
 }
 
 impl Decimal {
     /// A time in seconds.
-    fn seconds(time: Nanos) -> Decimal {
-        Decimal { thousandths: time / MILLISECOND }
+    pub fn seconds(time: Duration) -> Decimal {
+        Decimal { thousandths: time.as_millis() as u64 }
     }
 
     /// A time in milliseconds.
-    fn milliseconds(time: Nanos) -> Decimal {
-        Decimal { thousandths: time / MICROSECOND }
+    fn milliseconds(time: Duration) -> Decimal {
+        Decimal { thousandths: time.as_micros() as u64 }
     }
 }
 
@@ -178,10 +210,10 @@ where
 
 impl Serialize for Status<'_> {
     fn serialize<S: Serializer>(&self, to: S) -> Result<S::Ok, S::Error> {
-        let faults = self.faults.0.iter().rev();
-        let networks = 0..self.networks.len();
+        let faults = self.faults.last.iter().rev();
         let mut object = to.serialize_map(None)?;
         object.serialize_entry("version", VERSION)?;
+        object.serialize_entry("format", &FORMAT)?;
         object.serialize_entry("since", &self.ago(self.began))?;
         object.serialize_entry("phy", self.phy)?;
         object.serialize_entry("channel", &self.channel)?;
@@ -194,7 +226,8 @@ impl Serialize for Status<'_> {
         object.serialize_entry("beacons", &BeaconsPart(self.beacons))?;
         object.serialize_entry("drops", &self.drops)?;
         object.serialize_entry("left_out", &self.left_out)?;
-        object.serialize_entry("networks", &List(networks.map(|place| NetworkPart { status: self, place })))?;
+        // They are added one by one.
+        object.serialize_entry("networks", &[(); 0])?;
         object.end()
     }
 }
@@ -267,15 +300,21 @@ impl Serialize for NetworkPart<'_> {
         let down_since = self.status.wires_down.get(place).copied().flatten();
         let refusals = self.status.table.refusals(place).iter();
         let stations = self.status.table.stations_of(place);
+        let associated = || stations.iter().map(|(_, station)| station).filter(|station| station.is_associated());
         object!(to,
             "bssid": network.bssid.to_string(),
             "ssid": table.map(|table| &table.ssid),
             "wire": network.wire,
             "wire_down": down_since.map(|since| self.status.ago(since)),
+            "updates": self.status.updates[place],
             "air": AirPart(*self),
+            "quota": network.quota,
+            "holder": table.and_then(Table::holder).map(|(address, kept)| HolderPart { network: *self, address, kept }),
             "counts": table.map(|table| table.counts.iter().cloned().collect::<Named>()),
             "refusals": refusals.map(|(status, number)| (status.to_string(), *number)).collect::<Named>(),
             "known": stations.len(),
+            "associated": associated().count(),
+            "dozing": associated().filter(|station| station.dozes).count(),
             "stations": List(stations.iter().take(MOST_STATIONS).map(|(address, station)| StationPart {
                 network: *self,
                 address: *address,
@@ -285,16 +324,37 @@ impl Serialize for NetworkPart<'_> {
     }
 }
 
+/// The station for which most units of a network's quota are kept.
+struct HolderPart<'a> {
+    network: NetworkPart<'a>,
+    address: Address,
+    kept: u64,
+}
+
+impl Serialize for HolderPart<'_> {
+    fn serialize<S: Serializer>(&self, to: S) -> Result<S::Ok, S::Error> {
+        let station = self.network.status.table.station(&(self.network.place, self.address));
+        object!(to,
+            "address": self.address.to_string(),
+            "kept": self.kept,
+            "listen": station.map(|station| station.listen),
+        )
+    }
+}
+
 struct AirPart<'a>(NetworkPart<'a>);
 
 impl Serialize for AirPart<'_> {
     fn serialize<S: Serializer>(&self, to: S) -> Result<S::Ok, S::Error> {
-        let Account { used, waiting, unsent, .. } = &self.0.status.accounts[self.0.place];
+        let Account { used, waiting, unsent, handed_back, .. } = &self.0.status.accounts[self.0.place];
         object!(to,
             "weight": self.0.network().weight,
             "seconds": Decimal::seconds(*used),
             "waiting": waiting,
             "unsent": unsent.iter().map(|(why, number)| (why.to_string(), *number)).collect::<Named>(),
+            "most_kept": (self.0.network().quota as usize > MOST_KEPT).then_some(MOST_KEPT),
+            "handed_back": handed_back.units,
+            "handed_back_out_of_order": handed_back.out_of_order,
         )
     }
 }
@@ -317,6 +377,7 @@ impl Serialize for StationPart<'_> {
             "address": self.address.to_string(),
             "state": state,
             "aid": aid,
+            "listen": aid.map(|_| station.listen),
             "dozes": station.dozes,
             "since": status.ago(station.since),
             "heard": status.ago(station.heard),
@@ -333,109 +394,5 @@ impl Serialize for StationPart<'_> {
 }
 
 #[cfg(test)]
-mod tests {
-    use super::*;
-    use crate::apctl::tables::Asker;
-    use crate::os::clock::SECOND;
-    use crate::outbound::air::account::Unsent;
-    use crate::testing::samples::{network, OTHER, OURS, STATION};
-
-    #[test]
-    fn texts_are_escaped() {
-        for (text, wanted) in [
-            ("a b", r#""a b""#),
-            ("a\"\\", r#""a\"\\""#),
-            ("\n\u{e9}\u{1f600}\u{7f}", r#""\n\u00e9\ud83d\ude00\u007f""#),
-        ] {
-            assert_eq!(line_of(&text), wanted);
-        }
-        assert_eq!(error("no \"x\""), r#"{"error":"no \"x\""}"#);
-    }
-
-    #[test]
-    fn numbers_are_decimal() {
-        for (time, wanted) in [(12_345_678_901, "12.345"), (999_999, "0.000"), (Nanos::MAX, "18446744073.709")] {
-            assert_eq!(line_of(&Decimal::seconds(time)), wanted);
-        }
-        assert_eq!(line_of(&Decimal::milliseconds(412_999)), "0.412");
-        assert_eq!(line_of(&[None, Some(-30)]), "[null,-30]");
-    }
-
-    #[test]
-    fn all_stands_in_one_line() {
-        let networks = [Network { wire: Some("wire1".into()), ..network(OURS) }, network(OTHER)];
-        let (mut table, mut tables, mut faults) =
-            (StationTable::new(vec![OURS, OTHER]), Tables::new(2), Faults::default());
-        let to = |control, body: &[u8]| {
-            let head = [&[control, 0, 0, 0][..], STATION.octets(), OURS.octets(), OURS.octets(), &[0, 0]].concat();
-            [&head[..], body].concat()
-        };
-        table.answered(0, &to(0xb0, &[0, 0, 2, 0, 0, 0]), SECOND);
-        table.answered(0, &to(0x10, &[1, 0, 0, 0, 3, 0xc0]), SECOND);
-        table.answered(1, &to(0xb0, &[0, 0, 2, 0, 1, 0]), SECOND);
-        tables.ask(Asker::Status, 0);
-        for line in [
-            "network 02:00:00:00:01:01 ssid 6c",
-            "events 4 clock 1 unread 0 lost 0 kept 2",
-            "station 02:aa:00:00:00:01 associated aid 3 listen 5 doze kept 2",
-            "end",
-            "network 02:00:00:00:01:02 ssid 6d",
-            "end",
-        ] {
-            tables.take(line, SECOND);
-        }
-        faults.push("fault L2 line 3", SECOND);
-        faults.push("fault L1 line 4", 2 * SECOND);
-        let record = Recording::new("today", std::fs::File::open("/dev/null").unwrap()).unwrap();
-        let mut beacons = BeaconDelays::default();
-        beacons.count(2 * MILLISECOND);
-        beacons.count(4 * MILLISECOND);
-        let mut accounts = vec![Account { used: 2500 * MILLISECOND, waiting: 7, ..Account::default() }; 2];
-        accounts[0].unsent.insert(Unsent::Late, 5);
-        let status = Status {
-            phy: "phy0",
-            channel: 6,
-            by: Some(By::ActiveMonitors),
-            radio: OfRadio { down_since: None, unsent_since: Some(SECOND), elsewhere: Some(2412), heard_elsewhere: 3 },
-            began: 0,
-            faults: &faults,
-            record: Some(&record),
-            beacons: &beacons,
-            drops: Named::from([("the air: late".to_owned(), 3)]),
-            left_out: Named::new(),
-            networks: &networks,
-            wires_down: vec![Some(SECOND / 2), None],
-            accounts: &accounts,
-            table: &table,
-            tables: &tables,
-            now: 3 * SECOND,
-        };
-        let wanted = [
-            r#""since":3.000,"phy":"phy0","channel":6,"by":"active-monitors","#,
-            r#""radio":{"down":null,"unsent":2.000,"elsewhere":2412,"heard_elsewhere":3},"#,
-            r#""faults":[{"seconds":2.000,"text":"fault L2 line 3"},{"seconds":1.000,"text":"fault L1 line 4"}],"#,
-            r#""record":{"octets":0,"fault":null},"#,
-            r#""beacons":{"sent":2,"late_ms_mean":3.000,"late_ms_worst":4.000,"missed":0},"#,
-            r#""drops":{"the air: late":3},"left_out":{},"networks":["#,
-            r#"{"bssid":"02:00:00:00:01:01","ssid":"6c","wire":"wire1","wire_down":2.500,"#,
-            r#""air":{"weight":1,"seconds":2.500,"waiting":7,"unsent":{"had waited too long":5}},"#,
-            r#""counts":{"clock":1,"events":4,"kept":2,"lost":0,"unread":0},"refusals":{},"#,
-            r#""known":1,"stations":[{"address":"02:aa:00:00:00:01","state":"associated","aid":3,"dozes":false,"#,
-            r#""since":2.000,"heard":2.000,"signal":null,"rate_to":null,"rate_from":null,"#,
-            r#""octets_to":0,"octets_from":0,"frames_to":0,"frames_from":0,"kept":2}]},"#,
-            r#"{"bssid":"02:00:00:00:01:02","ssid":"6d","wire":null,"wire_down":null,"#,
-            r#""air":{"weight":1,"seconds":2.500,"waiting":7,"unsent":{}},"#,
-            r#""counts":{},"refusals":{"1":1},"known":0,"stations":[]}]}"#,
-        ];
-        let (line, wanted) = (status.line(), wanted.concat());
-        assert!(line.starts_with(&format!("{{\"version\":{}", line_of(&VERSION))), "{line}");
-        assert!(line.ends_with(&wanted), "{line}\n{wanted}");
-    }
-
-    #[test]
-    fn only_the_last_faults_are_kept() {
-        let mut faults = Faults::default();
-        (0..100).for_each(|number| faults.push(&number.to_string(), number));
-        assert_eq!((faults.0.len(), faults.0[0].1.as_str()), (MOST_FAULTS, "99"));
-    }
-}
+#[path = "status_test.rs"]
+pub(super) mod tests;

@@ -13,10 +13,14 @@ pub const LEAST: usize = 10;
 pub const MOST: usize = 4096;
 /// The subtype and type of a beacon, in the first octet of Frame Control.
 pub const BEACON: u8 = 0x80;
+/// The same of a probe request.
+pub const PROBE_REQUEST: u8 = 0x40;
 const HEADER_LEN: usize = 24;
 const RECEIVER_AT: usize = 4;
 const TRANSMITTER_AT: usize = 10;
+const THIRD_ADDRESS_AT: usize = 16;
 const RETRY: u8 = 0x08;
+const MORE_DATA: u8 = 0x20;
 const PS_POLL: u8 = 10;
 const NO_DATA: u8 = 0x40;
 const TYPE_AT: usize = 12;
@@ -157,6 +161,16 @@ impl<'a> Frame<'a> {
         self.frame_type() == FrameType::Data && self.0[0] & NO_DATA != 0
     }
 
+    /// Whether it is a unit of data.
+    pub fn is_unit(&self) -> bool {
+        self.frame_type() == FrameType::Data && !self.is_null()
+    }
+
+    /// Whether its sender has more for its receiver, which dozes.
+    pub fn more_data(&self) -> bool {
+        self.0[1] & MORE_DATA != 0
+    }
+
     /// Whether it was sent before.
     pub fn retry(&self) -> bool {
         self.0[1] & RETRY != 0
@@ -170,6 +184,11 @@ impl<'a> Frame<'a> {
     /// Address 2, where there is one.
     pub fn transmitter(&self) -> Option<Address> {
         Address::at(self.0, TRANSMITTER_AT)
+    }
+
+    /// Address 3, where there is one: of a management frame the BSSID.
+    pub fn third_address(&self) -> Option<Address> {
+        Address::at(self.0, THIRD_ADDRESS_AT)
     }
 
     /// The fragment number and the sequence number, where it has them: in a header of three addresses.

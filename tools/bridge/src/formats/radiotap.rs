@@ -9,7 +9,7 @@ const CHANNEL: usize = 3;
 const SIGNAL: usize = 5;
 const RX_FLAGS: usize = 14;
 /// The bit of the field that only a frame has that was sent here.
-pub const TX_FLAGS: usize = 15;
+const TX_FLAGS: usize = 15;
 const DATA_RETRIES: usize = 17;
 const MORE_PRESENT: u32 = 1 << 31;
 /// The fields up to the retries, in the order of their bits: length and alignment.

@@ -2,5 +2,6 @@
 //! stands in, and how the new program is told of it.
 pub mod replay;
 pub mod state;
+pub mod state_draft;
 pub mod state_files;
 mod state_text;

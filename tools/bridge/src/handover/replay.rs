@@ -8,7 +8,7 @@
 //! whose identifier, listen interval and mode are those that it had stays. Any other is told to join again.
 use std::collections::{HashSet, VecDeque};
 
-use crate::apctl::records::{Answer, Event};
+use crate::apctl::protocol::{Answer, Event};
 use crate::formats::frames::{Address, AddressMap, Frame};
 use crate::handover::state::{NotUsed, State};
 use crate::network::Network;
@@ -59,7 +59,7 @@ pub struct Replay {
 impl Replay {
     /// The stations of a state are to be said, as far as these networks are those that they joined.
     pub fn of(state: &State, networks: &[Network]) -> Result<Replay, NotUsed> {
-        let mut restoring = Replay {
+        let mut replay = Replay {
             events: VecDeque::new(),
             has_asked: false,
             networks: Vec::new(),
@@ -77,10 +77,10 @@ impl Replay {
                 .flat_map(|left| left.stations.iter())
                 .map(|kept| KeptStation { dozes: kept.dozes || kept.has_dozed && !state.is_last, ..kept.clone() })
                 .partition(|kept| kept.aid <= network.max_stations);
-            restoring.unfit.extend(unfit.into_iter().map(|kept| (place, kept.address)));
-            restoring.say_network(network, fit);
+            replay.unfit.extend(unfit.into_iter().map(|kept| (place, kept.address)));
+            replay.say_network(network, fit);
         }
-        is_any.then_some(restoring).ok_or(NotUsed::OtherConfiguration)
+        is_any.then_some(replay).ok_or(NotUsed::OtherConfiguration)
     }
 
     /// The stations of a network, in the order of their identifiers, are to be said.

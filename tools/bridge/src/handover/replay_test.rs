@@ -1,14 +1,16 @@
 use std::collections::BTreeMap;
 use std::path::PathBuf;
-use std::time::Duration;
 
 use super::*;
 use crate::apctl::program::Program;
 use crate::handover::state::{choose, NetworkState, Setting};
 use crate::handover::state_text::MOST_AID;
-use crate::os::clock::{now, SECOND};
+use crate::os::clock::{now, Duration, Instant, SECOND};
 use crate::stations::meaning::{from_station, FromStation};
-use crate::testing::samples::{network, Seeded, OTHER, OURS, STATION, STRANGER};
+use crate::testing::samples::{at, network, Seeded, NANOSECOND, OTHER, OURS, STATION, STRANGER};
+
+#[path = "state_test.rs"]
+mod state_tests;
 
 fn setting() -> Setting {
     Setting { phy: "phy0".into(), channel: 6, interval: 100 }
@@ -28,7 +30,7 @@ fn of_network(network: &Network, stations: Vec<KeptStation>) -> NetworkState {
 }
 
 fn state(networks: Vec<NetworkState>) -> State {
-    State { setting: setting(), written: 70 * SECOND, is_last: true, networks }
+    State { setting: setting(), written: at(70 * SECOND), is_last: true, networks }
 }
 
 /// Two networks; the first has stations with the identifiers 2 and 4, of which the second one dozes.
@@ -39,95 +41,14 @@ fn sample() -> State {
     state(vec![first, NetworkState { units: None, ..of_network(&network(OTHER), Vec::new()) }])
 }
 
-#[test]
-fn a_state_is_read_as_it_is_written() {
-    let text = sample().text();
-    assert_eq!(State::read(&text), Some(sample()));
-    let lines = String::from_utf8(text).unwrap();
-    assert!(lines.starts_with("state 1 written 70000000000 last 1 channel 6 interval 100 phy phy0\n"), "{lines}");
-    assert!(lines.contains("\nnetwork 02:00:00:00:01:01 6c6162 82 3 2\nstation 02:aa:00:00:01:07 2 7 0 0 0000"));
-    assert!(lines.contains("\nnetwork 02:00:00:00:01:02 6c6162 82 - 2\nsum "), "{lines}");
-}
-
-#[test]
-fn a_state_that_was_changed_or_cut_is_damaged() {
-    let text = sample().text();
-    for place in 0..text.len() {
-        assert_eq!(State::read(&text[..place]), None, "{place}");
-        let mut changed = text.clone();
-        changed[place] ^= 1;
-        assert_eq!(State::read(&changed), None, "{place}");
-    }
-    assert_eq!(State::read(&[&text[..], b"\n"].concat()), None);
-}
-
-/// What can't be is damaged, also where the sum is right.
-#[test]
-fn a_state_that_says_what_can_t_be_is_damaged() {
-    let good = sample();
-    let mut wrong: Vec<State> = (0..9).map(|_| good.clone()).collect();
-    wrong[0].networks[0].stations.swap(0, 1);
-    wrong[1].networks[0].stations[1].aid = 2;
-    wrong[2].networks[0].stations[1].aid = 2008;
-    wrong[3].networks[0].stations[0].aid = 0;
-    wrong[4].networks[0].stations[0].listen = 8;
-    wrong[5].networks[0].stations[0].address = STRANGER;
-    wrong[6].networks[0].stations[0].request[0] = 0xb0;
-    wrong[7].networks[1].stations = good.networks[0].stations.clone();
-    wrong[8].networks[0].stations[0].request[9] ^= 1;
-    for (number, state) in wrong.iter().enumerate() {
-        assert_eq!(State::read(&state.text()), None, "{number}");
-    }
-    let mut twice = good;
-    twice.networks[0].stations[1] = KeptStation { aid: 3, ..twice.networks[0].stations[0].clone() };
-    assert_eq!(State::read(&twice.text()), None);
-}
-
-#[test]
-fn the_newest_whole_state_of_this_radio_is_chosen() {
-    let (old, new) = (sample(), State { written: 75 * SECOND, is_last: false, ..sample() });
-    let chosen = |texts: &[Vec<u8>], now| choose(texts, &setting(), now);
-    assert_eq!(chosen(&[vec![], vec![]], 0), Ok(None));
-    for (place, texts) in [(1, [old.text(), new.text()]), (0, [new.text(), old.text()])] {
-        assert_eq!(chosen(&texts, 80 * SECOND), Ok(Some((place, new.clone()))));
-    }
-    let cut = new.text()[..40].to_vec();
-    assert_eq!(chosen(&[old.text(), cut.clone()], 80 * SECOND), Ok(Some((0, old.clone()))));
-    assert_eq!(chosen(&[cut, vec![]], 80 * SECOND), Err(NotUsed::Damaged));
-    assert_eq!(chosen(&[old.text(), vec![]], 130 * SECOND), Ok(Some((0, old.clone()))));
-    for time in [130 * SECOND + 1, 70 * SECOND - 1] {
-        assert_eq!(chosen(&[old.text(), vec![]], time), Err(NotUsed::Old), "{time}");
-    }
-    for (setting, reason) in [
-        (Setting { phy: "phy1".into(), ..setting() }, NotUsed::OtherRadio),
-        (Setting { channel: 7, ..setting() }, NotUsed::OtherConfiguration),
-        (Setting { interval: 99, ..setting() }, NotUsed::OtherConfiguration),
-    ] {
-        assert_eq!(choose(&[old.text()], &setting, 80 * SECOND), Err(reason));
-    }
-}
-
-#[test]
-fn units_that_were_kept_are_told_as_lost() {
-    for (units, waiting, told) in [
-        (Some(0), 2, None),
-        (Some(3), 2, Some("3 units that 02:00:00:00:01:01 kept for stations are lost")),
-        (None, 2, Some("the units that 02:00:00:00:01:01 kept for 2 stations are lost")),
-        (None, 0, None),
-    ] {
-        let network = NetworkState { units, waiting, ..of_network(&network(OURS), Vec::new()) };
-        assert_eq!(network.lost_units().as_deref(), told);
-    }
-}
-
-fn said_of(restoring: &mut Replay) -> Vec<ReplayEvent> {
-    std::iter::from_fn(|| restoring.next()).collect()
+fn said_of(replay: &mut Replay) -> Vec<ReplayEvent> {
+    std::iter::from_fn(|| replay.next()).collect()
 }
 
 #[test]
 fn stations_are_said_in_order_with_gaps_filled_and_fillers_leave_last() {
     let ours = network(OURS);
-    let mut restoring = Replay::of(&sample(), &[ours.clone()]).unwrap();
+    let mut replay = Replay::of(&sample(), &[ours.clone()]).unwrap();
     let stations = sample().networks.remove(0).stations;
     let joins = |address, request: Vec<u8>| [authentication(OURS, address), request];
     let made_up_joins = |number| joins(made_up(number), association_request(&ours, made_up(number)));
@@ -141,8 +62,8 @@ fn stations_are_said_in_order_with_gaps_filled_and_fillers_leave_last() {
     ];
     let mut wanted: Vec<ReplayEvent> = frames.concat().into_iter().map(ReplayEvent::Frame).collect();
     wanted.push(ReplayEvent::Tables);
-    assert_eq!(said_of(&mut restoring), wanted);
-    assert!(!restoring.is_done());
+    assert_eq!(said_of(&mut replay), wanted);
+    assert!(!replay.is_done());
 }
 
 #[test]
@@ -150,8 +71,8 @@ fn a_made_up_station_has_no_station_s_address() {
     let ours = Network { bssid: made_up(1), ..network(OURS) };
     let mut taken = kept(&ours, 1, 2);
     taken.address = made_up(0);
-    let mut restoring = Replay::of(&state(vec![of_network(&ours, vec![taken])]), &[ours.clone()]).unwrap();
-    let first = said_of(&mut restoring).remove(0);
+    let mut replay = Replay::of(&state(vec![of_network(&ours, vec![taken])]), &[ours.clone()]).unwrap();
+    let first = said_of(&mut replay).remove(0);
     assert_eq!(first, ReplayEvent::Frame(authentication(made_up(1), made_up(2))));
 }
 
@@ -246,24 +167,24 @@ fn restore(state: &State, ours: &Network, model: Model) -> Restored {
 
 /// What comes of all networks' stations, each with its model.
 fn restore_all(state: &State, networks: &[Network], mut models: Vec<Model>) -> Restored {
-    let mut restoring = Replay::of(state, networks).unwrap();
+    let mut replay = Replay::of(state, networks).unwrap();
     for (network, model) in networks.iter().zip(&mut models) {
         model.max_stations = network.max_stations.into();
     }
-    while let Some(event) = restoring.next() {
+    while let Some(event) = replay.next() {
         for (network, model) in networks.iter().zip(&mut models) {
             let is_heard = match &event {
                 ReplayEvent::Frame(octets) => Frame::of(octets).unwrap().receiver() == network.bssid,
                 ReplayEvent::Tables => true,
             };
             if is_heard {
-                assert!(!restoring.is_done());
-                model.take(network.bssid, &event).iter().for_each(|answer| restoring.take(answer));
+                assert!(!replay.is_done());
+                model.take(network.bssid, &event).iter().for_each(|answer| replay.take(answer));
             }
         }
     }
-    assert!(restoring.is_done());
-    restoring.restored()
+    assert!(replay.is_done());
+    replay.restored()
 }
 
 fn members(stations: &[KeptStation]) -> Vec<Member> {
@@ -301,20 +222,20 @@ fn who_is_answered_otherwise_joins_again() {
     assert_eq!(restore(&state, &ours, other).leave, [(0, STATION)]);
     // One whose listen interval or mode is another one in the table.
     for line in ["aid 2 listen 9 active", "aid 2 listen 2 doze", "aid 3 listen 2 active"] {
-        let mut restoring = Replay::of(&state, std::slice::from_ref(&ours)).unwrap();
+        let mut replay = Replay::of(&state, std::slice::from_ref(&ours)).unwrap();
         let mut model = Model { max_stations: 100, ..Model::default() };
-        while let Some(event) = restoring.next() {
+        while let Some(event) = replay.next() {
             for answer in model.take(OURS, &event) {
                 match answer {
                     Answer::Told(text) => {
                         let text = text.replace("aid 2 listen 2 active", line);
-                        restoring.take(&Answer::Told(text));
+                        replay.take(&Answer::Told(text));
                     }
-                    other => restoring.take(&other),
+                    other => replay.take(&other),
                 }
             }
         }
-        let restored = restoring.restored();
+        let restored = replay.restored();
         assert_eq!((restored.stay.len(), restored.again), (3, members(&stations[1..2])), "{line}");
     }
 }
@@ -324,14 +245,14 @@ fn who_is_answered_otherwise_joins_again() {
 fn who_is_answered_by_another_identifier_joins_again() {
     let ours = network(OURS);
     let stations = vec![kept(&ours, 1, 1)];
-    let mut restoring = Replay::of(&state(vec![of_network(&ours, stations.clone())]), &[ours]).unwrap();
-    said_of(&mut restoring);
-    restoring.take(&answer(OURS, stations[0].address, 0x10, &[1, 0, 0, 0, 2, 0xc0]));
+    let mut replay = Replay::of(&state(vec![of_network(&ours, stations.clone())]), &[ours]).unwrap();
+    said_of(&mut replay);
+    replay.take(&answer(OURS, stations[0].address, 0x10, &[1, 0, 0, 0, 2, 0xc0]));
     let row = format!("station {} associated aid 1 listen 1 active kept 0", stations[0].address);
     for line in [format!("network {OURS} ssid 6c"), row, "end".into()] {
-        restoring.take(&Answer::Told(line));
+        replay.take(&Answer::Told(line));
     }
-    let restored = restoring.restored();
+    let restored = replay.restored();
     assert_eq!((restored.again, restored.leave), (members(&stations), members(&stations)));
 }
 
@@ -382,12 +303,12 @@ fn each_network_has_its_own_stations_again() {
 fn it_is_done_once_the_last_table_came() {
     let networks = [network(OURS), network(OTHER)];
     let state = state(vec![of_network(&networks[0], vec![kept(&networks[0], 1, 1)])]);
-    let mut restoring = Replay::of(&state, &networks).unwrap();
-    said_of(&mut restoring);
+    let mut replay = Replay::of(&state, &networks).unwrap();
+    said_of(&mut replay);
     let lines = [format!("network {OURS} ssid 6c"), "end".into(), format!("network {OTHER} ssid 6c"), "end".into()];
     for (line, is_done) in lines.into_iter().zip([false, false, false, true]) {
-        restoring.take(&Answer::Told(line.clone()));
-        assert_eq!(restoring.is_done(), is_done, "{line}");
+        replay.take(&Answer::Told(line.clone()));
+        assert_eq!(replay.is_done(), is_done, "{line}");
     }
 }
 
@@ -453,18 +374,18 @@ fn the_built_program_has_all_as_before() {
         }
     };
     let mut random = Seeded(2016);
-    let path = std::env::temp_dir().join(format!("restoring-{}.toml", std::process::id()));
+    let path = std::env::temp_dir().join(format!("replay-{}.toml", std::process::id()));
     for number in 0..12 {
         let (state, ours) = drawn(&mut random);
         std::fs::write(&path, config_of(&ours)).unwrap();
         let words = (program.to_str().unwrap(), path.to_str().unwrap());
         let (mut program, mut feeder) = Program::start(words.0, words.1, None, None).unwrap();
-        let mut restoring = Replay::of(&state, std::slice::from_ref(&ours)).unwrap();
+        let mut replay = Replay::of(&state, std::slice::from_ref(&ours)).unwrap();
         let until = now() + 60 * SECOND;
-        while !restoring.is_done() {
+        while !replay.is_done() {
             assert!(now() < until && !program.has_ended());
             while feeder.room() > 0 {
-                match restoring.next() {
+                match replay.next() {
                     Some(event) => feeder.feed(event.event()),
                     None => break,
                 }
@@ -472,15 +393,15 @@ fn the_built_program_has_all_as_before() {
             }
             while program.read().unwrap() {
                 while let Some(answer) = program.next_answer().unwrap() {
-                    restoring.take(&answer);
+                    replay.take(&answer);
                 }
             }
-            std::thread::sleep(Duration::from_millis(1));
+            std::thread::sleep(Duration::from_millis(1).into());
         }
         feeder.close();
         assert_eq!(program.status(now() + 60 * SECOND).unwrap(), 0);
         let stations = &state.networks[0].stations;
-        let restored = restoring.restored();
+        let restored = replay.restored();
         let stay: Vec<Member> = restored.stay.iter().map(|(member, _)| *member).collect();
         assert_eq!((stay, restored.again, restored.leave), (members(stations), vec![], vec![]), "{number}");
         let fillers = stations.last().map_or(0, |last| usize::from(last.aid)) - stations.len();

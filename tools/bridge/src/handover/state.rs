@@ -4,11 +4,11 @@ use std::fmt;
 
 use crate::formats::frames::Address;
 use crate::network::Network;
-use crate::os::clock::{Nanos, SECOND};
+use crate::os::clock::{Duration, Instant};
 use crate::stations::station::KeptStation;
 
 /// A state that is older isn't used: its stations have noticed that nobody answered.
-const MOST_AGE: Nanos = 60 * SECOND;
+const MOST_AGE: Duration = Duration::from_secs(60);
 
 /// Of which radio a state is, and how that was served.
 #[derive(Debug, Clone, PartialEq, Eq)]
@@ -43,8 +43,9 @@ pub struct NetworkState {
 pub struct State {
     /// Of which radio it is.
     pub setting: Setting,
-    /// When it was written, by the clock that nobody sets.
-    pub written: Nanos,
+    /// When it was written, by the clock that nobody sets and that goes on while the machine is suspended: its age is
+    /// what stations have noticed.
+    pub written: Instant,
     /// Whether the bridge wrote it at its end: then all in it is as it was then.
     pub is_last: bool,
     /// The networks.
@@ -77,7 +78,7 @@ impl fmt::Display for NotUsed {
 
 impl NetworkState {
     /// Whether no two stations have one address or one identifier, and these ascend.
-    pub fn is_possible(&self) -> bool {
+    pub(super) fn is_possible(&self) -> bool {
         let addresses: HashSet<Address> = self.stations.iter().map(|kept| kept.address).collect();
         let ascends = self.stations.windows(2).all(|pair| pair[0].aid < pair[1].aid);
         ascends && addresses.len() == self.stations.len()
@@ -102,7 +103,7 @@ impl NetworkState {
 
 /// The newest whole state of these texts, of which an empty one is none, with its place, where it is to be used for a
 /// radio that is served so.
-pub fn choose(texts: &[Vec<u8>], setting: &Setting, now: Nanos) -> Result<Option<(usize, State)>, NotUsed> {
+pub fn choose(texts: &[Vec<u8>], setting: &Setting, now: Instant) -> Result<Option<(usize, State)>, NotUsed> {
     if texts.iter().all(Vec::is_empty) {
         return Ok(None);
     }

@@ -4,6 +4,7 @@ use std::fmt::Write;
 
 use crate::formats::frames::{Address, Frame};
 use crate::handover::state::{NetworkState, Setting, State};
+use crate::os::clock::Instant;
 use crate::stations::meaning::{from_station, FromStation};
 use crate::stations::station::KeptStation;
 
@@ -18,24 +19,12 @@ const SUM_FACTOR: u64 = 0x0100_0000_01b3;
 impl State {
     /// It as lines, of which the last has the sum of those before.
     pub fn text(&self) -> Vec<u8> {
-        let Setting { phy, channel, interval } = &self.setting;
-        let State { written, is_last, .. } = self;
-        let is_last = u8::from(*is_last);
-        let mut text =
-            format!("{FIRST_WORDS} written {written} last {is_last} channel {channel} interval {interval} phy {phy}\n");
+        let mut lines = Lines::begin(&self.setting, self.written, self.is_last);
         for network in &self.networks {
-            let NetworkState { bssid, ssid, rates, units, waiting, stations } = network;
-            let units = units.map_or_else(|| "-".to_owned(), |units| units.to_string());
-            let (ssid, rates) = (hex::encode(ssid), hex::encode(rates));
-            let _ = writeln!(text, "network {bssid} {ssid} {rates} {units} {waiting}");
-            for KeptStation { address, aid, listen, dozes, has_dozed, request } in stations {
-                let (dozes, has_dozed, request) = (u8::from(*dozes), u8::from(*has_dozed), hex::encode(request));
-                let _ = writeln!(text, "station {address} {aid} {listen} {dozes} {has_dozed} {request}");
-            }
+            lines.put_network(network);
+            network.stations.iter().for_each(|station| lines.put_station(station));
         }
-        let sum = sum_of(text.as_bytes());
-        let _ = writeln!(text, "{SUM} {sum:016x}");
-        text.into_bytes()
+        lines.end()
     }
 
     /// Reads it; `None` where it is damaged.
@@ -64,7 +53,57 @@ impl State {
 }
 
 fn sum_of(octets: &[u8]) -> u64 {
-    octets.iter().fold(SUM_OF_NOTHING, |sum, octet| (sum ^ u64::from(*octet)).wrapping_mul(SUM_FACTOR))
+    sum_beyond(SUM_OF_NOTHING, octets)
+}
+
+fn sum_beyond(sum: u64, octets: &[u8]) -> u64 {
+    octets.iter().fold(sum, |sum, octet| (sum ^ u64::from(*octet)).wrapping_mul(SUM_FACTOR))
+}
+
+/// The lines of a state, as they are put one after the other.
+#[derive(Debug)]
+pub(super) struct Lines {
+    text: String,
+    /// The sum of the text up to this place.
+    sum: u64,
+    summed: usize,
+}
+
+impl Lines {
+    pub(super) fn begin(setting: &Setting, written: Instant, is_last: bool) -> Lines {
+        let Setting { phy, channel, interval } = setting;
+        let (written, is_last) = (written.as_nanos(), u8::from(is_last));
+        let text =
+            format!("{FIRST_WORDS} written {written} last {is_last} channel {channel} interval {interval} phy {phy}\n");
+        Lines { text, sum: SUM_OF_NOTHING, summed: 0 }
+    }
+
+    /// A network, without its stations.
+    pub(super) fn put_network(&mut self, network: &NetworkState) {
+        let NetworkState { bssid, ssid, rates, units, waiting, stations: _ } = network;
+        let units = units.map_or_else(|| "-".to_owned(), |units| units.to_string());
+        let (ssid, rates) = (hex::encode(ssid), hex::encode(rates));
+        let _ = writeln!(self.text, "network {bssid} {ssid} {rates} {units} {waiting}");
+    }
+
+    /// A station of the network that was put last.
+    pub(super) fn put_station(&mut self, station: &KeptStation) {
+        let KeptStation { address, aid, listen, dozes, has_dozed, request } = station;
+        let (dozes, has_dozed, request) = (u8::from(*dozes), u8::from(*has_dozed), hex::encode(request));
+        let _ = writeln!(self.text, "station {address} {aid} {listen} {dozes} {has_dozed} {request}");
+    }
+
+    /// Sums what was put, so that less is left for the end.
+    pub(super) fn sum_up(&mut self) {
+        self.sum = sum_beyond(self.sum, &self.text.as_bytes()[self.summed..]);
+        self.summed = self.text.len();
+    }
+
+    pub(super) fn end(mut self) -> Vec<u8> {
+        self.sum_up();
+        let _ = writeln!(self.text, "{SUM} {:016x}", self.sum);
+        self.text.into_bytes()
+    }
 }
 
 fn read_flag(text: &str) -> Option<bool> {
@@ -81,7 +120,7 @@ fn read_first(line: &str) -> Option<State> {
     match words[..] {
         ["", "written", written, "last", is_last, "channel", channel, "interval", interval] => Some(State {
             setting: Setting { phy: phy.to_owned(), channel: channel.parse().ok()?, interval: interval.parse().ok()? },
-            written: written.parse().ok()?,
+            written: Instant::from_nanos(written.parse().ok()?),
             is_last: read_flag(is_last)?,
             networks: Vec::new(),
         }),

@@ -1,18 +1,19 @@
 //! Where many frames come in a second, the bridge lets some gather before it reads them: each waking of the bridge and
 //! of the program then serves several. Where few come, each is read as it comes.
-use crate::os::clock::{Nanos, MILLISECOND};
+
+use crate::os::clock::{nanos, Duration, Instant, MILLISECOND};
 
 /// How long frames gather at most.
-const LONGEST: Nanos = MILLISECOND;
+const LONGEST: Duration = MILLISECOND;
 /// How long the frames are counted by which it is known whether many come, and how many these are.
-const COUNTED: Nanos = 4 * MILLISECOND;
-const MANY: usize = 16;
+const COUNTED: Duration = Duration::from_millis(4);
+const MANY: u64 = 16;
 
 /// How many frames came of late.
 #[derive(Debug, Default)]
 pub struct Batching {
     /// Since when they are counted, and how many came since.
-    since: Nanos,
+    since: Instant,
     frames: usize,
     are_many: bool,
 }
@@ -29,11 +30,11 @@ impl Batching {
     }
 
     /// Until when frames may gather that came after this time, or `None` where each is read as it comes.
-    pub fn until(&mut self, now: Nanos) -> Option<Nanos> {
+    pub fn until(&mut self, now: Instant) -> Option<Instant> {
         if now >= self.since + COUNTED {
             // Frames that came over a longer time were fewer in each part of it.
-            let counted = (now - self.since) / COUNTED;
-            self.are_many = self.frames as Nanos >= MANY as Nanos * counted;
+            let counted = nanos(now.since(self.since)) / nanos(COUNTED);
+            self.are_many = self.frames as u64 >= MANY * counted;
             (self.since, self.frames) = (now, 0);
         }
         self.are_many.then_some(now + LONGEST)
@@ -43,14 +44,15 @@ impl Batching {
 #[cfg(test)]
 mod tests {
     use super::*;
+    use crate::testing::samples::{at, NANOSECOND};
 
     /// Whether frames gather while one comes each so many nanoseconds, asked at each of them.
-    fn gathers(every: Nanos) -> bool {
-        let mut gathering = Batching::default();
+    fn gathers(every: Duration) -> bool {
+        let mut batching = Batching::default();
         let mut found = false;
         for number in 1..100 {
-            gathering.count(1);
-            found = gathering.until(number * every).is_some();
+            batching.count(1);
+            found = batching.until(at(number * every)).is_some();
         }
         found
     }
@@ -64,18 +66,18 @@ mod tests {
 
     #[test]
     fn they_gather_no_more_once_few_come() {
-        let mut gathering = Batching::default();
-        gathering.count(100);
-        assert_eq!(gathering.until(COUNTED), Some(COUNTED + LONGEST));
-        assert_eq!(gathering.until(2 * COUNTED - 1), Some(2 * COUNTED - 1 + LONGEST));
-        gathering.count(1);
-        assert_eq!(gathering.until(2 * COUNTED), None);
+        let mut batching = Batching::default();
+        batching.count(100);
+        assert_eq!(batching.until(at(COUNTED)), Some(at(COUNTED + LONGEST)));
+        assert_eq!(batching.until(at(2 * COUNTED - NANOSECOND)), Some(at(2 * COUNTED - NANOSECOND + LONGEST)));
+        batching.count(1);
+        assert_eq!(batching.until(at(2 * COUNTED)), None);
     }
 
     #[test]
     fn a_burst_after_a_long_time_is_not_many() {
-        let mut gathering = Batching::default();
-        gathering.count(100);
-        assert_eq!(gathering.until(100 * COUNTED), None);
+        let mut batching = Batching::default();
+        batching.count(100);
+        assert_eq!(batching.until(at(100 * COUNTED)), None);
     }
 }

@@ -2,13 +2,17 @@
 //! keeps out control frames but PS-Poll, what is for no network, and beacons that this radio sent. What it can't read
 //! goes on, and is judged as ever.
 //!
+//! Of frames for all it lets probe requests through, and those that name one of these networks as theirs. Of others,
+//! such as neighbours' beacons, the kernel draws some: they show on which channel the radio hears.
+//!
 //! Frames that were acknowledged come by a socket of their own, which wakes nobody: its filter lets through those alone
 //! whose header is as mac80211 writes it, and these the first filter keeps out. By it come beacons too, of which the
 //! kernel draws some: what became of them tells that the radio goes on sending.
+
 use libc::sock_filter;
 
-use crate::formats::frames::{Address, BEACON};
-use crate::os::clock::{Nanos, SECOND};
+use crate::formats::frames::{Address, BEACON, PROBE_REQUEST};
+use crate::os::clock::{Duration, SECOND};
 
 /// What is done with the frames that the radio shows as sent.
 #[derive(Debug, Clone, Copy, PartialEq, Eq)]
@@ -21,23 +25,39 @@ pub enum Shown {
     Failures,
 }
 
-/// Of which beacons it is learned that they were sent.
+/// Which frames of a kind come: beacons that were sent, or neighbours' frames for all.
 #[derive(Debug, Clone, Copy, PartialEq, Eq)]
 pub enum Drawn {
-    /// Of each.
+    /// Each.
     Each,
-    /// Of those for which the kernel draws a smaller number, of 32 bits.
+    /// Those for which the kernel draws a smaller number, of 32 bits.
     Below(u32),
 }
 
 impl Drawn {
+    /// One in a hundred.
+    pub const ONE_IN_HUNDRED: Drawn = Drawn::Below(u32::MAX / 100);
+
+    /// Where these come, and others don't.
+    fn returns(self, length: u32) -> Vec<sock_filter> {
+        match self {
+            Drawn::Each => vec![returned(length)],
+            Drawn::Below(number) => vec![
+                plain(LOAD_FOUR, NUMBER_DRAWN_AT),
+                jump(IF_AT_LEAST, number, 1, 0),
+                returned(length),
+                returned(NONE),
+            ],
+        }
+    }
+
     /// About one a second, where so many networks have such beacon intervals; of each where they are rarer.
-    pub fn one_a_second(networks: usize, interval: Nanos) -> Drawn {
-        let all = SECOND * networks.max(1) as u64;
+    pub fn one_a_second(networks: usize, interval: Duration) -> Drawn {
+        let all = SECOND * networks.max(1) as u32;
         if interval >= all {
             Drawn::Each
         } else {
-            Drawn::Below(((u128::from(interval) << 32) / u128::from(all)) as u32)
+            Drawn::Below(((interval.as_nanos() << 32) / all.as_nanos()) as u32)
         }
     }
 }
@@ -79,6 +99,7 @@ const TX_FLAGS_AFTER_RATE_AT: u32 = 10;
 const TX_FLAGS_AT: u32 = 8;
 const LEAST: u32 = 10;
 const RECEIVER_AT: u32 = 4;
+const THIRD_ADDRESS_AT: u32 = 16;
 const TYPE_BITS: u32 = 0x0c;
 const CONTROL: u32 = 0x04;
 const SUBTYPE_BITS: u32 = 0xf0;
@@ -86,14 +107,23 @@ const PS_POLL: u32 = 0xa0;
 /// Where the kernel gives a number that it draws.
 const NUMBER_DRAWN_AT: u32 = (libc::SKF_AD_OFF + libc::SKF_AD_RANDOM) as u32;
 
-/// The filter of a monitor interface for these networks.
-pub fn monitor_filter(bssids: &[Address], shown: Shown) -> Vec<sock_filter> {
+/// The filter of a monitor interface for these networks, by which these of the neighbours' frames come.
+pub fn monitor_filter(bssids: &[Address], shown: Shown, neighbours: Drawn) -> Vec<sock_filter> {
     let mut filter = read_lengths(ALL);
     filter.extend(of_those_sent(shown));
     filter.extend(of_control_frames());
-    let networks = [Address::BROADCAST].iter().chain(bssids);
-    filter.extend(networks.flat_map(|address| of_receiver(*address)));
+    filter.extend(bssids.iter().flat_map(|bssid| of_address(RECEIVER_AT, *bssid, vec![returned(ALL)])));
+    filter.extend(of_address(RECEIVER_AT, Address::BROADCAST, of_frames_for_all(bssids, neighbours)));
     filter.push(returned(NONE));
+    filter
+}
+
+/// Of frames for all, which come: what is short has no third address, and ends where that is looked at.
+fn of_frames_for_all(bssids: &[Address], neighbours: Drawn) -> Vec<sock_filter> {
+    let mut filter = of_frames(PROBE_REQUEST, vec![returned(ALL)]);
+    let of_network = |bssid: &Address| of_address(THIRD_ADDRESS_AT, *bssid, vec![returned(ALL)]);
+    filter.extend(bssids.iter().flat_map(of_network));
+    filter.extend(neighbours.returns(ALL));
     filter
 }
 
@@ -103,15 +133,7 @@ pub fn acknowledged_filter(drawn: Drawn) -> Vec<sock_filter> {
     let mut filter =
         vec![plain(LOAD_OCTET, SECOND_PRESENT_OCTET), jump(IF_ANY_BIT, TX_FLAGS_BIT, 1, 0), returned(NONE)];
     filter.extend(read_lengths(NONE));
-    filter.extend(of_beacons(match drawn {
-        Drawn::Each => vec![returned(OUTCOME_LEN)],
-        Drawn::Below(number) => vec![
-            plain(LOAD_FOUR, NUMBER_DRAWN_AT),
-            jump(IF_AT_LEAST, number, 1, 0),
-            returned(OUTCOME_LEN),
-            returned(NONE),
-        ],
-    }));
+    filter.extend(of_frames(BEACON, drawn.returns(OUTCOME_LEN)));
     filter.extend(of_outcomes(OUTCOME_LEN, NONE));
     filter
 }
@@ -153,7 +175,7 @@ fn of_those_sent(shown: Shown) -> Vec<sock_filter> {
     let of_them = match shown {
         Shown::All => vec![returned(ALL)],
         Shown::Outcomes => vec![returned(OUTCOME_LEN)],
-        Shown::Failures => [of_beacons(vec![returned(NONE)]), of_outcomes(NONE, OUTCOME_LEN)].concat(),
+        Shown::Failures => [of_frames(BEACON, vec![returned(NONE)]), of_outcomes(NONE, OUTCOME_LEN)].concat(),
     };
     let mut filter =
         vec![plain(LOAD_OCTET, SECOND_PRESENT_OCTET), jump(IF_ANY_BIT, TX_FLAGS_BIT, 0, of_them.len() as u8)];
@@ -161,9 +183,9 @@ fn of_those_sent(shown: Shown) -> Vec<sock_filter> {
     filter
 }
 
-/// What is done with beacons.
-fn of_beacons(then: Vec<sock_filter>) -> Vec<sock_filter> {
-    let mut filter = vec![plain(LOAD_OCTET_AT_X, 0), jump(IF_EQUAL, u32::from(BEACON), 0, then.len() as u8)];
+/// What is done with frames of this first octet.
+fn of_frames(first: u8, then: Vec<sock_filter>) -> Vec<sock_filter> {
+    let mut filter = vec![plain(LOAD_OCTET_AT_X, 0), jump(IF_EQUAL, u32::from(first), 0, then.len() as u8)];
     filter.extend(then);
     filter
 }
@@ -201,16 +223,18 @@ fn of_control_frames() -> Vec<sock_filter> {
     ]
 }
 
-/// Frames to this receiver go on.
-fn of_receiver(address: Address) -> Vec<sock_filter> {
+/// What is done with frames that have this address there.
+fn of_address(at: u32, address: Address, then: Vec<sock_filter>) -> Vec<sock_filter> {
     let [a, b, c, d, e, f] = *address.octets();
-    vec![
-        plain(LOAD_FOUR_AT_X, RECEIVER_AT),
-        jump(IF_EQUAL, u32::from_be_bytes([a, b, c, d]), 0, 3),
-        plain(LOAD_TWO_AT_X, RECEIVER_AT + 4),
-        jump(IF_EQUAL, u32::from_be_bytes([0, 0, e, f]), 0, 1),
-        returned(ALL),
-    ]
+    let past = then.len() as u8;
+    let mut filter = vec![
+        plain(LOAD_FOUR_AT_X, at),
+        jump(IF_EQUAL, u32::from_be_bytes([a, b, c, d]), 0, past + 2),
+        plain(LOAD_TWO_AT_X, at + 4),
+        jump(IF_EQUAL, u32::from_be_bytes([0, 0, e, f]), 0, past),
+    ];
+    filter.extend(then);
+    filter
 }
 
 fn plain(code: u16, k: u32) -> sock_filter {
@@ -226,177 +250,5 @@ fn returned(length: u32) -> sock_filter {
 }
 
 #[cfg(test)]
-mod tests {
-    use super::*;
-    use crate::inbound::judging::{Judge, Judged, LeftOut};
-    use crate::testing::samples::{data, radiotap, Seeded, Unit, OTHER, OURS, STRANGER};
-
-    /// What the kernel does with a filter: how many octets of the packet go on.
-    fn kept(filter: &[sock_filter], packet: &[u8]) -> u32 {
-        kept_of(filter, packet, 0)
-    }
-
-    /// The same where the kernel draws this number.
-    fn kept_of(filter: &[sock_filter], packet: &[u8], drawn: u32) -> u32 {
-        let (mut a, mut x, mut place) = (0u32, 0u32, 0);
-        loop {
-            let step = filter[place];
-            place += 1;
-            let load = |from: u32, length: usize| {
-                let from = from as usize;
-                packet
-                    .get(from..from.checked_add(length)?)
-                    .map(|found| found.iter().fold(0, |sum, octet| sum << 8 | u32::from(*octet)))
-            };
-            let loaded = match step.code {
-                LOAD_LENGTH => Some(packet.len() as u32),
-                LOAD_FOUR if step.k == NUMBER_DRAWN_AT => Some(drawn),
-                LOAD_OCTET => load(step.k, 1),
-                LOAD_OCTET_AT_X => load(x.wrapping_add(step.k), 1),
-                LOAD_TWO_AT_X => load(x.wrapping_add(step.k), 2),
-                LOAD_FOUR_AT_X => load(x.wrapping_add(step.k), 4),
-                AND => Some(a & step.k),
-                ADD => Some(a.wrapping_add(step.k)),
-                ADD_X => Some(a.wrapping_add(x)),
-                SHIFT_LEFT => Some(a << step.k),
-                FROM_X => Some(x),
-                _ => Some(a),
-            };
-            match loaded {
-                Some(found) => a = found,
-                None => return 0,
-            }
-            let is_true = match step.code {
-                INTO_X => {
-                    x = a;
-                    continue;
-                }
-                RETURN => return step.k,
-                IF_EQUAL => a == step.k,
-                IF_AT_LEAST => a >= step.k,
-                IF_AT_LEAST_X => a >= x,
-                IF_ANY_BIT => a & step.k != 0,
-                _ => continue,
-            };
-            place += usize::from(if is_true { step.jt } else { step.jf });
-        }
-    }
-
-    fn heard(frame: &[u8]) -> Vec<u8> {
-        radiotap(frame, 1 << 1, &[0])
-    }
-
-    fn shown(frame: &[u8]) -> Vec<u8> {
-        radiotap(frame, 1 << 1 | 1 << 15, &[0, 0, 0, 0])
-    }
-
-    #[test]
-    fn what_this_radio_sent_comes_as_long_as_it_is_asked_for() {
-        let unit = Unit { transmitter: OURS, receiver: STRANGER, ..Unit::default() }.octets();
-        let beacon =
-            Unit { control: [BEACON, 0], transmitter: OURS, receiver: Address::BROADCAST, ..Unit::default() }.octets();
-        for (asked, of_unit, of_beacon) in
-            [(Shown::All, ALL, ALL), (Shown::Outcomes, OUTCOME_LEN, OUTCOME_LEN), (Shown::Failures, OUTCOME_LEN, NONE)]
-        {
-            let filter = monitor_filter(&[OURS], asked);
-            assert_eq!(
-                (kept(&filter, &shown(&unit)), kept(&filter, &shown(&beacon))),
-                (of_unit, of_beacon),
-                "{asked:?}"
-            );
-        }
-    }
-
-    /// A frame that was sent comes by one of the two sockets, whatever its header names; by that which wakes nobody
-    /// where it was acknowledged and the header is as mac80211 writes it.
-    #[test]
-    fn outcomes_come_by_one_socket_or_the_other() {
-        let (waking, quiet) = (monitor_filter(&[OURS], Shown::Failures), acknowledged_filter(Drawn::Below(0)));
-        let unit = Unit { transmitter: OURS, receiver: STRANGER, ..Unit::default() }.octets();
-        let both = |packet: &[u8]| (kept(&waking, packet), kept(&quiet, packet));
-        let sent = |present: u32, fields: &[u8]| both(&radiotap(&unit, present, fields));
-        let (wakes, is_quiet) = ((OUTCOME_LEN, NONE), (NONE, OUTCOME_LEN));
-        assert_eq!(sent(1 << 2 | 1 << 15 | 1 << 17, &[108, 0, 0, 0, 0]), is_quiet);
-        assert_eq!(sent(1 << 2 | 1 << 15 | 1 << 17, &[108, 0, 1, 0, 10]), wakes);
-        assert_eq!(sent(1 << 15 | 1 << 17 | 1 << 19, &[0, 0, 3, 7, 0, 7]), is_quiet);
-        assert_eq!(sent(1 << 15 | 1 << 17 | 1 << 19, &[1, 0, 3, 7, 0, 7]), wakes);
-        assert_eq!(sent(1 << 1 | 1 << 15, &[0, 0, 0, 0]), wakes);
-        assert_eq!(sent(1 << 3 | 1 << 15, &[0; 6]), wakes);
-        assert_eq!(sent(1 << 15 | 1 << 31, &[0; 8]), wakes);
-        let group = Unit { transmitter: OURS, receiver: Address::BROADCAST, ..Unit::default() };
-        assert_eq!(both(&radiotap(&group.octets(), 1 << 15, &[0, 0])), is_quiet);
-        let beacon = Unit { control: [BEACON, 0], ..group }.octets();
-        assert_eq!(both(&radiotap(&beacon, 1 << 15, &[0, 0])), (NONE, NONE));
-        for packet in [&heard(&data())[..], &[], &[0; 7], &[0, 0, 8, 0, 0, 0x80, 0, 0], &shown(&unit)[..14]] {
-            assert_eq!(kept(&quiet, packet), NONE, "{packet:?}");
-            assert_ne!(kept(&waking, packet), NONE, "{packet:?}");
-        }
-        assert_eq!(kept(&nothing_filter(), &heard(&data())), NONE);
-    }
-
-    /// By the socket that wakes nobody, whatever the header names.
-    #[test]
-    fn of_beacons_that_were_sent_about_one_a_second_comes() {
-        const INTERVAL: Nanos = 102_400_000;
-        let beacon = Unit { control: [BEACON, 0], transmitter: OURS, receiver: Address::BROADCAST, ..Unit::default() };
-        let packets = [shown(&beacon.octets()), radiotap(&beacon.octets(), 1 << 15, &[1, 0])];
-        for (networks, interval, wanted) in
-            [(1, INTERVAL, 103), (16, INTERVAL, 7), (1, SECOND, 1000), (16, 20 * SECOND, 1000)]
-        {
-            let filter = acknowledged_filter(Drawn::one_a_second(networks, interval));
-            for packet in &packets {
-                let came = (0..1000).filter(|part| kept_of(&filter, packet, part * (u32::MAX / 1000)) == OUTCOME_LEN);
-                assert_eq!(came.count(), wanted, "{networks} {interval}");
-            }
-        }
-        let unit = Unit { transmitter: OURS, receiver: STRANGER, ..Unit::default() }.octets();
-        let filter = acknowledged_filter(Drawn::Below(1));
-        assert_eq!(kept_of(&filter, &radiotap(&unit, 1 << 15, &[0, 0]), u32::MAX), OUTCOME_LEN);
-        assert_eq!(kept_of(&filter, &heard(&beacon.octets()), 0), NONE);
-    }
-
-    #[test]
-    fn what_is_cut_goes_on() {
-        let filter = monitor_filter(&[OURS], Shown::Outcomes);
-        let packet = heard(&data());
-        for length in 0..18 {
-            assert_eq!(kept(&filter, &packet[..length]), ALL, "{length}");
-        }
-        assert_eq!(kept(&filter, &[&[1][..], &packet[1..]].concat()), ALL);
-        assert_eq!(kept(&filter, &[0, 0, 0xff, 0xff, 0, 0, 0, 0, 0, 0, 0, 0]), ALL);
-        assert_eq!(kept(&filter, &[0, 0, 7, 0, 0, 0, 0, 0, 0, 0, 0, 0, 0, 0, 0, 0, 0, 0, 0, 0]), ALL);
-    }
-
-    /// It keeps out what would be left out for the same reason, and nothing that goes on.
-    #[test]
-    fn it_agrees_with_what_is_judged() {
-        let filter = monitor_filter(&[OURS, OTHER], Shown::Outcomes);
-        let apart = [monitor_filter(&[OURS, OTHER], Shown::Failures), acknowledged_filter(Drawn::Each)];
-        let mut seeded = Seeded(3);
-        let mut out = 0;
-        for _ in 0..200_000 {
-            let receivers = [OURS, OTHER, Address::BROADCAST, STRANGER, Address::of([2, 0, 0, 0, 1, 9])];
-            let control = [seeded.number() as u8 & 0xfc, seeded.number() as u8];
-            let receiver = receivers[seeded.below(receivers.len())];
-            let unit = Unit { control, receiver, ..Unit::default() }.octets();
-            let unit = &unit[..seeded.below(unit.len() + 1)];
-            let packet = if seeded.below(8) == 0 { shown(unit) } else { heard(unit) };
-            let wanted = match Judge::new([OURS, OTHER]).judge(&packet, false, false) {
-                Judged::LeftOut(LeftOut::Controls | LeftOut::Others) => NONE,
-                Judged::Sent(frame, _) if frame.len() < LEAST as usize => ALL,
-                Judged::Sent(..) => OUTCOME_LEN,
-                _ => ALL,
-            };
-            assert_eq!(kept(&filter, &packet), wanted, "{packet:?}");
-            assert_eq!(kept(&apart[0], &packet).max(kept(&apart[1], &packet)), wanted, "{packet:?}");
-            out += u32::from(wanted == NONE);
-        }
-        assert!(out > 50_000 && out < 190_000, "{out}");
-    }
-
-    #[test]
-    fn it_is_as_long_as_the_kernel_allows() {
-        let networks = vec![OURS; 16];
-        assert!(monitor_filter(&networks, Shown::Outcomes).len() < 4096);
-    }
-}
+#[path = "filter_test.rs"]
+mod tests;

@@ -2,14 +2,14 @@
 use std::fmt;
 
 use crate::formats::frames::{Address, Frame, FrameType};
-use crate::os::clock::{Nanos, MILLISECOND};
+use crate::os::clock::{Duration, Instant};
 
 /// How long a frame of data waits at most, and a probe request: a station that looks for networks listens on a channel
 /// for some 20 to 100 ms.
-pub const LONGEST: Nanos = 50 * MILLISECOND;
+pub const LONGEST: Duration = Duration::from_millis(50);
 /// How long another request waits at most: a station that got no answer asks again after some 100 to 200 ms, and then
 /// awaits the answer to what it asked last.
-pub const LONGEST_OF_REQUEST: Nanos = 200 * MILLISECOND;
+pub(super) const LONGEST_OF_REQUEST: Duration = Duration::from_millis(200);
 /// The subtypes of management frames that are looked at (IEEE Std 802.11-2016, table 9-1).
 const PROBE_REQUEST: u8 = 4;
 const DISASSOCIATION: u8 = 10;
@@ -34,7 +34,7 @@ impl Source {
 }
 
 /// A sender and a receiver.
-pub type Flow = (Address, Address);
+pub(super) type Flow = (Address, Address);
 
 /// What a frame is, in the order of its worth.
 #[derive(Debug, Clone, Copy, PartialEq, Eq, Hash, PartialOrd, Ord)]
@@ -45,17 +45,17 @@ pub enum Priority {
     Data,
     /// Another management frame or a PS-Poll: a station asks for something, or sends what no network reads.
     Request,
-    /// A station says what holds from then on: that it leaves, dozes or is awake.
+    /// A station says what holds from then on: that it leaves, dozes or is awake, be it by a unit of data.
     Notice,
 }
 
 impl Priority {
     pub const ALL: [Priority; 4] = [Priority::Probe, Priority::Data, Priority::Request, Priority::Notice];
 
-    /// That of a frame of the air.
-    fn of(frame: Frame<'_>) -> Priority {
+    /// That of a frame of the air, which changes the mode of its station or doesn't.
+    fn of(frame: Frame<'_>, changes_mode: bool) -> Priority {
         match (frame.frame_type(), frame.octets()[0] >> 4) {
-            (FrameType::Data, _) if frame.is_null() => Priority::Notice,
+            (FrameType::Data, _) if changes_mode || frame.is_null() => Priority::Notice,
             (FrameType::Data, _) => Priority::Data,
             (FrameType::Management, PROBE_REQUEST) => Priority::Probe,
             (FrameType::Management, DISASSOCIATION | DEAUTHENTICATION) => Priority::Notice,
@@ -64,7 +64,7 @@ impl Priority {
     }
 
     /// How long it is worth to let one wait. A notice has no end: what it says is as true later, and isn't said again.
-    pub fn longest(self) -> Option<Nanos> {
+    pub fn longest(self) -> Option<Duration> {
         match self {
             Priority::Probe | Priority::Data => Some(LONGEST),
             Priority::Request => Some(LONGEST_OF_REQUEST),
@@ -88,31 +88,42 @@ impl fmt::Display for Priority {
 #[derive(Debug, Clone, PartialEq, Eq)]
 pub struct InboundFrame {
     /// What it is.
-    pub priority: Priority,
+    pub(super) priority: Priority,
     /// Its sender and receiver.
-    pub flow: Flow,
+    pub(super) flow: Flow,
     /// When it came.
-    pub arrived: Nanos,
+    pub arrived: Instant,
     /// The frame.
     pub octets: Vec<u8>,
 }
 
 impl InboundFrame {
-    /// A frame of the air that came at this time.
-    pub fn of_air(frame: Frame<'_>, arrived: Nanos) -> InboundFrame {
+    /// A frame of the air that came at this time, and changes the mode of its station or doesn't.
+    pub fn of_air(frame: Frame<'_>, changes_mode: bool, arrived: Instant) -> InboundFrame {
         let flow = (frame.transmitter().unwrap_or(NOBODY), frame.receiver());
-        InboundFrame { priority: Priority::of(frame), flow, arrived, octets: frame.octets().to_vec() }
+        let priority = Priority::of(frame, changes_mode);
+        InboundFrame { priority, flow, arrived, octets: frame.octets().to_vec() }
     }
 
     /// A frame of a wire that came at this time.
-    pub fn of_wire(octets: &[u8], arrived: Nanos) -> InboundFrame {
+    pub fn of_wire(octets: &[u8], arrived: Instant) -> InboundFrame {
         let flow = (Address::at(octets, 6).unwrap_or(NOBODY), Address::at(octets, 0).unwrap_or(NOBODY));
         InboundFrame { priority: Priority::Data, flow, arrived, octets: octets.to_vec() }
     }
 
+    /// Whether it may say that its station dozes, is awake or leaves.
+    pub fn is_notice(&self) -> bool {
+        self.priority == Priority::Notice
+    }
+
+    /// Whom it is for.
+    pub fn receiver(&self) -> Address {
+        self.flow.1
+    }
+
     /// Whether it waited longer than it is worth.
-    pub fn is_late(&self, now: Nanos) -> bool {
-        self.priority.longest().map_or(false, |longest| now.saturating_sub(self.arrived) > longest)
+    pub fn is_late(&self, now: Instant) -> bool {
+        self.priority.longest().map_or(false, |longest| now > self.arrived + longest)
     }
 }
 

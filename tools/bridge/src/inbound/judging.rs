@@ -2,7 +2,7 @@
 use std::collections::VecDeque;
 use std::fmt;
 
-use crate::formats::frames::{is_tagged, Address, AddressMap, Frame, FrameType, LEAST, MOST};
+use crate::formats::frames::{is_tagged, Address, AddressMap, Frame, FrameType, LEAST, MOST, PROBE_REQUEST};
 use crate::formats::radiotap::{captured, Outcome};
 
 /// Of how many senders a network knows the last sequence control.
@@ -27,6 +27,8 @@ pub enum LeftOut {
     Own,
     /// It is for another receiver.
     Others,
+    /// It is for all, and these networks can't use it: a neighbour's beacon above all.
+    Neighbours,
     /// It was sent again, and taken before.
     Repeated,
     /// It has a VLAN's tag.
@@ -44,6 +46,7 @@ impl fmt::Display for LeftOut {
             LeftOut::Controls => write!(to, "control frames other than PS-Poll"),
             LeftOut::Own => write!(to, "whose transmitter is one of these networks"),
             LeftOut::Others => write!(to, "for a receiver that is none of these networks"),
+            LeftOut::Neighbours => write!(to, "for all, and of no use to these networks"),
             LeftOut::Repeated => write!(to, "sent again, and taken before"),
             LeftOut::Tagged => write!(to, "with a tag of a VLAN"),
         }
@@ -61,8 +64,9 @@ pub enum Judged<'a> {
     Sent(&'a [u8], Outcome),
 }
 
-/// What was heard: the frames that go on, and of each sender to a network the last sequence control, by which repeated
-/// ones are known (IEEE Std 802.11-2016, 10.3.2.11). Each network has a table of its own, which others don't fill.
+/// What was heard: the frames that go on, and of each sender to a network the last sequence controls, by which repeated
+/// ones are known (IEEE Std 802.11-2016, 10.3.2.11). Data and management frames have one each, since a station may send
+/// a management frame between two tries of a data frame. Each network has a table of its own, which others don't fill.
 #[derive(Debug)]
 pub struct Judge {
     /// The places of the networks.
@@ -115,6 +119,8 @@ impl Judge {
             Judged::LeftOut(LeftOut::Own)
         } else if network.is_none() && frame.receiver() != Address::BROADCAST {
             Judged::LeftOut(LeftOut::Others)
+        } else if network.is_none() && !self.is_of_use(frame) {
+            Judged::LeftOut(LeftOut::Neighbours)
         } else if network.map_or(false, |network| self.is_repeated(network, frame)) {
             Judged::LeftOut(LeftOut::Repeated)
         } else {
@@ -122,11 +128,18 @@ impl Judge {
         }
     }
 
+    /// Whether networks can use a frame for all: it asks for networks, or names one of these as its own.
+    fn is_of_use(&self, frame: Frame<'_>) -> bool {
+        let bssid = frame.third_address();
+        frame.octets()[0] == PROBE_REQUEST || bssid.map_or(false, |bssid| self.places.contains_key(&bssid))
+    }
+
     /// Whether the network of this place has taken it before; it is remembered as its sender's last.
     fn is_repeated(&mut self, network: usize, frame: Frame<'_>) -> bool {
         match (frame.transmitter(), frame.sequence_control()) {
             (Some(sender), Some(number)) => {
-                let before = self.last[network].replace(sender, number);
+                let is_data = frame.frame_type() == FrameType::Data;
+                let before = self.last[network].replace(sender, is_data, number);
                 frame.retry() && before == Some(number)
             }
             _ => false,
@@ -134,20 +147,31 @@ impl Judge {
     }
 }
 
-/// Of the senders to a network that were heard last, the last sequence control.
+/// The last sequence controls of a sender.
+#[derive(Debug, Clone, Copy, Default)]
+struct LastNumbers {
+    data: Option<u16>,
+    management: Option<u16>,
+    /// When it was heard last.
+    time: u64,
+}
+
+/// Of the senders to a network that were heard last, the last sequence controls.
 #[derive(Debug, Default)]
 struct LastHeard {
-    numbers: AddressMap<(u16, u64)>,
+    numbers: AddressMap<LastNumbers>,
     /// When each was heard, the oldest first; an entry counts where its time is the one of `numbers`.
     order: VecDeque<(Address, u64)>,
     times: u64,
 }
 
 impl LastHeard {
-    /// Remembers a number, and answers the one before.
-    fn replace(&mut self, sender: Address, number: u16) -> Option<u16> {
+    /// Remembers a number of a data frame, or of another one, and answers the one before.
+    fn replace(&mut self, sender: Address, is_data: bool, number: u16) -> Option<u16> {
         self.times += 1;
-        let before = self.numbers.insert(sender, (number, self.times));
+        let last = self.numbers.entry(sender).or_default();
+        last.time = self.times;
+        let before = if is_data { last.data.replace(number) } else { last.management.replace(number) };
         self.order.push_back((sender, self.times));
         while self.numbers.len() > MOST_SENDERS || self.order.len() > 4 * MOST_SENDERS {
             match self.order.pop_front() {
@@ -156,11 +180,11 @@ impl LastHeard {
                 None => break,
             }
         }
-        before.map(|(number, _)| number)
+        before
     }
 
     fn is_last(&self, sender: &Address, time: u64) -> bool {
-        self.numbers.get(sender).map_or(false, |&(_, last)| last == time)
+        self.numbers.get(sender).map_or(false, |last| last.time == time)
     }
 
     /// Forgets the sender heard longest ago, where there are too many; else puts it back at the begin.
@@ -176,7 +200,7 @@ impl LastHeard {
     /// Leaves out the times that are no more the last of their sender.
     fn drop_outdated(&mut self) {
         let numbers = &self.numbers;
-        self.order.retain(|(sender, time)| numbers.get(sender).map_or(false, |&(_, last)| last == *time));
+        self.order.retain(|(sender, time)| numbers.get(sender).map_or(false, |last| last.time == *time));
     }
 }
 

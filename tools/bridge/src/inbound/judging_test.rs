@@ -101,13 +101,22 @@ fn the_fragment_s_number_is_part_of_it() {
 }
 
 #[test]
-fn management_and_data_are_one_list_of_each_sender_and_network() {
+fn each_sender_to_each_network_has_its_own_numbers() {
     let air = &mut air();
     assert!(goes_on(air, Unit { control: [0xb0, 0], ..Unit::default() }));
     assert!(!goes_on(air, Unit { control: [0xb0, 8], ..Unit::default() }));
     assert!(goes_on(air, Unit { control: [0xb0, 8], transmitter: STRANGER, ..Unit::default() }));
     assert!(goes_on(air, Unit { control: [0xb0, 8], receiver: OTHER, ..Unit::default() }));
-    assert!(!goes_on(air, Unit { control: [0x48, 9], ..Unit::default() }));
+}
+
+#[test]
+fn a_management_frame_between_two_tries_of_data_lets_no_second_one_pass_nor_data_one_of_management() {
+    let air = &mut air();
+    let asks = |control| Unit { control: [0xb0, control], sequence: 0x770, ..Unit::default() };
+    assert!(goes_on(air, Unit::default()) && goes_on(air, asks(0)));
+    assert!(!goes_on(air, again()) && !goes_on(air, asks(8)));
+    assert!(!goes_on(air, Unit { control: [0x48, 9], ..Unit::default() }), "Null frames are data");
+    assert!(goes_on(air, Unit { sequence: 0x770, ..again() }), "the number of a management frame isn't one of data");
 }
 
 #[test]

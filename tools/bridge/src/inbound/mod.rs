@@ -4,6 +4,7 @@ pub mod batching;
 pub mod filter;
 mod flow_queue;
 pub mod frame;
+pub mod held;
 pub mod judging;
 pub mod queue;
-pub mod source_queue;
+mod source_queue;

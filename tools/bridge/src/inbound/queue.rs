@@ -13,9 +13,13 @@
 //! priority wait of its sender to its receiver. A full queue drops the oldest frame of the priority that is worth
 //! least. So who sends more than goes through loses its own frames, and others don't wait behind them. A drop takes the
 //! same time however many frames wait, and each one is counted.
+//!
+//! Frames of a station that is held, and for it, wait apart until it is released (`held`).
+use crate::formats::frames::Address;
 use crate::inbound::frame::{InboundFrame, Source};
+use crate::inbound::held::{HeldFrames, Holding};
 use crate::inbound::source_queue::{Dropped, SourceQueue};
-use crate::os::clock::Nanos;
+use crate::os::clock::Instant;
 
 /// The frames that wait of all sources.
 #[derive(Debug)]
@@ -24,9 +28,10 @@ pub struct InboundQueue {
     sources: Vec<Source>,
     queues: Vec<SourceQueue>,
     turn: usize,
-    /// How many frames wait in all queues, and whether any was dropped so far.
+    /// How many frames wait in all queues, and whether any of these was dropped so far.
     frames: usize,
     has_dropped: bool,
+    held: HeldFrames,
 }
 
 impl InboundQueue {
@@ -35,7 +40,7 @@ impl InboundQueue {
         let of_networks = (0..networks).flat_map(|place| [Source::Air(place), Source::Wire(place)]);
         let sources: Vec<Source> = std::iter::once(Source::AirForAll).chain(of_networks).collect();
         let queues = sources.iter().map(|_| SourceQueue::default()).collect();
-        InboundQueue { queues, sources, turn: 0, frames: 0, has_dropped: false }
+        InboundQueue { queues, sources, turn: 0, frames: 0, has_dropped: false, held: HeldFrames::default() }
     }
 
     /// Changes a queue.
@@ -58,8 +63,34 @@ impl InboundQueue {
         self.change(queue, |queue| queue.push(frame));
     }
 
+    /// Frames of a station of the network of this place, and of its wire for that, wait until it is released.
+    pub fn hold(&mut self, place: usize, station: Address, holding: Holding) {
+        self.held.hold(place, station, holding);
+    }
+
+    /// They don't any more.
+    pub fn release(&mut self, place: usize, station: Address) {
+        self.held.release(place, station);
+    }
+
+    /// A frame that was taken out waits all the same, if its station is held.
+    pub fn keep(&mut self, source: Source, frame: InboundFrame) {
+        let kept = self.held.keep(source, frame);
+        debug_assert!(kept.is_none(), "its station is held");
+    }
+
+    /// The next frame that isn't held, with its source: those go first that were held.
+    pub fn pop(&mut self, now: Instant) -> Option<(Source, InboundFrame)> {
+        loop {
+            let (source, frame) = self.held.next().or_else(|| self.pop_queued(now))?;
+            if let Some(found) = self.held.keep(source, frame) {
+                return Some(found);
+            }
+        }
+    }
+
     /// The next frame, with its source: queues take turns.
-    pub fn pop(&mut self, now: Nanos) -> Option<(Source, InboundFrame)> {
+    fn pop_queued(&mut self, now: Instant) -> Option<(Source, InboundFrame)> {
         while self.frames > 0 {
             let queue = self.turn;
             self.turn = if queue + 1 < self.queues.len() { queue + 1 } else { 0 };
@@ -74,23 +105,37 @@ impl InboundQueue {
 
     /// How many frames wait.
     pub fn len(&self) -> usize {
-        self.frames
+        self.frames + self.held.len()
     }
 
-    /// Whether nothing waits.
+    /// Whether nothing waits but what is held.
     pub fn is_empty(&self) -> bool {
-        self.frames == 0
+        self.frames == 0 && self.held.is_empty()
+    }
+
+    /// Whether frames wait whose station is held.
+    pub fn has_held(&self) -> bool {
+        self.held.has_frames()
     }
 
     /// Whether a frame was dropped so far.
     pub fn has_dropped(&self) -> bool {
-        self.has_dropped
+        self.has_dropped || self.held.has_dropped()
+    }
+
+    /// What people are told at the end of frames that still wait, also of those that are held.
+    pub fn rest(&self) -> Option<String> {
+        Some(self.len())
+            .filter(|number| *number > 0)
+            .map(|number| format!("{number} frames still waited for the program"))
     }
 
     /// How many frames of each source were dropped, and why.
     pub fn dropped(&self) -> impl Iterator<Item = (Source, Dropped, u64)> + '_ {
         let queues = self.sources.iter().zip(&self.queues);
-        queues.flat_map(|(source, queue)| queue.dropped.iter().map(move |(what, number)| (*source, *what, *number)))
+        let of_queues = queues
+            .flat_map(|(source, queue)| queue.dropped.iter().map(move |(what, number)| (*source, *what, *number)));
+        of_queues.chain(self.held.dropped())
     }
 }
 

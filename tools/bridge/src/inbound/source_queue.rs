@@ -4,7 +4,8 @@ use std::fmt;
 
 use crate::inbound::flow_queue::FlowQueue;
 use crate::inbound::frame::{InboundFrame, Priority};
-use crate::os::clock::{Nanos, MILLISECOND};
+use crate::inbound::held::MOST_HELD;
+use crate::os::clock::Instant;
 
 /// How many frames of a priority wait at most of one sender to one receiver.
 pub const MOST_OF_FLOW: usize = 32;
@@ -30,16 +31,21 @@ pub enum Why {
     Crowded,
     /// Its queue was full.
     Full,
+    /// Its station fell asleep or woke, and too many younger ones waited with it, or too many of its network.
+    Held,
 }
 
 impl fmt::Display for Dropped {
     fn fmt(&self, to: &mut fmt::Formatter<'_>) -> fmt::Result {
         let Dropped { priority, why } = self;
         match (why, priority.longest()) {
-            (Why::Late, Some(longest)) => write!(to, "{priority} that had waited {} ms", longest / MILLISECOND),
+            (Why::Late, Some(longest)) => write!(to, "{priority} that had waited {} ms", longest.as_millis()),
             (Why::Late, None) => write!(to, "{priority} that had waited too long"),
             (Why::Crowded, _) => write!(to, "{priority} before {MOST_OF_FLOW} younger ones of the same sender"),
             (Why::Full, _) => write!(to, "{priority}, since no more could wait"),
+            (Why::Held, _) => {
+                write!(to, "{priority} before {MOST_HELD} younger ones, as a station fell asleep or woke")
+            }
         }
     }
 }
@@ -85,7 +91,7 @@ impl SourceQueue {
     }
 
     /// Drops those that waited too long, which of each priority are the oldest ones.
-    fn drop_late(&mut self, now: Nanos) {
+    fn drop_late(&mut self, now: Instant) {
         for priority in Priority::ALL {
             while self.queues[priority as usize].oldest().map_or(false, |slot| slot.frame.is_late(now)) {
                 let oldest = self.queues[priority as usize].pop();
@@ -95,7 +101,7 @@ impl SourceQueue {
     }
 
     /// The next one that doesn't come too late.
-    pub fn pop(&mut self, now: Nanos) -> Option<InboundFrame> {
+    pub fn pop(&mut self, now: Instant) -> Option<InboundFrame> {
         self.drop_late(now);
         let oldest = |queue: &&mut FlowQueue| queue.oldest().map_or(u64::MAX, |slot| slot.number);
         let frame = self.queues.iter_mut().min_by_key(oldest)?.pop()?;

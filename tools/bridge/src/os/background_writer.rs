@@ -5,7 +5,8 @@ use std::collections::VecDeque;
 use std::io;
 use std::sync::{Arc, Condvar, Mutex, MutexGuard, PoisonError};
 use std::thread;
-use std::time::Duration;
+
+use crate::os::clock::Duration;
 
 /// How many pieces wait at most, however small they are: each takes memory of its own.
 const MOST_PIECES: usize = 1 << 16;
@@ -54,9 +55,14 @@ impl BackgroundWriter {
         Ok(())
     }
 
+    /// Whether all is written.
+    pub fn is_empty(&self) -> bool {
+        self.0.lock().octets == 0
+    }
+
     /// Waits until all is written, for so long at most, and answers how many octets aren't.
     pub fn finish(&self, most: Duration) -> usize {
-        let waited = self.0.changed.wait_timeout_while(self.0.lock(), most, |waiting| waiting.octets > 0);
+        let waited = self.0.changed.wait_timeout_while(self.0.lock(), most.into(), |waiting| waiting.octets > 0);
         waited.unwrap_or_else(PoisonError::into_inner).0.octets
     }
 

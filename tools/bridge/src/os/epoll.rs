@@ -1,23 +1,23 @@
 //! Waiting for several descriptors at once (epoll(7)), or for one and a short time (ppoll(2)), for which std has
 //! nothing. What is unsafe here are these calls of the system.
 #![allow(unsafe_code)]
+use crate::os::clock::Duration;
 use std::io;
-use std::os::unix::io::{AsRawFd, FromRawFd, OwnedFd, RawFd};
+use std::os::unix::io::{AsRawFd, BorrowedFd, FromRawFd, OwnedFd};
 use std::ptr::{null, null_mut};
 
 use libc::{c_int, epoll_event, pollfd, timespec};
 
-use crate::os::clock::{Nanos, SECOND};
-use crate::os::sockets::checked;
+use crate::os::system_call::checked;
 
 /// How many events are taken by one call.
 const AT_A_TIME: usize = 32;
 
 /// Waits until this descriptor can be read or was closed, for so long at most: to less than a millisecond. A signal may
 /// end the wait before.
-pub fn wait_for_one(descriptor: RawFd, most: Nanos) -> io::Result<()> {
-    let mut wanted = pollfd { fd: descriptor, events: libc::POLLIN, revents: 0 };
-    let most = timespec { tv_sec: (most / SECOND) as _, tv_nsec: (most % SECOND) as _ };
+pub fn wait_for_one(descriptor: BorrowedFd<'_>, most: Duration) -> io::Result<()> {
+    let mut wanted = pollfd { fd: descriptor.as_raw_fd(), events: libc::POLLIN, revents: 0 };
+    let most = timespec { tv_sec: most.as_secs() as _, tv_nsec: most.subsec_nanos() as _ };
     // SAFETY: the kernel reads the time, and reads and writes one descriptor; no set of signals is handed over.
     match checked(unsafe { libc::ppoll(&mut wanted, 1, &most, null()) }) {
         Err(fault) if fault.kind() != io::ErrorKind::Interrupted => Err(fault),
@@ -54,28 +54,28 @@ impl Epoll {
     }
 
     /// Waits for a descriptor too, and calls it by this number.
-    pub fn add(&self, descriptor: RawFd, number: u64, reads: bool, writes: bool) -> io::Result<()> {
+    pub fn add(&self, descriptor: BorrowedFd<'_>, number: u64, reads: bool, writes: bool) -> io::Result<()> {
         self.control(libc::EPOLL_CTL_ADD, descriptor, number, reads, writes)
     }
 
     /// Waits for something else of a descriptor.
-    pub fn change(&self, descriptor: RawFd, number: u64, reads: bool, writes: bool) -> io::Result<()> {
+    pub fn change(&self, descriptor: BorrowedFd<'_>, number: u64, reads: bool, writes: bool) -> io::Result<()> {
         self.control(libc::EPOLL_CTL_MOD, descriptor, number, reads, writes)
     }
 
     /// Waits for a descriptor no more.
-    pub fn remove(&self, descriptor: RawFd) -> io::Result<()> {
+    pub fn remove(&self, descriptor: BorrowedFd<'_>) -> io::Result<()> {
+        let (own, gone) = (self.descriptor.as_raw_fd(), descriptor.as_raw_fd());
         // SAFETY: this operation reads no event.
-        unsafe { checked(libc::epoll_ctl(self.descriptor.as_raw_fd(), libc::EPOLL_CTL_DEL, descriptor, null_mut()))? };
-        Ok(())
+        checked(unsafe { libc::epoll_ctl(own, libc::EPOLL_CTL_DEL, gone, null_mut()) }).map(drop)
     }
 
-    fn control(&self, operation: c_int, of: RawFd, number: u64, reads: bool, writes: bool) -> io::Result<()> {
+    fn control(&self, operation: c_int, of: BorrowedFd<'_>, number: u64, reads: bool, writes: bool) -> io::Result<()> {
         let events = if reads { libc::EPOLLIN } else { 0 } | if writes { libc::EPOLLOUT } else { 0 };
         let mut event = epoll_event { events: events as u32, u64: number };
         // SAFETY: the kernel reads the event.
-        unsafe { checked(libc::epoll_ctl(self.descriptor.as_raw_fd(), operation, of, &mut event))? };
-        Ok(())
+        checked(unsafe { libc::epoll_ctl(self.descriptor.as_raw_fd(), operation, of.as_raw_fd(), &mut event) })
+            .map(drop)
     }
 
     /// Waits until something comes, or for so many milliseconds at most. A signal may end the wait before.

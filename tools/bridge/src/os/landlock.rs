@@ -10,7 +10,7 @@ use std::path::Path;
 
 use libc::{c_int, c_long, c_ulong};
 
-use crate::os::seccomp::checked;
+use crate::os::system_call::checked;
 
 // Of <linux/landlock.h>.
 const EXECUTE: u64 = 1;
@@ -80,11 +80,11 @@ pub fn domain(program: &Path, config: &Path) -> io::Result<Option<OwnedFd>> {
         return Ok(None);
     }
     let (attributes, length) = (RulesetAttributes::of(version), RulesetAttributes::length(version));
-    // SAFETY: the kernel reads so many octets of the attributes; the descriptor is owned from here on.
-    let domain = unsafe {
-        let made = libc::syscall(libc::SYS_landlock_create_ruleset, &attributes, length, 0 as c_ulong);
-        OwnedFd::from_raw_fd(checked(made)? as c_int)
-    };
+    let flags: c_ulong = 0;
+    // SAFETY: the kernel reads so many octets of the attributes.
+    let made = checked(unsafe { libc::syscall(libc::SYS_landlock_create_ruleset, &attributes, length, flags) })?;
+    // SAFETY: the descriptor is new, and owned from here on.
+    let domain = unsafe { OwnedFd::from_raw_fd(made as c_int) };
     allow(&domain, program, EXECUTE | READ_FILE)?;
     allow(&domain, config, READ_FILE)?;
     if is_linked(program)? {
@@ -103,11 +103,10 @@ fn allow(domain: &OwnedFd, path: &Path, rights: u64) -> io::Result<()> {
 
 /// The same of a name that ends with its zero octet. It allocates nothing.
 pub fn allow_name(domain: &OwnedFd, name: &[u8], rights: u64) -> io::Result<()> {
-    // SAFETY: the name ends with its zero octet; the descriptor is owned from here on.
-    let file = unsafe {
-        let opened = libc::open(name.as_ptr().cast(), libc::O_PATH | libc::O_CLOEXEC);
-        OwnedFd::from_raw_fd(checked(opened.into())? as c_int)
-    };
+    // SAFETY: the name ends with its zero octet.
+    let opened = checked(unsafe { libc::open(name.as_ptr().cast(), libc::O_PATH | libc::O_CLOEXEC) })?;
+    // SAFETY: the descriptor is new, and owned from here on.
+    let file = unsafe { OwnedFd::from_raw_fd(opened) };
     let rule = PathRule { rights, descriptor: file.as_raw_fd() };
     // SAFETY: the kernel reads the rule, which is as long as this kind has it.
     checked(unsafe {

@@ -3,14 +3,14 @@
 #![allow(unsafe_code)]
 use std::io;
 use std::mem::{size_of, zeroed};
-use std::os::unix::io::RawFd;
+use std::os::unix::io::{AsRawFd, BorrowedFd};
 
 use libc::{c_int, c_ulong, ifreq, sockaddr_ll};
 
-use crate::os::sockets::checked;
+use crate::os::system_call::checked;
 
 /// What is asked of an interface by ioctl(2): its name, and whether it is up.
-pub const ASKED: [c_ulong; 2] = [libc::SIOCGIFNAME, libc::SIOCGIFFLAGS];
+pub(super) const ASKED: [c_ulong; 2] = [libc::SIOCGIFNAME, libc::SIOCGIFFLAGS];
 
 /// How an interface is.
 #[derive(Debug, Clone, Copy, PartialEq, Eq)]
@@ -24,41 +24,42 @@ pub enum Link {
 }
 
 /// How the interface is that a packet socket was bound to.
-pub fn link_of(socket: RawFd) -> io::Result<Link> {
+pub(super) fn link_of(socket: BorrowedFd<'_>) -> io::Result<Link> {
     let index = index_of(socket)?;
     if index < 0 {
         return Ok(Link::Gone);
     }
-    // SAFETY: all zero is a question; the kernel reads and writes a whole one, of whose values it leaves the one read.
-    let flags = unsafe {
-        let mut question: ifreq = zeroed();
-        question.ifr_ifru.ifru_ifindex = index;
-        // It may have another name than it had.
-        for what in ASKED {
-            checked(libc::ioctl(socket, what as _, &mut question as *mut ifreq))?;
-        }
-        question.ifr_ifru.ifru_flags
-    };
+    // SAFETY: all zero is a question.
+    let mut question: ifreq = unsafe { zeroed() };
+    question.ifr_ifru.ifru_ifindex = index;
+    // It may have another name than it had.
+    for what in ASKED {
+        // SAFETY: the kernel reads and writes a whole question.
+        checked(unsafe { libc::ioctl(socket.as_raw_fd(), what as _, &mut question as *mut ifreq) })?;
+    }
+    // SAFETY: of the values of an answer the kernel has left the flags, and any octets are such.
+    let flags = unsafe { question.ifr_ifru.ifru_flags };
     Ok(if c_int::from(flags) & libc::IFF_UP != 0 { Link::Up } else { Link::Down })
 }
 
 /// The number of the interface, which is -1 once it was deleted.
-fn index_of(socket: RawFd) -> io::Result<c_int> {
+fn index_of(socket: BorrowedFd<'_>) -> io::Result<c_int> {
     let mut length = size_of::<sockaddr_ll>() as u32;
-    // SAFETY: all zero is an address; the kernel writes at most `length` octets into it, which is as long.
-    unsafe {
-        let mut address: sockaddr_ll = zeroed();
-        let place: *mut sockaddr_ll = &mut address;
-        checked(libc::getsockname(socket, place.cast(), &mut length))?;
-        Ok(address.sll_ifindex)
-    }
+    // SAFETY: all zero is an address.
+    let mut address: sockaddr_ll = unsafe { zeroed() };
+    let place: *mut sockaddr_ll = &mut address;
+    // SAFETY: the kernel writes at most `length` octets into the address, which is as long.
+    checked(unsafe { libc::getsockname(socket.as_raw_fd(), place.cast(), &mut length) })?;
+    Ok(address.sll_ifindex)
 }
 
 #[cfg(test)]
 mod tests {
     use super::*;
     use crate::control::faults::is_down;
-    use crate::os::sockets::{open, Batch, PacketSocket, Port};
+    use crate::os::batch::Batch;
+    use crate::os::packet_socket::{open, PacketSocket};
+    use crate::os::port::Port;
     use crate::testing::samples::tell_not_run;
     use std::process::Command;
     use std::thread;

@@ -1,12 +1,20 @@
-//! What the bridge takes of Linux: sockets, a poller, clocks, threads that write, and a sandbox.
+//! What the bridge takes of Linux: interfaces and their sockets, a poller, clocks, threads that write, and a sandbox.
 pub mod background_writer;
+pub mod batch;
 pub mod clock;
 mod epoll;
+pub mod gate;
+pub mod handed;
+pub mod interfaces;
 mod landlock;
 pub mod link;
+mod messages;
+pub mod packet_socket;
 pub mod pipes;
 pub mod poller;
+pub mod port;
 pub mod sandbox;
 mod seccomp;
-pub mod sockets;
+pub mod socket_options;
+mod system_call;
 mod timer;

@@ -1,10 +1,12 @@
 //! Waiting for what comes first: by `epoll`, with a clock of its own that is exact to less than a millisecond.
-use std::os::unix::io::RawFd;
+use std::os::unix::io::BorrowedFd;
 
 use crate::control::faults::Fault;
-use crate::os::clock::{now, Nanos};
+use crate::os::clock::{now, Instant};
 use crate::os::epoll::{wait_for_one, Epoll};
 use crate::os::timer::Timer;
+
+type Outcome = Result<(), Fault>;
 
 /// What is waited for.
 #[derive(Debug, Clone, Copy, PartialEq, Eq)]
@@ -80,34 +82,40 @@ pub struct Ready {
 pub struct Poller {
     epoll: Epoll,
     clock: Timer,
-    due: Nanos,
+    due: Instant,
 }
 
 impl Poller {
     /// For nothing yet but the time that `set_due` sets.
     pub fn new() -> Result<Poller, Fault> {
-        let poller = Poller { epoll: Epoll::new()?, clock: Timer::new()?, due: Nanos::MAX };
+        let poller = Poller { epoll: Epoll::new()?, clock: Timer::new()?, due: Instant::NEVER };
         poller.add(poller.clock.descriptor(), Token::Clock, true, false)?;
         Ok(poller)
     }
 
-    /// Waits for a descriptor too.
-    pub fn add(&self, descriptor: RawFd, token: Token, reads: bool, writes: bool) -> Result<(), Fault> {
-        Ok(self.epoll.add(descriptor, token.number(), reads, writes)?)
+    /// Waits for a descriptor too. Of what was closed nothing comes.
+    pub fn add<'a>(&self, of: impl Into<Option<BorrowedFd<'a>>>, token: Token, reads: bool, writes: bool) -> Outcome {
+        of.into().map_or(Ok(()), |descriptor| Ok(self.epoll.add(descriptor, token.number(), reads, writes)?))
     }
 
     /// Waits for something else of a descriptor.
-    pub fn change(&self, descriptor: RawFd, token: Token, reads: bool, writes: bool) -> Result<(), Fault> {
-        Ok(self.epoll.change(descriptor, token.number(), reads, writes)?)
+    pub fn change<'a>(
+        &self,
+        of: impl Into<Option<BorrowedFd<'a>>>,
+        token: Token,
+        reads: bool,
+        writes: bool,
+    ) -> Outcome {
+        of.into().map_or(Ok(()), |descriptor| Ok(self.epoll.change(descriptor, token.number(), reads, writes)?))
     }
 
     /// Waits for a descriptor no more.
-    pub fn remove(&self, descriptor: RawFd) -> Result<(), Fault> {
-        Ok(self.epoll.remove(descriptor)?)
+    pub fn remove<'a>(&self, of: impl Into<Option<BorrowedFd<'a>>>) -> Outcome {
+        of.into().map_or(Ok(()), |descriptor| Ok(self.epoll.remove(descriptor)?))
     }
 
     /// Sets the time at which the wait ends, by the clock that nobody sets.
-    pub fn set_due(&mut self, due: Nanos) -> Result<(), Fault> {
+    pub fn set_due(&mut self, due: Instant) -> Result<(), Fault> {
         if due != self.due {
             self.due = due;
             self.clock.set(due)?;
@@ -116,8 +124,8 @@ impl Poller {
     }
 
     /// Waits until this time, or until this descriptor alone can be read: all else that comes may gather.
-    pub fn gather(&self, descriptor: RawFd, until: Nanos) -> Result<(), Fault> {
-        Ok(wait_for_one(descriptor, until.saturating_sub(now()))?)
+    pub fn gather(&self, descriptor: BorrowedFd<'_>, until: Instant) -> Result<(), Fault> {
+        Ok(wait_for_one(descriptor, until.since(now()))?)
     }
 
     /// Waits until something comes, or for so many milliseconds at most.
@@ -128,7 +136,7 @@ impl Poller {
             let token = Token::of(came.number);
             found.push(Ready { token, can_read: came.can_read, can_write: came.can_write });
             if token == Token::Clock {
-                self.due = Nanos::MAX;
+                self.due = Instant::NEVER;
                 self.clock.clear();
             }
         }
@@ -141,7 +149,7 @@ mod tests {
     use super::*;
     use crate::os::clock::{MILLISECOND, SECOND};
     use std::io::Write;
-    use std::os::unix::io::AsRawFd;
+    use std::os::unix::io::AsFd;
     use std::os::unix::net::UnixStream;
 
     #[test]
@@ -157,19 +165,19 @@ mod tests {
     fn what_comes_first_ends_the_wait() {
         let (one, mut other) = UnixStream::pair().unwrap();
         let mut poller = Poller::new().unwrap();
-        poller.add(one.as_raw_fd(), Token::Wire(7), true, false).unwrap();
+        poller.add(one.as_fd(), Token::Wire(7), true, false).unwrap();
         let (mut found, begun) = (Vec::new(), now());
         poller.set_due(begun + 20 * MILLISECOND).unwrap();
         poller.wait(None, &mut found).unwrap();
         assert_eq!(found, [Ready { token: Token::Clock, can_read: true, can_write: false }]);
-        assert!(now() - begun >= 20 * MILLISECOND);
+        assert!(now().since(begun) >= 20 * MILLISECOND);
         other.write_all(b"x").unwrap();
         poller.wait(None, &mut found).unwrap();
         assert_eq!(found, [Ready { token: Token::Wire(7), can_read: true, can_write: false }]);
-        poller.change(one.as_raw_fd(), Token::Wire(7), false, true).unwrap();
+        poller.change(one.as_fd(), Token::Wire(7), false, true).unwrap();
         poller.wait(None, &mut found).unwrap();
         assert_eq!(found, [Ready { token: Token::Wire(7), can_read: false, can_write: true }]);
-        poller.change(one.as_raw_fd(), Token::Wire(7), false, false).unwrap();
+        poller.change(one.as_fd(), Token::Wire(7), false, false).unwrap();
         poller.wait(Some(1), &mut found).unwrap();
         assert_eq!(found, []);
     }
@@ -178,14 +186,14 @@ mod tests {
     fn what_gathers_ends_no_wait() {
         let ((one, mut other), (wanted, mut asks)) = (UnixStream::pair().unwrap(), UnixStream::pair().unwrap());
         let poller = Poller::new().unwrap();
-        poller.add(one.as_raw_fd(), Token::Wire(7), true, false).unwrap();
+        poller.add(one.as_fd(), Token::Wire(7), true, false).unwrap();
         other.write_all(b"x").unwrap();
         let begun = now();
-        poller.gather(wanted.as_raw_fd(), begun + 20 * MILLISECOND).unwrap();
-        assert!(now() - begun >= 20 * MILLISECOND);
-        poller.gather(wanted.as_raw_fd(), begun).unwrap();
+        poller.gather(wanted.as_fd(), begun + 20 * MILLISECOND).unwrap();
+        assert!(now().since(begun) >= 20 * MILLISECOND);
+        poller.gather(wanted.as_fd(), begun).unwrap();
         asks.write_all(b"x").unwrap();
-        poller.gather(wanted.as_raw_fd(), now() + 100 * SECOND).unwrap();
-        assert!(now() - begun < 50 * SECOND);
+        poller.gather(wanted.as_fd(), now() + 100 * SECOND).unwrap();
+        assert!(now().since(begun) < 50 * SECOND);
     }
 }

@@ -20,9 +20,15 @@ fn process_that(does: impl Fn() -> io::Result<()> + Send + Sync + 'static) -> io
     command.stdin(Stdio::null()).status()
 }
 
-/// The signal by which a process ends that keeps to the bridge's list and then makes a call.
+/// The signal by which a process ends that keeps to the bridge's list and then makes a call, or its error as a negative
+/// number.
 fn bridge_that(calls: impl Fn() -> c_long + Send + Sync + 'static) -> Option<i32> {
-    let list = Calls::of(OF_BRIDGE.iter().chain(ANY));
+    bridge_with(u32::MAX, calls)
+}
+
+/// The same of a bridge with this program.
+fn bridge_with(program: u32, calls: impl Fn() -> c_long + Send + Sync + 'static) -> Option<i32> {
+    let list = Calls::of(OF_BRIDGE.iter().chain(ANY).chain([&Rule::OfProcess(libc::SYS_kill, program)]));
     let outcome = process_that(move || {
         no_new_privileges();
         list.take_on()?;
@@ -79,6 +85,73 @@ fn a_bridge_that_opens_a_file_is_refused() {
         });
         assert_eq!(found, refused(libc::EACCES));
         assert_eq!(bridge_that(|| libc::syscall(libc::SYS_getpid)), Some(0));
+    }
+}
+
+/// What is handed over with an address could go by any interface, and what is sent as a message could carry descriptors.
+/// The other error is of a descriptor that is no socket.
+#[test]
+fn a_bridge_that_names_where_it_sends_is_refused_and_one_that_sends_messages_is_killed() {
+    for (address, found) in [(0u64, libc::ENOTSOCK), (4, libc::EPERM), (1 << 40, libc::EPERM)] {
+        // SAFETY: the kernel reads one octet of the frame; no address stands where one is named, and none is read.
+        let sends = move || unsafe { libc::syscall(libc::SYS_sendto, 0, b"x".as_ptr(), 1, 0, address, 20) };
+        assert_eq!(bridge_that(sends), Some(-found), "{address}");
+    }
+    // SAFETY: no memory is handed over.
+    unsafe {
+        assert_eq!(bridge_that(|| libc::syscall(libc::SYS_sendmsg, 0, 0, 0)), Some(libc::SIGSYS));
+        assert_eq!(bridge_that(|| libc::syscall(libc::SYS_sendmmsg, 0, 0, 0, 0)), Some(libc::SIGSYS));
+    }
+}
+
+/// What libraries do seldom ends no bridge: where the allocator makes its ninth arena, and where one panics that tells
+/// the frames of its stack.
+#[test]
+fn what_libraries_do_seldom_ends_no_bridge() {
+    // SAFETY: each call is handed as much room as it says.
+    unsafe {
+        let asks = || {
+            let mut processors = [0u64; 16];
+            libc::syscall(libc::SYS_sched_getaffinity, 0, 128, processors.as_mut_ptr()).min(0)
+        };
+        assert_eq!(bridge_that(asks), Some(0));
+        let names = || libc::syscall(libc::SYS_getcwd, [0u8; 64].as_mut_ptr(), 64);
+        assert_eq!(bridge_that(names), Some(-libc::EACCES));
+    }
+}
+
+/// It may end its program, and send a signal to itself, as one that aborts does.
+#[test]
+fn a_bridge_that_ends_another_process_is_refused() {
+    let mut program = Command::new("/bin/sleep").arg("60").spawn().unwrap();
+    let mut other = Command::new("/bin/sleep").arg("60").spawn().unwrap();
+    let (its, others) = (program.id(), other.id());
+    // SAFETY: no memory is handed over.
+    unsafe {
+        let ends = |process: u32| move || libc::syscall(libc::SYS_kill, process, libc::SIGTERM);
+        assert_eq!(bridge_with(its, ends(others)), Some(-libc::EPERM));
+        assert_eq!(bridge_with(its, || libc::syscall(libc::SYS_kill, -1, 0)), Some(-libc::EPERM));
+        assert_eq!(bridge_with(its, ends(its)), Some(0));
+        let signals = |process: u32| move || libc::syscall(libc::SYS_tgkill, process, process, 0);
+        assert_eq!(bridge_that(signals(others)), Some(-libc::EPERM));
+        let itself = || libc::syscall(libc::SYS_tgkill, libc::getpid(), libc::getpid(), 0);
+        assert_eq!(bridge_that(itself), Some(0));
+        assert_eq!(program_that(ROOM, signals(others)), libc::EPERM);
+        assert_eq!(program_that(ROOM, itself), 0);
+    }
+    assert_eq!(other.try_wait().unwrap(), None);
+    other.kill().unwrap();
+    assert_eq!((program.wait().unwrap().signal(), other.wait().unwrap().signal()), (Some(15), Some(9)));
+}
+
+#[test]
+fn a_bridge_has_no_signals_sent_by_a_descriptor() {
+    // Of <linux/fcntl.h>, and not in the crate libc yet.
+    const F_SETSIG: c_int = 10;
+    for (what, found) in [(libc::F_GETFL, 0), (libc::F_SETOWN, libc::EPERM), (F_SETSIG, libc::EPERM)] {
+        // SAFETY: no memory is handed over. What is allowed answers the flags of standard input, which are no error.
+        let asks = move || unsafe { libc::syscall(libc::SYS_fcntl, 0, what, 0) };
+        assert_eq!(bridge_that(asks), Some(-found));
     }
 }
 
@@ -227,4 +300,30 @@ fn a_thread_that_writes_keeps_to_the_calls_of_the_bridge() {
     };
     assert_eq!(process(true).unwrap().code(), Some(0));
     assert_eq!(process(false).unwrap().signal(), Some(libc::SIGSYS));
+}
+
+/// What is written beyond the bound is refused, and the process goes on; a bound that was there before stays.
+#[test]
+fn files_are_bounded_and_no_signal_ends_who_reaches_the_bound() {
+    const MOST: usize = 5000;
+    for (before, wanted, found) in
+        [(None, Some(MOST), MOST), (Some(MOST), None, MOST), (Some(MOST), Some(2 * MOST), MOST)]
+    {
+        let path = std::env::temp_dir().join(format!("bounded-{}-{found}", std::process::id()));
+        let file = std::fs::File::create(&path).unwrap();
+        let status = process_that(move || {
+            let written = [b'x'; 2 * MOST];
+            before.map_or(Ok(()), |most| limit(libc::RLIMIT_FSIZE, most as u64))?;
+            bound_files(wanted.map(|most| most as u64)).map_err(|_| io::Error::from_raw_os_error(libc::EPERM))?;
+            let (first, then) = ((&file).write(&written), (&file).write(b"x"));
+            let is_refused = then.map_or_else(|fault| fault.raw_os_error() == Some(libc::EFBIG), |_| false);
+            match first {
+                Ok(MOST) if is_refused => Ok(()),
+                _ => Err(io::Error::from_raw_os_error(libc::EIO)),
+            }
+        });
+        assert!(status.unwrap().success());
+        assert_eq!(std::fs::metadata(&path).unwrap().len(), found as u64);
+        std::fs::remove_file(path).unwrap();
+    }
 }

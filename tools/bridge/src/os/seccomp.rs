@@ -7,6 +7,8 @@ use std::io;
 
 use libc::{c_int, c_long, c_ulong, sock_filter};
 
+use crate::os::system_call::checked;
+
 /// What becomes of a call, by its number and perhaps one of its arguments, of which the low half is looked at.
 #[derive(Debug, Clone, Copy)]
 pub enum Rule {
@@ -20,6 +22,12 @@ pub enum Rule {
     Without(c_long, u32, u32),
     /// It is made where this argument has one of these bits; else it ends the process.
     With(c_long, u32, u32),
+    /// It is made where this argument, a place in memory, is none; else refused.
+    Null(c_long, u32),
+    /// It is made where its first argument is the process of this number; else refused.
+    OfProcess(c_long, u32),
+    /// It is made where its first argument is the process that keeps to the list; else refused.
+    OfItself(c_long),
 }
 
 // Of <linux/seccomp.h> and <linux/audit.h>, as far as the crate libc hasn't them everywhere.
@@ -41,6 +49,10 @@ const WRITES: u32 = (libc::O_ACCMODE | libc::O_CREAT | libc::O_TRUNC | libc::O_A
     & !(libc::O_DIRECTORY as u32);
 const RUNS: u32 = libc::PROT_EXEC as u32;
 const IS_THREAD: u32 = libc::CLONE_THREAD as u32;
+/// Which argument of sendto(2) is the address.
+const ADDRESS: u32 = 4;
+/// The most steps of a list.
+const MOST_STEPS: usize = 512;
 /// What the bridge asks of its descriptors by ioctl(2): how much waits to be read or sent, to wait for nothing, and the
 /// name and the flags of an interface.
 const ASKED: &[u32] = &[
@@ -77,25 +89,39 @@ pub const ANY: &[Rule] = &[
     Rule::Allowed(libc::SYS_exit_group),
     Rule::Allowed(libc::SYS_getpid),
     Rule::Allowed(libc::SYS_gettid),
-    Rule::Allowed(libc::SYS_tgkill),
+    Rule::OfItself(libc::SYS_tgkill),
     Rule::Allowed(libc::SYS_lseek),
     Rule::Allowed(libc::SYS_fstat),
     Rule::Allowed(libc::SYS_ppoll),
+    // The allocator asks how many processors there are before it makes many arenas.
+    Rule::Allowed(libc::SYS_sched_getaffinity),
     Rule::Refused(libc::SYS_faccessat, libc::EACCES),
+    // A program that panics tells the frames of its stack by it, where the environment asks for them.
+    Rule::Refused(libc::SYS_getcwd, libc::EACCES),
     #[cfg(target_arch = "x86_64")]
     Rule::Allowed(libc::SYS_poll),
     #[cfg(target_arch = "x86_64")]
     Rule::Refused(libc::SYS_access, libc::EACCES),
 ];
 
-/// What the bridge does once it serves: it waits, reads, sends, and ends the program.
+/// What the bridge asks by fcntl(2): to copy a descriptor, and how one is waited for and handed on. To whom the kernel
+/// sends a signal for one it doesn't say.
+const DESCRIPTORS: &[u32] = &[
+    libc::F_DUPFD_CLOEXEC as u32,
+    libc::F_GETFD as u32,
+    libc::F_SETFD as u32,
+    libc::F_GETFL as u32,
+    libc::F_SETFL as u32,
+];
+
+/// What the bridge does once it serves: it waits, reads and sends. It may end the program besides (`Rule::OfProcess`).
+/// It sends on a socket without an address, so by its interface alone, and sends no descriptors.
 pub const OF_BRIDGE: &[Rule] = &[
     #[cfg(target_arch = "x86_64")]
     Rule::Allowed(libc::SYS_epoll_wait),
     Rule::Allowed(libc::SYS_epoll_pwait),
     Rule::Allowed(libc::SYS_recvmmsg),
-    Rule::Allowed(libc::SYS_sendmmsg),
-    Rule::Allowed(libc::SYS_sendto),
+    Rule::Null(libc::SYS_sendto, ADDRESS),
     Rule::OneOf(libc::SYS_ioctl, 1, ASKED),
     Rule::Allowed(libc::SYS_epoll_ctl),
     Rule::Allowed(libc::SYS_timerfd_settime),
@@ -106,11 +132,10 @@ pub const OF_BRIDGE: &[Rule] = &[
     // Filters of its own sockets.
     Rule::OneOf(libc::SYS_setsockopt, 2, &[libc::SO_ATTACH_FILTER as u32]),
     Rule::Allowed(libc::SYS_accept4),
-    Rule::Allowed(libc::SYS_fcntl),
+    Rule::OneOf(libc::SYS_fcntl, 1, DESCRIPTORS),
     Rule::Allowed(libc::SYS_ftruncate),
     Rule::Allowed(libc::SYS_wait4),
     Rule::Allowed(libc::SYS_waitid),
-    Rule::Allowed(libc::SYS_kill),
     Rule::Without(libc::SYS_mmap, 2, RUNS),
     Rule::Without(libc::SYS_mprotect, 2, RUNS),
     Rule::Refused(libc::SYS_openat, libc::EACCES),
@@ -135,7 +160,6 @@ pub const OF_PROGRAM: &[Rule] = &[
     Rule::Allowed(libc::SYS_set_robust_list),
     Rule::Allowed(libc::SYS_rseq),
     Rule::Allowed(libc::SYS_prlimit64),
-    Rule::Allowed(libc::SYS_sched_getaffinity),
     Rule::Allowed(libc::SYS_uname),
     // Where its own file is.
     Rule::Allowed(libc::SYS_readlinkat),
@@ -159,12 +183,16 @@ pub const OF_PROGRAM: &[Rule] = &[
 
 /// A list of calls, as the kernel takes it.
 #[derive(Debug)]
-pub struct Calls(Vec<sock_filter>);
+pub struct Calls {
+    steps: Vec<sock_filter>,
+    /// The steps that compare with the number of the process that keeps to the list, which isn't known before.
+    of_itself: Vec<usize>,
+}
 
 impl Calls {
     /// Of these rules. What no rule names ends the process.
     pub fn of<'a>(rules: impl Iterator<Item = &'a Rule>) -> Calls {
-        let mut calls = Calls(Vec::new());
+        let mut calls = Calls { steps: Vec::new(), of_itself: Vec::new() };
         calls.load(ARCHITECTURE_AT);
         calls.unless(libc::BPF_JEQ, ARCHITECTURE, 0, 1);
         calls.answer(KILL_PROCESS);
@@ -173,21 +201,27 @@ impl Calls {
         calls.answer(KILL_PROCESS);
         rules.for_each(|rule| calls.add(*rule));
         calls.answer(KILL_PROCESS);
+        assert!(calls.steps.len() <= MOST_STEPS, "the lists of calls are fixed");
         calls
     }
 
     fn load(&mut self, place: u32) {
-        self.0.push(sock_filter { code: (libc::BPF_LD | libc::BPF_W | libc::BPF_ABS) as u16, jt: 0, jf: 0, k: place });
+        self.steps.push(sock_filter {
+            code: (libc::BPF_LD | libc::BPF_W | libc::BPF_ABS) as u16,
+            jt: 0,
+            jf: 0,
+            k: place,
+        });
     }
 
     /// Where the comparison holds, goes on behind `unless_not` steps, else behind `otherwise`.
     fn unless(&mut self, comparison: u32, value: u32, otherwise: u8, then: u8) {
         let code = (libc::BPF_JMP | comparison | libc::BPF_K) as u16;
-        self.0.push(sock_filter { code, jt: then, jf: otherwise, k: value });
+        self.steps.push(sock_filter { code, jt: then, jf: otherwise, k: value });
     }
 
     fn answer(&mut self, verdict: u32) {
-        self.0.push(sock_filter { code: (libc::BPF_RET | libc::BPF_K) as u16, jt: 0, jf: 0, k: verdict });
+        self.steps.push(sock_filter { code: (libc::BPF_RET | libc::BPF_K) as u16, jt: 0, jf: 0, k: verdict });
     }
 
     /// The call of this number has so many steps; other calls pass them over.
@@ -218,7 +252,30 @@ impl Calls {
                 self.looks_at_bits(number, argument, bits, ERRNO | libc::EACCES as u32, ALLOW);
             }
             Rule::With(number, argument, bits) => self.looks_at_bits(number, argument, bits, ALLOW, KILL_PROCESS),
+            Rule::Null(number, argument) => {
+                self.of_call(number, 6);
+                for half in [0, 4] {
+                    self.load(ARGUMENTS_AT + 8 * argument + half);
+                    self.unless(libc::BPF_JEQ, 0, if half == 0 { 3 } else { 1 }, 0);
+                }
+                self.answer(ALLOW);
+                self.answer(ERRNO | libc::EPERM as u32);
+            }
+            Rule::OfProcess(number, process) => self.looks_at_process(number, process),
+            Rule::OfItself(number) => {
+                // Behind the number of the call and the loading of the argument.
+                self.of_itself.push(self.steps.len() + 2);
+                self.looks_at_process(number, 0);
+            }
         }
+    }
+
+    fn looks_at_process(&mut self, number: c_long, process: u32) {
+        self.of_call(number, 4);
+        self.load(ARGUMENTS_AT);
+        self.unless(libc::BPF_JEQ, process, 1, 0);
+        self.answer(ALLOW);
+        self.answer(ERRNO | libc::EPERM as u32);
     }
 
     /// The verdict where one of the bits is set, and where none is.
@@ -232,7 +289,12 @@ impl Calls {
 
     /// All threads of this process, and what it starts, keep to the list from now on. It allocates nothing.
     pub fn take_on(&self) -> io::Result<()> {
-        let program = libc::sock_fprog { len: self.0.len() as u16, filter: self.0.as_ptr() as *mut sock_filter };
+        let mut steps = [sock_filter { code: 0, jt: 0, jf: 0, k: 0 }; MOST_STEPS];
+        steps[..self.steps.len()].copy_from_slice(&self.steps);
+        // SAFETY: no memory is handed over.
+        let itself = unsafe { libc::getpid() } as u32;
+        self.of_itself.iter().for_each(|place| steps[*place].k = itself);
+        let program = libc::sock_fprog { len: self.steps.len() as u16, filter: steps.as_mut_ptr() };
         // SAFETY: the kernel reads as many steps as the list has.
         let answer = checked(unsafe {
             libc::syscall(libc::SYS_seccomp, libc::SECCOMP_SET_MODE_FILTER, FOR_ALL_THREADS, &program)
@@ -243,14 +305,5 @@ impl Calls {
         } else {
             Err(io::Error::from_raw_os_error(libc::EBUSY))
         }
-    }
-}
-
-/// What a call answered, or its fault.
-pub fn checked(answer: c_long) -> io::Result<c_long> {
-    if answer < 0 {
-        Err(io::Error::last_os_error())
-    } else {
-        Ok(answer)
     }
 }

@@ -3,21 +3,30 @@
 #![allow(unsafe_code)]
 use std::io;
 use std::mem::zeroed;
-use std::os::unix::io::{AsRawFd, FromRawFd, OwnedFd, RawFd};
+use std::os::unix::io::{AsFd, AsRawFd, BorrowedFd, FromRawFd, OwnedFd};
 use std::ptr::null_mut;
 
 use libc::{itimerspec, timespec};
 
-use crate::os::clock::{Nanos, SECOND};
-use crate::os::sockets::checked;
+use crate::os::clock::{Duration, Instant};
+use crate::os::system_call::checked;
 
 /// The time of the clock that nobody sets.
-pub fn monotonic() -> Nanos {
+pub fn monotonic() -> Instant {
+    time_of(libc::CLOCK_MONOTONIC)
+}
+
+/// The time of the clock that nobody sets and that goes on while the machine is suspended.
+pub fn since_boot() -> Instant {
+    time_of(libc::CLOCK_BOOTTIME)
+}
+
+fn time_of(clock: libc::clockid_t) -> Instant {
     let mut found = timespec { tv_sec: 0, tv_nsec: 0 };
     // SAFETY: the kernel writes one time.
-    let answer = unsafe { libc::clock_gettime(libc::CLOCK_MONOTONIC, &mut found) };
+    let answer = unsafe { libc::clock_gettime(clock, &mut found) };
     assert_eq!(answer, 0, "every kernel has this clock");
-    found.tv_sec as Nanos * SECOND + found.tv_nsec as Nanos
+    Instant::START + Duration::new(found.tv_sec as u64, found.tv_nsec as u32)
 }
 
 /// A descriptor that can be read once a time has come.
@@ -33,19 +42,20 @@ impl Timer {
     }
 
     /// By which one waits for it.
-    pub fn descriptor(&self) -> RawFd {
-        self.0.as_raw_fd()
+    pub fn descriptor(&self) -> BorrowedFd<'_> {
+        self.0.as_fd()
     }
 
     /// It can be read once this time has come, and not before.
-    pub fn set(&self, due: Nanos) -> io::Result<()> {
+    pub fn set(&self, due: Instant) -> io::Result<()> {
         // SAFETY: all zero is a time that doesn't come again.
         let mut time: itimerspec = unsafe { zeroed() };
+        let due = due.since(Instant::START);
         // A time of zero would be none.
-        time.it_value = timespec { tv_sec: (due / SECOND) as _, tv_nsec: (due % SECOND).max(1) as _ };
+        time.it_value = timespec { tv_sec: due.as_secs() as _, tv_nsec: due.subsec_nanos().max(1) as _ };
         // SAFETY: the kernel reads the time, and writes nothing.
-        unsafe { checked(libc::timerfd_settime(self.descriptor(), libc::TFD_TIMER_ABSTIME, &time, null_mut()))? };
-        Ok(())
+        checked(unsafe { libc::timerfd_settime(self.0.as_raw_fd(), libc::TFD_TIMER_ABSTIME, &time, null_mut()) })
+            .map(drop)
     }
 
     /// Reads it, where its time has come: from then on it can't be read before another time was set.
@@ -53,21 +63,25 @@ impl Timer {
         let mut times = 0u64;
         // SAFETY: the kernel writes at most eight octets into a number of eight. That it may write none is of no
         // account.
-        unsafe { libc::read(self.descriptor(), (&mut times as *mut u64).cast(), 8) };
+        unsafe { libc::read(self.0.as_raw_fd(), (&mut times as *mut u64).cast(), 8) };
     }
 }
 
 #[cfg(test)]
 mod tests {
     use super::*;
+    use crate::os::clock::{Duration, MILLISECOND, SECOND};
     use std::thread::sleep;
-    use std::time::{Duration, Instant};
+    use std::time::Instant as StdInstant;
 
     #[test]
     fn the_clock_goes_on_as_that_of_std_does() {
-        let (begun_by_std, begun) = (Instant::now(), monotonic());
-        sleep(Duration::from_millis(20));
-        let (gone, gone_by_std) = (monotonic() - begun, begun_by_std.elapsed().as_nanos() as Nanos);
-        assert!(gone >= 20_000_000 && gone <= gone_by_std && gone_by_std - gone < SECOND, "{gone} {gone_by_std}");
+        let (begun_by_std, begun) = (StdInstant::now(), monotonic());
+        sleep((20 * MILLISECOND).into());
+        let (gone, gone_by_std) = (monotonic().since(begun), Duration::from(begun_by_std.elapsed()));
+        assert!(
+            gone >= 20 * MILLISECOND && gone <= gone_by_std && gone_by_std - gone < SECOND,
+            "{gone:?} {gone_by_std:?}"
+        );
     }
 }

@@ -1,66 +1,60 @@
-//! What the program sends goes to the interfaces here: by the radio's `monitor` as `air` says, and by each `wire` in
-//! order, many frames a call, and no longer than is worth it.
+//! What the program has the networks send waits here, and goes to the interfaces: by the radio's `monitor` as `air`
+//! says, and by each `wire` in order, many frames a call, and no longer than is worth it.
 pub mod air;
-pub mod counts;
-pub mod gate;
+mod counts;
 pub mod monitor;
-pub mod wire;
+mod wire;
 
 use crate::control::faults::Fault;
 use crate::formats::frames::{is_tagged, Address, AddressMap, Frame};
 use crate::formats::radiotap::Outcome;
 use crate::network::Network;
-use crate::os::clock::Nanos;
-use crate::os::sockets::Port;
+use crate::os::clock::Instant;
+use crate::os::gate::Gate;
+use crate::os::interfaces::Interfaces;
+use crate::os::port::Port;
 use crate::outbound::air::links::Unacknowledged;
 use crate::outbound::air::scheduler::Place;
 use crate::outbound::air::Transmitter;
 use crate::outbound::counts::{count, Counts};
-use crate::outbound::gate::Gate;
-use crate::outbound::monitor::Monitor;
-use crate::outbound::wire::Wire;
+use crate::outbound::monitor::MonitorSender;
+use crate::outbound::wire::WireQueue;
 
-/// Sends the frames of the program's answers by the monitor interface and the wires.
+/// What waits to be sent of all networks, on the air and by their wires.
 #[derive(Debug)]
-pub struct Outbound<P> {
+pub struct Outbound {
     /// What goes on the air.
     pub air: Transmitter,
-    /// By what it goes there.
-    pub monitor: Monitor<P>,
-    /// By which the radio shows the frames that were acknowledged, where it doesn't by the monitor interface's own.
-    acknowledged: Option<P>,
-    wires: Vec<Option<Wire<P>>>,
+    monitor: MonitorSender,
+    /// Of each network.
+    wires: Vec<WireQueue>,
     networks: Vec<Network>,
     places: AddressMap<Place>,
     counts: Counts,
 }
 
-impl<P: Port> Outbound<P> {
-    /// For these networks, whose wires are in their order, by a monitor interface and its socket for beacons.
-    pub fn new(networks: Vec<Network>, monitor: P, beacons: P, wires: Vec<Option<P>>) -> Outbound<P> {
-        let places = networks.iter().enumerate().map(|(place, network)| (network.bssid, place)).collect();
-        let wires = wires.into_iter().map(|wire| wire.map(Wire::new)).collect();
-        let (air, monitor) = (Transmitter::new(&networks), Monitor::new(monitor, beacons));
-        Outbound { air, monitor, acknowledged: None, wires, networks, places, counts: Counts::new() }
-    }
-
-    /// The same, with a port of its own for the frames that the radio shows as acknowledged.
-    pub fn with_acknowledged(self, port: P) -> Outbound<P> {
-        Outbound { acknowledged: Some(port), ..self }
-    }
-
-    /// The networks, in the order of their places.
-    pub fn networks(&self) -> &[Network] {
-        &self.networks
+impl Outbound {
+    /// Nothing waits of these networks.
+    pub fn new(networks: Vec<Network>) -> Outbound {
+        Outbound {
+            air: Transmitter::new(&networks),
+            monitor: MonitorSender::default(),
+            wires: networks.iter().map(|_| WireQueue::default()).collect(),
+            places: networks.iter().enumerate().map(|(place, network)| (network.bssid, place)).collect(),
+            networks,
+            counts: Counts::new(),
+        }
     }
 
     /// What was sent, and what wasn't.
     pub fn counts(&self) -> Counts {
         let mut counts = self.counts.clone();
-        self.monitor.counts().iter().for_each(|(what, number)| count(&mut counts, what, *number));
-        self.wires.iter().flatten().for_each(|wire| wire.count_dropped(&mut counts));
+        self.monitor.refused().add_to(&mut counts);
+        for (network, queue) in self.networks.iter().zip(&self.wires) {
+            network.wire.iter().for_each(|interface| queue.count_unsent(interface, &mut counts));
+        }
         let Unacknowledged { again, lost } = self.air.unacknowledged();
-        let of_wires = self.wires.iter().flatten().map(Wire::sent_frames).sum();
+        let of_wires = self.wires.iter().map(WireQueue::sent_frames).sum();
         for (what, number) in [
             ("sent on the air", self.air.sent()),
             ("sent on the wires", of_wires),
@@ -84,70 +78,45 @@ impl<P: Port> Outbound<P> {
         self.places.get(bssid).copied()
     }
 
-    /// The port of the frames that the radio shows as acknowledged, where they have one.
-    pub fn acknowledged(&mut self) -> Option<&mut P> {
-        self.acknowledged.as_mut()
-    }
-
-    /// The radio's interface is up again, after so long.
-    pub fn radio_came_up(&mut self, after: Nanos) {
-        self.air.came_up(after);
-        self.monitor.forget_faults();
-        self.acknowledged.iter().for_each(Port::forget_fault);
-    }
-
-    /// The wire of the network of this place, and what waits for it.
-    pub fn wire(&mut self, place: Place) -> Option<&mut Gate<P>> {
-        self.wires.get_mut(place).and_then(Option::as_mut).map(|wire| &mut wire.gate)
-    }
-
-    /// The wire of the network of this place is by this port from now on.
-    pub fn set_wire(&mut self, place: Place, port: P) {
-        match &mut self.wires[place] {
-            Some(exit) => exit.gate = Gate::new(port),
-            none => *none = Some(Wire::new(port)),
-        }
-    }
-
-    /// All interfaces.
-    pub fn gates(&mut self) -> impl Iterator<Item = &mut Gate<P>> {
-        std::iter::once(self.monitor.gate()).chain(self.wires.iter_mut().flatten().map(|wire| &mut wire.gate))
-    }
-
-    /// Whether nothing waits for any interface.
-    pub fn is_idle(&self) -> bool {
-        self.monitor.is_idle(&self.air) && self.wires.iter().flatten().all(Wire::is_idle)
+    /// Whether nothing waits for any interface, nor for its room.
+    pub fn is_idle<P: Port>(&self, interfaces: &Interfaces<P>) -> bool {
+        let is_settled = interfaces.wires.iter().flatten().all(Gate::is_settled);
+        monitor::is_idle(&self.air, interfaces) && is_settled && self.wires.iter().all(WireQueue::is_empty)
     }
 
     /// Whether something waits for an interface that has room.
-    pub fn has_room(&self) -> bool {
-        self.monitor.has_room(&self.air) || self.wires.iter().flatten().any(Wire::has_room)
+    pub fn has_room<P: Port>(&self, interfaces: &Interfaces<P>) -> bool {
+        let has_room = |wire: &Option<Gate<P>>| wire.as_ref().map_or(false, |gate| !gate.is_blocked());
+        let mut wires = self.wires.iter().zip(&interfaces.wires);
+        monitor::has_room(&self.air, interfaces) || wires.any(|(queue, wire)| !queue.is_empty() && has_room(wire))
     }
 
     /// A network sends a frame on the air; a fault where there is no such network.
-    pub fn send_on_air(&mut self, bssid: Address, octets: Vec<u8>, now: Nanos) -> Result<(), Fault> {
+    pub fn send_on_air(&mut self, bssid: Address, octets: Vec<u8>, now: Instant) -> Result<(), Fault> {
         let place = self.place(bssid)?;
         self.air.send(place, octets, now);
         Ok(())
     }
 
-    /// A network sends a frame on its wire; a fault where there is no such network.
-    pub fn send_on_wire(&mut self, bssid: Address, octets: Vec<u8>, now: Nanos) -> Result<(), Fault> {
-        let place = self.place(bssid)?;
-        match &mut self.wires[place] {
-            None => count(&mut self.counts, "lost, of networks without --wire", 1),
-            Some(_) if is_tagged(&octets) => count(&mut self.counts, "not sent, since they have a VLAN's tag", 1),
-            Some(exit) => exit.push(octets, now),
+    /// The network of this place sends a frame on its wire.
+    pub fn send_on_wire(&mut self, place: Place, octets: Vec<u8>, now: Instant) {
+        if self.networks[place].wire.is_none() {
+            count(&mut self.counts, "lost, of networks without --wire", 1);
+        } else if is_tagged(&octets) {
+            count(&mut self.counts, "not sent, since they have a VLAN's tag", 1);
+        } else {
+            self.wires[place].push(octets, now);
         }
-        Ok(())
     }
 
-    fn place(&self, bssid: Address) -> Result<Place, Fault> {
-        self.place_of(&bssid).ok_or_else(|| Fault::new("the program answered for a network that it doesn't have"))
+    /// The place of the network of which the program says something; a fault where there is no such network.
+    pub fn place(&self, bssid: Address) -> Result<Place, Fault> {
+        let unknown = || Fault::WrongAnswer("the program answered for a network that it doesn't have".to_owned());
+        self.place_of(&bssid).ok_or_else(unknown)
     }
 
     /// The radio shows a frame that it sent, with what became of it.
-    pub fn reported(&mut self, frame: &[u8], outcome: Outcome, now: Nanos) {
+    pub fn reported(&mut self, frame: &[u8], outcome: Outcome, now: Instant) {
         let sender = Frame::of(frame).and_then(|frame| frame.transmitter());
         if let Some(place) = sender.and_then(|sender| self.place_of(&sender)) {
             self.air.reported(place, frame, outcome, now);
@@ -162,20 +131,20 @@ impl<P: Port> Outbound<P> {
     }
 
     /// The time is this: what was waited for on the air in vain is waited for no more.
-    pub fn expire(&mut self, now: Nanos) {
-        self.monitor.expire(&mut self.air, now);
+    pub fn expire<P: Port>(&mut self, interfaces: &Interfaces<P>, now: Instant) {
+        monitor::expire(&mut self.air, interfaces, now);
     }
 
     /// Sends the beacons that wait.
-    pub fn flush_beacons(&mut self) {
-        self.monitor.flush_beacons(&mut self.air);
+    pub fn flush_beacons<P: Port>(&mut self, interfaces: &mut Interfaces<P>) {
+        self.monitor.flush_beacons(&mut self.air, interfaces);
     }
 
     /// Sends what waits, as far as there is room and until it is that time.
-    pub fn flush(&mut self, now: Nanos, until: Nanos) {
-        self.monitor.flush(&mut self.air, now, until);
-        for wire in self.wires.iter_mut().flatten() {
-            wire.flush(now, until, &mut self.counts);
+    pub fn flush<P: Port>(&mut self, interfaces: &mut Interfaces<P>, now: Instant, until: Instant) {
+        self.monitor.flush(&mut self.air, interfaces, now, until);
+        for (queue, wire) in self.wires.iter_mut().zip(&mut interfaces.wires) {
+            wire.iter_mut().for_each(|gate| queue.flush(gate, now, until));
         }
     }
 }

@@ -1,107 +1,96 @@
 //! The monitor interface gives the radio what `air` says. Of the way to the air this alone writes to sockets, asks them
 //! and looks at a clock.
 use crate::control::faults::is_down;
-use crate::os::clock::{self, Nanos};
-use crate::os::sockets::{Port, AT_A_TIME};
+use crate::os::clock::{self, Instant};
+use crate::os::gate::Gate;
+use crate::os::interfaces::Interfaces;
+use crate::os::port::{Port, AT_A_TIME};
 use crate::outbound::air::Transmitter;
-use crate::outbound::counts::{count_refused, Counts};
-use crate::outbound::gate::Gate;
+use crate::outbound::counts::Refused;
 
-/// The monitor interface, by two sockets: one for beacons alone.
-#[derive(Debug)]
-pub struct Monitor<P> {
-    pub(super) gate: Gate<P>,
-    pub(super) beacons: Gate<P>,
-    /// What the interface refused.
-    counts: Counts,
+/// Whether a frame waits that may go now.
+pub fn has_room<P: Port>(air: &Transmitter, interfaces: &Interfaces<P>) -> bool {
+    air.has_next() && !interfaces.monitor.is_blocked() || air.has_beacons() && !interfaces.beacons.is_blocked()
 }
 
-impl<P: Port> Monitor<P> {
-    /// By these sockets, which have room.
-    pub fn new(port: P, beacons: P) -> Monitor<P> {
-        Monitor { gate: Gate::new(port), beacons: Gate::new(beacons), counts: Counts::new() }
-    }
+/// Whether nothing waits, for room or to be sent.
+pub fn is_idle<P: Port>(air: &Transmitter, interfaces: &Interfaces<P>) -> bool {
+    air.is_empty() && interfaces.monitor.is_settled()
+}
 
-    /// The interface by which all but beacons go.
-    pub fn gate(&mut self) -> &mut Gate<P> {
-        &mut self.gate
-    }
+/// Sends by the monitor interface, and counts what that refuses.
+#[derive(Debug, Default)]
+pub struct MonitorSender {
+    refused: Refused,
+}
 
+impl MonitorSender {
     /// What the interface refused.
-    pub fn counts(&self) -> &Counts {
-        &self.counts
-    }
-
-    /// Whether a frame waits that may go now.
-    pub fn has_room(&self, air: &Transmitter) -> bool {
-        air.has_next() && !self.gate.is_blocked() || air.has_beacons() && !self.beacons.is_blocked()
-    }
-
-    /// Whether nothing waits, for room or to be sent.
-    pub fn is_idle(&self, air: &Transmitter) -> bool {
-        air.is_empty() && self.gate.is_settled()
-    }
-
-    /// The interface is up again.
-    pub fn forget_faults(&self) {
-        self.gate.port.forget_fault();
-        self.beacons.port.forget_fault();
+    pub fn refused(&self) -> &Refused {
+        &self.refused
     }
 
     /// Sends the beacons that wait.
-    pub fn flush_beacons(&mut self, air: &mut Transmitter) {
-        self.beacons.unblock();
-        while air.has_beacons() && !self.beacons.is_blocked() {
+    pub fn flush_beacons<P: Port>(&mut self, air: &mut Transmitter, interfaces: &mut Interfaces<P>) {
+        let gate = &mut interfaces.beacons;
+        gate.unblock();
+        while air.has_beacons() && !gate.is_blocked() {
             let (packets, number) = at_a_time(air.beacons());
-            match self.beacons.send(&packets[..number]) {
+            match gate.send(&packets[..number]) {
                 Ok(number) => air.gave_beacons(number),
                 Err(fault) => {
                     if is_down(&fault) {
                         air.went_down();
                     }
-                    count_refused(&self.beacons, air.refused_beacon(), &fault, &mut self.counts);
+                    self.refused.count(gate.port.interface(), air.refused_beacon(), &fault);
                 }
             }
         }
     }
 
     /// Sends what else waits, as far as the radio may have more and until it is that time.
-    pub fn flush(&mut self, air: &mut Transmitter, now: Nanos, until: Nanos) {
+    pub fn flush<P: Port>(
+        &mut self,
+        air: &mut Transmitter,
+        interfaces: &mut Interfaces<P>,
+        now: Instant,
+        until: Instant,
+    ) {
         let mut time = now;
         if air.is_doubtful(now) {
-            air.resolve(self.is_empty());
+            air.resolve(is_empty(&interfaces.monitor));
         }
-        while !self.gate.is_blocked() && time < until && air.choose(AT_A_TIME, now) {
-            self.hand_over(air);
-            if self.has_room(air) {
+        while !interfaces.monitor.is_blocked() && time < until && air.choose(AT_A_TIME, now) {
+            self.hand_over(air, &mut interfaces.monitor, time);
+            if has_room(air, interfaces) {
                 time = clock::now();
             }
         }
         air.set_look(now);
     }
 
-    /// Hands the chosen frames to the radio's socket.
-    fn hand_over(&mut self, air: &mut Transmitter) {
-        let (packets, number) = at_a_time(air.chosen());
-        match self.gate.send(&packets[..number]) {
+    /// Hands the frames that had their turn to the radio's socket.
+    fn hand_over<P: Port>(&mut self, air: &mut Transmitter, gate: &mut Gate<P>, now: Instant) {
+        let (packets, number) = at_a_time(air.awaiting_room());
+        match gate.send(&packets[..number]) {
             Ok(number) => air.gave(number),
             Err(fault) if is_down(&fault) => air.went_down(),
-            Err(fault) => count_refused(&self.gate, air.refused(), &fault, &mut self.counts),
+            Err(fault) => self.refused.count(gate.port.interface(), air.refused(now), &fault),
         }
     }
+}
 
-    /// The time is this: what `air` waited for in vain it waits for no more.
-    pub fn expire(&mut self, air: &mut Transmitter, now: Nanos) {
-        air.expire(now);
-        if air.wants_look(now) {
-            air.looked(self.is_empty(), now);
-        }
+/// The time is this: what `air` waited for in vain it waits for no more.
+pub fn expire<P: Port>(air: &mut Transmitter, interfaces: &Interfaces<P>, now: Instant) {
+    air.expire(now);
+    if air.wants_look(now) {
+        air.looked(is_empty(&interfaces.monitor), now);
     }
+}
 
-    /// Whether the radio has sent all that it was given, as far as its socket says.
-    fn is_empty(&self) -> bool {
-        matches!(self.gate.port.unsent(), Ok(0))
-    }
+/// Whether the radio has sent all that it was given, as far as its socket says.
+fn is_empty<P: Port>(gate: &Gate<P>) -> bool {
+    matches!(gate.port.unsent(), Ok(0))
 }
 
 /// The first of these packets, as many as are sent at a time, and how many they are.

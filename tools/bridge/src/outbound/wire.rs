@@ -1,48 +1,42 @@
-//! A network's wire: frames go by it in order, many a call, and no longer than is worth it.
+//! What is sent by a network's wire: in order, many frames a call, and no longer than is worth it.
 use std::collections::VecDeque;
 
 use crate::inbound::frame::LONGEST;
-use crate::os::clock::{self, Nanos};
-use crate::os::sockets::{Port, AT_A_TIME};
-use crate::outbound::counts::{count, count_refused, Counts};
-use crate::outbound::gate::Gate;
+use crate::os::clock::{self, Instant};
+use crate::os::gate::Gate;
+use crate::os::port::{Port, AT_A_TIME};
+use crate::outbound::counts::{count, Counts, Refused};
 
 pub const MOST_OCTETS: usize = 4 << 20;
 
 /// A frame on its way to a wire.
 #[derive(Debug)]
-pub struct Leaving {
+struct Leaving {
     octets: Vec<u8>,
-    since: Nanos,
+    since: Instant,
 }
 
-/// A wire, with what waits to be sent by it.
-#[derive(Debug)]
-pub struct Wire<P> {
-    /// The interface.
-    pub gate: Gate<P>,
+/// What waits to be sent by a wire, and what became of the rest.
+#[derive(Debug, Default)]
+pub struct WireQueue {
     leaving: VecDeque<Leaving>,
     pub(super) octets: usize,
     sent: u64,
     /// How many frames were dropped for want of room, and because they had waited too long.
     without_room: u64,
     late: u64,
+    refused: Refused,
 }
 
-impl<P: Port> Wire<P> {
-    /// Nothing waits.
-    pub fn new(port: P) -> Wire<P> {
-        Wire { gate: Gate::new(port), leaving: VecDeque::new(), octets: 0, sent: 0, without_room: 0, late: 0 }
-    }
-
+impl WireQueue {
     /// How many frames were sent.
     pub fn sent_frames(&self) -> u64 {
         self.sent
     }
 
-    /// Adds what was dropped to these counts.
-    pub fn count_dropped(&self, counts: &mut Counts) {
-        let interface = self.gate.port.interface();
+    /// Adds what was dropped and refused to these counts, for a wire of this interface.
+    pub fn count_unsent(&self, interface: &str, counts: &mut Counts) {
+        self.refused.add_to(counts);
         if self.without_room > 0 {
             count(counts, &format!("dropped, since no more could wait for {interface}"), self.without_room);
         }
@@ -51,18 +45,13 @@ impl<P: Port> Wire<P> {
         }
     }
 
-    /// Whether nothing waits, for room or to be sent.
-    pub fn is_idle(&self) -> bool {
-        self.leaving.is_empty() && self.gate.is_settled()
-    }
-
-    /// Whether something waits that has room.
-    pub fn has_room(&self) -> bool {
-        !self.leaving.is_empty() && !self.gate.is_blocked()
+    /// Whether nothing waits.
+    pub fn is_empty(&self) -> bool {
+        self.leaving.is_empty()
     }
 
     /// A frame waits from now on. What has no room beside it is dropped, the oldest first.
-    pub fn push(&mut self, octets: Vec<u8>, now: Nanos) {
+    pub fn push(&mut self, octets: Vec<u8>, now: Instant) {
         while self.octets + octets.len() > MOST_OCTETS {
             match self.leaving.pop_front() {
                 Some(dropped) => self.octets -= dropped.octets.len(),
@@ -74,10 +63,10 @@ impl<P: Port> Wire<P> {
         self.leaving.push_back(Leaving { octets, since: now });
     }
 
-    /// Sends what waits, as far as there is room and until it is that time, and drops what waited too long.
-    pub fn flush(&mut self, now: Nanos, until: Nanos, counts: &mut Counts) {
+    /// Sends what waits by its wire, as far as there is room and until it is that time, and drops what waited too long.
+    pub fn flush<P: Port>(&mut self, gate: &mut Gate<P>, now: Instant, until: Instant) {
         let mut time = now;
-        while !self.gate.is_blocked() && !self.leaving.is_empty() && time < until {
+        while !gate.is_blocked() && !self.leaving.is_empty() && time < until {
             self.drop_late(now);
             let mut frames: [&[u8]; AT_A_TIME] = [&[]; AT_A_TIME];
             frames.iter_mut().zip(&self.leaving).for_each(|(frame, leaving)| *frame = &leaving.octets);
@@ -88,20 +77,20 @@ impl<P: Port> Wire<P> {
             if number < self.leaving.len() {
                 time = clock::now();
             }
-            match self.gate.send(&frames[..number]) {
+            match gate.send(&frames[..number]) {
                 Ok(number) => self.sent(number),
                 Err(fault) => {
                     if let Some(frame) = self.leaving.pop_front() {
                         self.octets -= frame.octets.len();
-                        count_refused(&self.gate, frame.octets.len(), &fault, counts);
+                        self.refused.count(gate.port.interface(), frame.octets.len(), &fault);
                     }
                 }
             }
         }
     }
 
-    fn drop_late(&mut self, now: Nanos) {
-        while self.leaving.front().map_or(false, |frame| now.saturating_sub(frame.since) > LONGEST) {
+    fn drop_late(&mut self, now: Instant) {
+        while self.leaving.front().map_or(false, |frame| now > frame.since + LONGEST) {
             self.octets -= self.leaving.pop_front().map_or(0, |frame| frame.octets.len());
             self.late += 1;
         }

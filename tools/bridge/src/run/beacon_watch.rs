@@ -1,12 +1,13 @@
 //! Whether the radio goes on sending: it shows each frame that it has sent, so of the beacons that it was given it
 //! shows some. Not all are looked at: about one a second is drawn, and each one where none came for a while (`filter`).
-use crate::os::clock::{Nanos, SECOND};
+
+use crate::os::clock::{Duration, Instant};
 
 /// For so long no beacon has to be shown before that is told, and for three beacon intervals where these last longer.
-const LEAST: Nanos = 5 * SECOND;
-const INTERVALS: u64 = 3;
+const LEAST: Duration = Duration::from_secs(5);
+const INTERVALS: u32 = 3;
 /// After so long without one, each beacon that is shown is looked at.
-const TO_DOUBT: Nanos = 5 * SECOND / 2;
+const TO_DOUBT: Duration = Duration::from_millis(2500);
 
 /// What is told of the radio.
 #[derive(Debug, Clone, Copy, PartialEq, Eq)]
@@ -14,14 +15,14 @@ pub enum Told {
     /// It shows no beacon as sent any more.
     Unsent,
     /// It shows them again, after this long.
-    Sending(Nanos),
+    Sending(Duration),
 }
 
 /// The beacons that were given to the radio since it showed one.
 #[derive(Debug, Clone, Copy)]
 struct Unseen {
     /// When the first was given.
-    since: Nanos,
+    since: Instant,
     /// How many were given while each is looked at.
     looked_at: usize,
 }
@@ -29,47 +30,47 @@ struct Unseen {
 /// What is known of the radio by its beacons.
 #[derive(Debug)]
 pub struct BeaconWatch {
-    limit: Nanos,
+    limit: Duration,
     /// How many beacons are given to the radio in an interval.
     networks: usize,
     /// Whether each beacon that is shown is looked at, also where there is no doubt.
     looks_at_each: bool,
     unseen: Option<Unseen>,
     /// Since when it has shown none, where that was told.
-    unsent_since: Option<Nanos>,
+    unsent_since: Option<Instant>,
     /// After how long it showed one again, where that wasn't told yet.
-    again_after: Option<Nanos>,
+    again_after: Option<Duration>,
 }
 
 impl BeaconWatch {
     /// So many networks have beacon intervals of this length, and mostly each beacon that is shown is looked at, or
     /// some.
-    pub fn new(interval: Nanos, networks: usize, looks_at_each: bool) -> BeaconWatch {
+    pub fn new(interval: Duration, networks: usize, looks_at_each: bool) -> BeaconWatch {
         let limit = LEAST.max(interval.saturating_mul(INTERVALS));
         BeaconWatch { limit, networks, looks_at_each, unseen: None, unsent_since: None, again_after: None }
     }
 
     /// The radio was given a beacon.
-    pub fn given(&mut self, now: Nanos) {
+    pub fn given(&mut self, now: Instant) {
         let is_looked_at = self.looks_at_each || self.wants_each(now);
         self.unseen.get_or_insert(Unseen { since: now, looked_at: 0 }).looked_at += usize::from(is_looked_at);
     }
 
     /// The radio has shown a beacon as sent.
-    pub fn shown(&mut self, now: Nanos) {
+    pub fn shown(&mut self, now: Instant) {
         self.unseen = None;
         if let Some(since) = self.unsent_since.take() {
-            self.again_after = Some(now.saturating_sub(since));
+            self.again_after = Some(now.since(since));
         }
     }
 
     /// Whether each beacon that is shown is looked at from now on.
-    pub fn wants_each(&self, now: Nanos) -> bool {
+    pub fn wants_each(&self, now: Instant) -> bool {
         self.unsent_since.is_some() || self.unseen.map_or(false, |unseen| now >= unseen.since + TO_DOUBT)
     }
 
     /// When `look` or `wants_each` finds something else, unless a beacon is shown before that.
-    pub fn due(&self, now: Nanos) -> Option<Nanos> {
+    pub fn due(&self, now: Instant) -> Option<Instant> {
         let unseen = self.unseen.filter(|_| self.unsent_since.is_none())?;
         Some(unseen.since + if now < unseen.since + TO_DOUBT { TO_DOUBT } else { self.limit }).filter(|due| now < *due)
     }
@@ -77,19 +78,19 @@ impl BeaconWatch {
     /// What is to be told, where it wasn't yet. That the radio sends none takes beacons of two intervals at least that
     /// were looked at: what became of those of the first was learned then. A program that makes none is no fault of the
     /// radio's.
-    pub fn look(&mut self, now: Nanos) -> Option<Told> {
+    pub fn look(&mut self, now: Instant) -> Option<Told> {
         if let Some(after) = self.again_after.take() {
             return Some(Told::Sending(after));
         }
         let unseen = self.unseen.filter(|_| self.unsent_since.is_none())?;
-        let silent = now.saturating_sub(unseen.since);
+        let silent = now.since(unseen.since);
         let is_unsent = silent >= self.limit && unseen.looked_at > self.networks;
         self.unsent_since = is_unsent.then_some(unseen.since);
         is_unsent.then_some(Told::Unsent)
     }
 
     /// Since when the radio has shown no beacon as sent, where that was told.
-    pub fn unsent_since(&self) -> Option<Nanos> {
+    pub fn unsent_since(&self) -> Option<Instant> {
         self.unsent_since
     }
 }
@@ -97,20 +98,21 @@ impl BeaconWatch {
 #[cfg(test)]
 mod tests {
     use super::*;
-    use crate::os::clock::MILLISECOND;
+    use crate::os::clock::{MILLISECOND, SECOND};
+    use crate::testing::samples::{at, NANOSECOND};
 
-    const INTERVAL: Nanos = 102_400_000;
+    const INTERVAL: Duration = Duration::from_micros(102_400);
 
     /// Gives a beacon each interval in this time, and shows these; what is told, with the interval.
     fn run(
         watch: &mut BeaconWatch,
-        intervals: std::ops::Range<u64>,
-        length: Nanos,
-        is_shown: impl Fn(u64) -> bool,
-    ) -> Vec<(u64, Told)> {
+        intervals: std::ops::Range<u32>,
+        length: Duration,
+        is_shown: impl Fn(u32) -> bool,
+    ) -> Vec<(u32, Told)> {
         let mut found = Vec::new();
         for number in intervals {
-            let now = number * length;
+            let now = at(number * length);
             watch.given(now);
             found.extend(watch.look(now).map(|told| (number, told)));
             if is_shown(number) {
@@ -125,7 +127,7 @@ mod tests {
     fn a_radio_that_shows_one_in_ten_sends() {
         let mut watch = BeaconWatch::new(INTERVAL, 1, false);
         assert_eq!(run(&mut watch, 0..1000, INTERVAL, |number| number % 10 == 9), []);
-        assert!(!watch.wants_each(1000 * INTERVAL) && watch.unsent_since().is_none());
+        assert!(!watch.wants_each(at(1000 * INTERVAL)) && watch.unsent_since().is_none());
     }
 
     #[test]
@@ -133,8 +135,8 @@ mod tests {
         let mut watch = BeaconWatch::new(INTERVAL, 1, false);
         let found = run(&mut watch, 0..200, INTERVAL, |number| number < 10);
         assert_eq!(found, [(59, Told::Unsent)]);
-        assert_eq!(watch.unsent_since(), Some(10 * INTERVAL));
-        assert!(watch.wants_each(200 * INTERVAL) && watch.due(200 * INTERVAL).is_none());
+        assert_eq!(watch.unsent_since(), Some(at(10 * INTERVAL)));
+        assert!(watch.wants_each(at(200 * INTERVAL)) && watch.due(at(200 * INTERVAL)).is_none());
     }
 
     #[test]
@@ -143,7 +145,7 @@ mod tests {
         let found = run(&mut watch, 0..200, INTERVAL, |number| !(10..100).contains(&number));
         let again = Told::Sending(90 * INTERVAL + MILLISECOND);
         assert_eq!(found, [(59, Told::Unsent), (100, again)]);
-        assert!(!watch.wants_each(200 * INTERVAL) && watch.unsent_since().is_none());
+        assert!(!watch.wants_each(at(200 * INTERVAL)) && watch.unsent_since().is_none());
     }
 
     #[test]
@@ -158,21 +160,21 @@ mod tests {
     fn a_program_that_makes_no_beacons_is_no_radio_that_sends_none() {
         let mut watch = BeaconWatch::new(INTERVAL, 16, false);
         let give = |watch: &mut BeaconWatch, now| (0..16).for_each(|_| watch.given(now));
-        give(&mut watch, SECOND);
-        assert_eq!((watch.look(60 * SECOND), watch.due(60 * SECOND)), (None, None));
-        give(&mut watch, 60 * SECOND);
-        assert_eq!(watch.look(70 * SECOND), None);
-        give(&mut watch, 70 * SECOND);
-        assert_eq!(watch.look(70 * SECOND), Some(Told::Unsent));
+        give(&mut watch, at(SECOND));
+        assert_eq!((watch.look(at(60 * SECOND)), watch.due(at(60 * SECOND))), (None, None));
+        give(&mut watch, at(60 * SECOND));
+        assert_eq!(watch.look(at(70 * SECOND)), None);
+        give(&mut watch, at(70 * SECOND));
+        assert_eq!(watch.look(at(70 * SECOND)), Some(Told::Unsent));
     }
 
     #[test]
     fn each_beacon_is_looked_at_before_it_is_told_that_none_came() {
         let mut watch = BeaconWatch::new(INTERVAL, 1, false);
-        watch.given(SECOND);
-        assert_eq!(watch.due(SECOND), Some(7 * SECOND / 2));
-        assert!(!watch.wants_each(7 * SECOND / 2 - 1) && watch.wants_each(7 * SECOND / 2));
-        assert_eq!(watch.due(7 * SECOND / 2), Some(6 * SECOND));
-        assert_eq!(watch.due(6 * SECOND), None);
+        watch.given(at(SECOND));
+        assert_eq!(watch.due(at(SECOND)), Some(at(7 * SECOND / 2)));
+        assert!(!watch.wants_each(at(7 * SECOND / 2 - NANOSECOND)) && watch.wants_each(at(7 * SECOND / 2)));
+        assert_eq!(watch.due(at(7 * SECOND / 2)), Some(at(6 * SECOND)));
+        assert_eq!(watch.due(at(6 * SECOND)), None);
     }
 }

@@ -1,45 +1,37 @@
 //! The program is told when an interval begins, and is given what waits, as far as it has read what came before.
-use super::running::TO_BEACON;
+use super::running::{FirstBeacon, TO_BEACON};
 use super::{Bridge, Phase, TO_READY};
-use crate::apctl::records::Event;
+use crate::apctl::protocol::Event;
 use crate::apctl::tables::Asker;
 use crate::control::faults::Fault;
-use crate::os::clock::SECOND;
 use crate::os::poller::Token;
-use crate::os::sockets::OfSocket;
+use crate::os::port::OfSocket;
 
 impl<P: OfSocket> Bridge<P> {
     /// Begins a beacon interval where it is time, and asks for the tables where that was asked for. An interval begins
     /// only once the program has read the beginning of the one before: what it doesn't read doesn't pile up.
     pub(super) fn take_time(&mut self) -> Result<(), Fault> {
         let time = self.time;
-        match (self.phase, &mut self.running) {
-            (Phase::Opening(until) | Phase::Replay(until), _) if time >= until => {
-                return Err(Fault::new(format!("the program answered nothing in {} seconds", TO_READY / SECOND)));
-            }
-            (Phase::Running, Some(running)) => {
-                if time >= running.ticks.due() && self.feeder.has_read_tick() && running.ticks.begins(time) {
+        match &mut self.phase {
+            Phase::Opening { until, .. } if time >= *until => return Err(Fault::ProgramSilent(TO_READY)),
+            Phase::Replay(replaying) if time >= replaying.until => return Err(Fault::ProgramSilent(TO_READY)),
+            Phase::Running(running) => {
+                let begins = running.timing.is_due(time) && self.feeder.has_read_tick();
+                if begins && running.timing.begin(time, running.networks.len()) {
                     self.feeder.feed(Event::Tick);
                     self.feeder.flush_record();
-                    running.is_answered = false;
-                    running.said_tick = time;
-                    running.beacons_awaited = running.networks.len();
                     running.given.ticks += 1;
                     running.receive(Token::Acknowledged, &mut self.batch, time)?;
                 }
-                running.outbound.expire(time);
-                if self.tables_asked && running.tables.may_be_asked() {
-                    self.tables_asked = false;
+                running.outbound.expire(&running.interfaces, time);
+                if running.tables_asked && running.tables.may_be_asked() {
+                    running.tables_asked = false;
                     self.feeder.feed(Event::Tables);
                     running.tables.ask(Asker::People, time);
                     running.given.tables += 1;
                 }
-                if running.beacon_due.map_or(false, |due| time > due) {
-                    return Err(Fault::new(format!(
-                        "this radio does not send beside its interfaces: no beacon was seen as sent within {} second \
-                         (docs/OPERATING.md, 'The radio')",
-                        TO_BEACON / SECOND
-                    )));
+                if matches!(running.first_beacon, FirstBeacon::Awaited { until: Some(until) } if time > until) {
+                    return Err(Fault::SendsNothing(TO_BEACON));
                 }
             }
             _ => {}
@@ -55,23 +47,11 @@ impl<P: OfSocket> Bridge<P> {
             if is_written && self.feed_replay() > 0 {
                 continue;
             }
-            let running = match &mut self.running {
+            let running = match self.phase.running() {
                 Some(running) if is_written => running,
                 _ => return Ok(()),
             };
-            let time = self.time;
-            let mut said = 0;
-            let room = if running.waiting.is_empty() { 0 } else { self.feeder.room() };
-            while said < room {
-                match running.waiting.pop(time) {
-                    None => break,
-                    Some((source, frame)) => {
-                        running.feed(source, &frame, &mut self.feeder, time);
-                        said += 1;
-                    }
-                }
-            }
-            if said == 0 {
+            if running.give(&mut self.feeder, self.time) == 0 {
                 return Ok(());
             }
         }

@@ -1,76 +1,76 @@
-//! The bridge while it runs: one thread that waits for what comes first, and does it. `requests` is what `tools/live`
-//! asks for, `opening` how frames begin to go, `interfaces` and `reading` what comes by the interfaces, `feeding` what
-//! the program is given, `answering` what it answers and others ask, `timing` what beacons go before, `radio` whether
-//! the radio does what it has to, `staying` how stations stay from one bridge to the next, `telling` what people are
-//! told, and `ending` the end. `running` has what all of these change.
+//! The bridge while it runs: one thread that waits for what comes first, and does it. `phase` says how far it is.
+//! `requests` is what `tools/live` asks for, `opening` how frames begin to go, `reading` what comes by the interfaces,
+//! `wires` how wires come and go, `feeding` what the program is given, `moving` what comes of stations that doze, and
+//! `answering` what it answers and others ask. `sending` is when what waits is sent, `beacon_timing` what beacons go
+//! before, and `wake_timing` which answers of the program they don't wait for. `radio` looks whether the radio does what
+//! it has to, `staying` has stations stay from one bridge to the next, `telling` tells people, and `ending` ends.
+//! `running` has what all of these change.
 mod answering;
+mod beacon_timing;
 mod beacon_watch;
 mod ending;
 mod feeding;
-mod interfaces;
 pub mod intervals;
+mod moving;
 mod opening;
+mod phase;
 mod radio;
 mod reading;
 mod requests;
 mod running;
+mod sending;
 mod staying;
 mod telling;
-mod timing;
 mod tuning;
+mod wake_timing;
+mod wires;
 
-use running::Running;
+use phase::Phase;
+use running::FirstBeacon;
 
 use crate::apctl::feeder::Feeder;
 use crate::apctl::program::Program;
 use crate::control::by::By;
 use crate::control::clients::Clients;
 use crate::control::faults::Fault;
-use crate::control::parent::{say, Handed, Notice, Request, Requests};
+use crate::control::notices::{say, Notice};
+use crate::control::parent::{Handed, Requests};
 use crate::control::status::Faults;
-use crate::handover::replay::Replay;
+use crate::control::status_line::StatusLine;
 use crate::handover::state::Setting;
+use crate::handover::state_draft::StateDraft;
 use crate::handover::state_files::StateFiles;
-use crate::os::clock::{now, Nanos, MILLISECOND, SECOND};
+use crate::network::Network;
+use crate::os::batch::Batch;
+use crate::os::clock::{now, Duration, Instant, SECOND};
+use crate::os::interfaces::Interfaces;
 use crate::os::poller::{Poller, Ready, Token};
-use crate::os::sockets::{Batch, OfSocket};
-use crate::outbound::Outbound;
+use crate::os::port::OfSocket;
 
-const TO_END: Nanos = 20 * SECOND;
-const TO_READY: Nanos = 20 * SECOND;
+const TO_END: Duration = Duration::from_secs(20);
+const TO_READY: Duration = Duration::from_secs(20);
 /// How many batches of one socket are read, and pieces of the program's output, before something else is looked at.
 const IN_A_ROW: usize = 4;
-/// So long before a beacon interval begins frames gather no more: a wait may end some 50 µs late.
-const BEFORE_TICK: Nanos = MILLISECOND / 5;
 /// How often `tools/live` is told at most that the program answers.
-const ALIVE_EVERY: Nanos = SECOND;
+const ALIVE_EVERY: Duration = SECOND;
 
 /// How it is asked to run.
 #[derive(Debug, Clone, PartialEq, Eq)]
 pub struct Manner {
     /// The radio, its channel and the beacon interval.
     pub setting: Setting,
+    /// The networks, in the order of their places.
+    pub networks: Vec<Network>,
     /// By which interfaces the radio acknowledges, where that is known.
     pub by: Option<By>,
     /// After how long an associated station of which nothing was heard is asked; `None` asks nobody.
-    pub most_silence: Option<Nanos>,
+    pub most_silence: Option<Duration>,
+    /// Whether wires learn which stations join.
+    pub tells_wires: bool,
     /// Whether `tools/live` is told that the program answers.
     pub tells_alive: bool,
-}
-
-/// How far the bridge is.
-#[derive(Debug, Clone, Copy, PartialEq, Eq)]
-enum Phase {
-    /// The program opens the networks, until this time.
-    Opening(Nanos),
-    /// `tools/live` sets the interfaces up.
-    SettingUp,
-    /// The program is told of stations that joined before, until this time.
-    Replay(Nanos),
-    /// Frames go.
-    Running,
-    /// What the program still writes is sent.
-    Ending,
+    /// Whether an earlier bridge saw the radio send as it is set up.
+    pub has_sent: bool,
 }
 
 /// The program, `tools/live`, and once the interfaces are there, these.
@@ -79,28 +79,20 @@ pub struct Bridge<P> {
     feeder: Feeder,
     requests: Requests,
     clients: Option<Clients>,
+    status_line: StatusLine,
     poller: Poller,
     manner: Manner,
-    began: Nanos,
+    began: Instant,
     /// When the last wait ended: the time of all that is done then.
-    time: Nanos,
+    time: Instant,
     /// What came by then.
     ready: Vec<Ready>,
     faults: Faults,
-    alive_told: Nanos,
-    phase: Phase,
-    running: Option<Running<P>>,
+    phase: Phase<P>,
     batch: Batch,
-    /// The sockets of the interfaces, until they are served.
-    handed: Option<Handed>,
-    /// The files by which stations stay.
+    /// The files by which stations stay, where they do.
     state_files: Option<StateFiles>,
-    /// What is said of them to the program, and the interfaces meanwhile.
-    replay: Option<(Replay, Outbound<P>)>,
-    /// What was asked for meanwhile.
-    deferred: Vec<Request>,
-    tables_asked: bool,
-    dismissing: bool,
+    state_draft: Option<StateDraft>,
     waits_for_room: bool,
 }
 
@@ -117,59 +109,54 @@ impl<P: OfSocket> Bridge<P> {
         poller.add(requests.descriptor(), Token::Control, true, false)?;
         poller.add(program.descriptor(), Token::Output, true, false)?;
         let began = now();
-        let phase = Phase::Opening(began + TO_READY);
+        let phase = Phase::Opening { until: began + TO_READY, handed: None };
         Ok(Bridge {
             program,
             feeder,
             requests,
             clients,
+            status_line: StatusLine::default(),
             poller,
             manner,
             began,
             time: began,
             ready: Vec::new(),
             faults: Faults::default(),
-            alive_told: 0,
             phase,
-            running: None,
             batch: Batch::new(),
-            handed: None,
             state_files: None,
-            replay: None,
-            deferred: Vec::new(),
-            tables_asked: false,
-            dismissing: false,
+            state_draft: None,
             waits_for_room: false,
         })
     }
 
     /// Runs until `tools/live` ends it, or until a fault; `open` takes the interfaces once they are there.
-    pub fn serve(&mut self, mut open: impl FnMut(Handed) -> Result<Outbound<P>, Fault>) -> Result<(), Fault> {
+    pub fn serve(&mut self, mut open: impl FnMut(Handed) -> Result<Interfaces<P>, Fault>) -> Result<(), Fault> {
         let mut outcome = Ok(());
-        while outcome.is_ok() && self.phase != Phase::Ending {
+        while outcome.is_ok() && !self.phase.is_ending() {
             outcome = self.step(&mut open);
         }
-        if let (Err(fault), Phase::Opening(_)) = (&outcome, self.phase) {
-            let _ = self.program.status(0);
+        if let (Err(fault), Phase::Opening { .. }) = (&outcome, &self.phase) {
+            let _ = self.program.status(Instant::START);
             return Err(fault.clone());
         }
         let rest = self.drain();
         self.feeder.finish_record();
         let status = self.program.status(now() + TO_END).map_err(|fault| Fault::of("the program", &fault))?;
-        self.keep(true);
-        if let Some(running) = &mut self.running {
+        self.keep_last();
+        if let Some(running) = self.phase.still_running() {
             running.tell_counts();
         }
         say(&Notice::Status(status));
         outcome.and(rest)?;
         match status {
             0 => Ok(()),
-            _ => Err(Fault::new(format!("the program ended with status {status}"))),
+            _ => Err(Fault::ProgramFailed(status)),
         }
     }
 
     /// Waits for what comes first, and does what is to be done then.
-    fn step(&mut self, open: &mut impl FnMut(Handed) -> Result<Outbound<P>, Fault>) -> Result<(), Fault> {
+    fn step(&mut self, open: &mut impl FnMut(Handed) -> Result<Interfaces<P>, Fault>) -> Result<(), Fault> {
         self.gather()?;
         self.poller.set_due(self.due())?;
         self.wait(self.most_wait())?;
@@ -183,18 +170,19 @@ impl<P: OfSocket> Bridge<P> {
                 Token::Listener | Token::Client(_) => self.take_client(ready)?,
             }
         }
-        match self.phase {
-            Phase::Ending => return Ok(()),
-            Phase::SettingUp => {
-                if let Some(handed) = self.handed.take() {
+        match &mut self.phase {
+            Phase::Ending(_) => return Ok(()),
+            Phase::SettingUp { handed } => {
+                if let Some(handed) = handed.take() {
                     self.restore(open(handed)?)?;
                 }
             }
             Phase::Replay(_) => self.end_restoring()?,
-            _ => {}
+            Phase::Opening { .. } | Phase::Running(_) => {}
         }
         self.take_time()?;
         self.tell_alive();
+        self.tell_faults();
         self.answer_clients()?;
         self.look();
         self.feed()?;
@@ -202,30 +190,25 @@ impl<P: OfSocket> Bridge<P> {
         self.take_acknowledged()?;
         self.tell_sending()?;
         self.watch_radio()?;
-        self.keep(false);
+        self.keep();
         Ok(())
     }
 
     /// Looks at stations that are silent, where it is time.
     fn look(&mut self) {
-        if let (Phase::Running, Some(running)) = (self.phase, &mut self.running) {
+        if let Some(running) = self.phase.running() {
             running.look(self.time);
         }
     }
 
     /// Lets frames gather where many come, but never where a beacon is awaited. What `tools/live` asks ends that.
     fn gather(&mut self) -> Result<(), Fault> {
-        let running = match &mut self.running {
-            Some(running) if self.phase == Phase::Running && running.is_answered => running,
-            _ => return Ok(()),
-        };
-        match running.batching.until(self.time) {
-            Some(until) => {
-                let until = until.min(running.ticks.due().saturating_sub(BEFORE_TICK));
-                self.poller.gather(self.requests.descriptor(), until)
-            }
-            None => Ok(()),
-        }
+        let time = self.time;
+        let until = self.phase.running().and_then(|running| {
+            let most = running.timing.gathers_until()?;
+            Some(running.batching.until(time)?.min(most))
+        });
+        until.map_or(Ok(()), |until| self.poller.gather(self.requests.descriptor(), until))
     }
 
     /// Waits for what comes first, or for so many milliseconds at most.
@@ -236,33 +219,41 @@ impl<P: OfSocket> Bridge<P> {
             self.ready[..=place].rotate_right(1);
         }
         self.time = now();
-        self.running.iter_mut().for_each(|running| running.wakings += 1);
+        self.phase.still_running().into_iter().for_each(|running| running.reading.wakings += 1);
         Ok(())
     }
 
     /// When something is to be done at the latest.
-    fn due(&self) -> Nanos {
-        match (self.phase, &self.running) {
-            (Phase::Opening(until) | Phase::Replay(until), _) => until,
-            (Phase::Running, Some(running)) => {
-                let is_late = running.ticks.due() <= self.time;
-                let tick = if is_late { self.time + MILLISECOND } else { running.ticks.due() };
-                let alive = (self.manner.tells_alive && running.is_answered).then_some(self.alive_told + ALIVE_EVERY);
-                let look = Some(running.next_look().max(self.time)).filter(|look| running.is_before_beacon(*look));
-                let (radio, sends) = (running.radio.due(self.time), running.sends_next(self.time));
-                let times = [running.beacon_due, running.outbound.air.due(), sends, alive, look, radio];
-                times.into_iter().flatten().fold(tick, Nanos::min)
+    fn due(&self) -> Instant {
+        match &self.phase {
+            Phase::Opening { until, .. } => *until,
+            Phase::Replay(replaying) => replaying.until,
+            Phase::Running(running) => {
+                let tells_alive = self.manner.tells_alive && running.timing.is_answered();
+                let alive = tells_alive.then_some(running.alive_told + ALIVE_EVERY);
+                let first = match running.first_beacon {
+                    FirstBeacon::Awaited { until } => until,
+                    FirstBeacon::Seen | FirstBeacon::Told => None,
+                };
+                let (look, sends) = (running.timing.next_look(self.time), running.sends_next(self.time));
+                let (wakes, radio) = (running.next_wakes(self.time), running.radio.due(self.time));
+                let times = [first, running.outbound.air.due(), sends, alive, look, wakes, radio];
+                times.into_iter().flatten().fold(running.timing.next(self.time), Instant::min)
             }
-            _ => Nanos::MAX,
+            Phase::SettingUp { .. } | Phase::Ending(_) => Instant::NEVER,
         }
     }
 
-    /// How many milliseconds to wait at most: the program doesn't say when it has read something, and a client whose
-    /// answer is written may have asked more before.
+    /// How many milliseconds to wait at most: the program doesn't say when it has read something, a client whose answer
+    /// is written may have asked more before, and others wait for an answer of which a part is made. So does a state.
     fn most_wait(&self) -> Option<u16> {
-        let waits = self.running.as_ref().map_or(self.replay.is_some(), |running| !running.waiting.is_empty());
-        let asks = self.clients.as_ref().map_or(false, Clients::has_questions);
-        (waits && !self.waits_for_room || asks).then_some(1)
+        let waits = match &self.phase {
+            Phase::Running(running) => running.has_to_give(),
+            Phase::Replay(_) => true,
+            _ => false,
+        };
+        let asks = self.status_line.is_being_made() || self.clients.as_ref().map_or(false, Clients::has_questions);
+        (waits && !self.waits_for_room || asks || self.keeps()).then_some(1)
     }
 }
 

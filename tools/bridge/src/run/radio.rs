@@ -1,28 +1,29 @@
 //! The radio while frames go: whether its interface is up, whether it goes on sending, and on which channel it hears.
 use std::{fmt, io};
 
-use super::running::Running;
-use super::{Bridge, Phase};
-use crate::control::faults::{reason, Fault};
+use super::running::{FirstBeacon, Running};
+use super::Bridge;
+use crate::control::faults::Fault;
 use crate::control::log::{self, Level};
-use crate::control::parent::{say, Notice};
+use crate::control::notices::{say, Notice};
 use crate::control::status::OfRadio;
-use crate::inbound::filter::{acknowledged_filter, Drawn};
-use crate::os::clock::{Nanos, MILLISECOND, SECOND};
+use crate::formats::frames::Address;
+use crate::inbound::filter::{acknowledged_filter, monitor_filter, Drawn, Shown};
+use crate::os::clock::{Duration, Instant};
 use crate::os::link::Link;
-use crate::os::sockets::{OfSocket, Port};
+use crate::os::port::{OfSocket, Port};
+use crate::run::beacon_timing::BeaconTiming;
 use crate::run::beacon_watch::{BeaconWatch, Told};
-use crate::run::intervals::Ticks;
 use crate::run::tuning::{Found, Tuning};
 
 /// How often an interface that is down is looked at.
-const LOOK_EVERY: Nanos = 20 * MILLISECOND;
+const LOOK_EVERY: Duration = Duration::from_millis(20);
 
 /// An interface that is down.
 #[derive(Debug)]
 struct Down {
-    since: Nanos,
-    look_due: Nanos,
+    since: Instant,
+    look_due: Instant,
     is_told: bool,
 }
 
@@ -35,15 +36,19 @@ pub(super) struct Radio {
     /// Of which beacons the outcomes are looked at, as long as there is no doubt, and at the moment.
     mostly: Drawn,
     drawn: Drawn,
+    /// What comes of the frames that it shows as sent, and which frames of neighbours come.
+    pub(super) shown: Shown,
+    neighbours: Drawn,
 }
 
 impl Radio {
     /// It was set to this channel, for so many networks with such intervals.
-    pub(super) fn new(channel: u8, networks: usize, ticks: &Ticks) -> Radio {
-        let mostly = Drawn::one_a_second(networks, ticks.length());
-        let beacons = BeaconWatch::new(ticks.length(), networks, mostly == Drawn::Each);
+    pub(super) fn new(channel: u8, networks: usize, timing: &BeaconTiming) -> Radio {
+        let mostly = Drawn::one_a_second(networks, timing.length());
+        let beacons = BeaconWatch::new(timing.length(), networks, mostly == Drawn::Each);
         let tuning = Tuning::new(channel);
-        Radio { beacons, tuning, down: None, mostly, drawn: mostly }
+        let (shown, neighbours) = (Shown::All, Drawn::ONE_IN_HUNDRED);
+        Radio { beacons, tuning, down: None, mostly, drawn: mostly, shown, neighbours }
     }
 
     /// Whether its interface is up, as far as is known.
@@ -52,7 +57,7 @@ impl Radio {
     }
 
     /// When something is to be looked at.
-    pub(super) fn due(&self, time: Nanos) -> Option<Nanos> {
+    pub(super) fn due(&self, time: Instant) -> Option<Instant> {
         let down = self.down.as_ref().map(|down| down.look_due);
         [down, self.beacons.due(time), self.tuning.due()].into_iter().flatten().min()
     }
@@ -72,15 +77,16 @@ impl<P: OfSocket> Bridge<P> {
     /// Looks at the radio, where it is time, and tells what is new.
     pub(super) fn watch_radio(&mut self) -> Result<(), Fault> {
         let time = self.time;
-        let running = match &mut self.running {
-            Some(running) if self.phase == Phase::Running => running,
-            _ => return Ok(()),
+        let running = match self.phase.running() {
+            Some(running) => running,
+            None => return Ok(()),
         };
         running.look_at_link(time)?;
         if let Some(found) = running.radio.tuning.look(time) {
             tell_tuning(found, &running.radio.tuning);
         }
-        if running.has_told_sending {
+        running.look_at_neighbours()?;
+        if running.first_beacon == FirstBeacon::Told {
             running.radio.beacons.look(time).into_iter().for_each(tell_beacons);
             let wants_each = running.radio.beacons.wants_each(time);
             running.look_at_beacons(if wants_each { Drawn::Each } else { running.radio.mostly })?;
@@ -92,13 +98,13 @@ impl<P: OfSocket> Bridge<P> {
 impl<P: Port> Running<P> {
     /// A socket of the radio says that its interface is down. A fault where the interface is gone; else what is to be
     /// sent waits until it is up again, and what waits too long is dropped.
-    pub(super) fn went_down(&mut self, time: Nanos) -> Result<(), Fault> {
+    pub(super) fn went_down(&mut self, time: Instant) -> Result<(), Fault> {
         self.outbound.air.went_down();
         self.look_at_link(time)
     }
 
     /// Looks whether an interface that is down is up again, where it is time.
-    fn look_at_link(&mut self, time: Nanos) -> Result<(), Fault> {
+    fn look_at_link(&mut self, time: Instant) -> Result<(), Fault> {
         if !self.outbound.air.is_down() {
             return Ok(());
         }
@@ -107,20 +113,21 @@ impl<P: Port> Running<P> {
             return Ok(());
         }
         down.look_due = time + LOOK_EVERY;
-        let port = &self.outbound.monitor.gate().port;
+        let port = &self.interfaces.monitor.port;
         match port.link() {
             Ok(Link::Up) => {
-                let after = time.saturating_sub(down.since);
+                let after = time.since(down.since);
                 log::write_event(
                     Level::Notice,
                     format_args!("{} went down, and is up again after {}", port.interface(), Seconds(after)),
                 );
                 self.radio.down = None;
-                self.outbound.radio_came_up(after);
+                self.outbound.air.came_up(after, time);
+                self.interfaces.forget_faults();
             }
             Ok(Link::Gone) => {
                 let fault = io::Error::from_raw_os_error(libc::ENETDOWN);
-                return Err(Fault::new(format!("{}: {}: was it taken down?", port.interface(), reason(&fault))));
+                return Err(Fault::of_interface(port.interface(), &fault));
             }
             Ok(Link::Down) | Err(_) => {
                 if !std::mem::replace(&mut down.is_told, true) {
@@ -144,10 +151,28 @@ impl<P: Port> Running<P> {
         self.filter_acknowledged()
     }
 
+    /// From now on each frame of neighbours comes where it is in doubt on which channel the radio hears, and else some.
+    fn look_at_neighbours(&mut self) -> Result<(), Fault> {
+        let wanted = if self.radio.tuning.wants_each() { Drawn::Each } else { Drawn::ONE_IN_HUNDRED };
+        if wanted == self.radio.neighbours {
+            return Ok(());
+        }
+        self.radio.neighbours = wanted;
+        self.filter_monitor()
+    }
+
+    /// By the monitor interface comes what the networks can use, and what shows how the radio does.
+    pub(super) fn filter_monitor(&mut self) -> Result<(), Fault> {
+        let bssids: Vec<Address> = self.networks.iter().map(|network| network.bssid).collect();
+        let filter = monitor_filter(&bssids, self.radio.shown, self.radio.neighbours);
+        let port = &mut self.interfaces.monitor.port;
+        port.set_filter(&filter).map_err(|fault| Fault::of(format!("{}: no filter", port.interface()), &fault))
+    }
+
     /// By the port for what was acknowledged come those frames, and the beacons that are looked at.
     pub(super) fn filter_acknowledged(&mut self) -> Result<(), Fault> {
         let filter = acknowledged_filter(self.radio.drawn);
-        match self.outbound.acknowledged() {
+        match &mut self.interfaces.acknowledged {
             Some(port) => {
                 port.set_filter(&filter).map_err(|fault| Fault::of(format!("{}: no filter", port.interface()), &fault))
             }
@@ -199,10 +224,10 @@ fn tell_beacons(told: Told) {
 }
 
 /// A time for people.
-struct Seconds(Nanos);
+struct Seconds(Duration);
 
 impl fmt::Display for Seconds {
     fn fmt(&self, to: &mut fmt::Formatter<'_>) -> fmt::Result {
-        write!(to, "{}.{:03} s", self.0 / SECOND, self.0 % SECOND / MILLISECOND)
+        write!(to, "{}.{:03} s", self.0.as_secs(), self.0.subsec_millis())
     }
 }

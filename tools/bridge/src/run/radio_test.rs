@@ -1,12 +1,18 @@
+use std::time::Duration;
+
 use super::*;
 use crate::formats::frames::Address;
+use crate::os::clock::SECOND;
 use crate::testing::samples::STRANGER;
 
 const AIR: Surroundings = Surroundings {
     shows: true,
+    has_sent: false,
     takes: Duration::ZERO,
     interval: 100,
     max_known: 100,
+    quota: 100,
+    silence: 300,
     networks: 2,
     record: None,
     has_other_wire: true,
@@ -63,7 +69,8 @@ fn agree(found: &[(&str, String)]) {
 #[test]
 fn a_monitor_interface_that_is_gone_ends_all() {
     let (outcome, _) = run_with(TWO, AIR, |stage| stage.go(Link::Gone));
-    assert_eq!(outcome, Err(Fault::new("mon0: Network is down: was it taken down?")));
+    let (interface, reason) = ("mon0".to_owned(), "Network is down".to_owned());
+    assert_eq!(outcome, Err(Fault::InterfaceGone { interface, reason }));
 }
 
 /// Beacons go again once it is up. What a station was to get meanwhile is late.

@@ -1,106 +1,95 @@
-//! What comes by the interfaces: it is read, judged, and waits for the program or is left out; and wires that come and
-//! go.
-use super::running::{Ended, Running, Way};
-use super::IN_A_ROW;
-use crate::control::faults::{is_down, reason, Fault};
-use crate::control::log::{self, Level};
+//! What comes by the interfaces: it is read, judged, and waits for the program or is left out.
+use super::running::{FirstBeacon, Running, Way};
+use super::{Bridge, Phase, IN_A_ROW};
+use crate::control::faults::{is_down, Fault};
+use crate::control::notices::{say, Notice};
 use crate::formats::frames::{Address, BEACON};
-use crate::formats::radiotap::reception;
-use crate::inbound::filter::nothing_filter;
+use crate::formats::radiotap::{reception, Reception};
 use crate::inbound::frame::{InboundFrame, Source};
 use crate::inbound::judging::{judge_wired, Judged, LeftOut};
-use crate::os::clock::{wall_now, Nanos, SECOND};
-use crate::os::poller::{Poller, Token};
-use crate::os::sockets::{Batch, Packet, Port, AT_A_TIME};
+use crate::os::batch::Batch;
+use crate::os::clock::{now, wall_now, Instant};
+use crate::os::poller::{Poller, Ready, Token};
+use crate::os::port::{OfSocket, Packet, Port, AT_A_TIME};
+
+impl<P: OfSocket> Bridge<P> {
+    /// Reads the packets that wait at an interface, or learns that it has room.
+    pub(super) fn take_port(&mut self, ready: Ready) -> Result<(), Fault> {
+        let reads = matches!(self.phase, Phase::Running(_));
+        let running = match self.phase.still_running() {
+            Some(running) => running,
+            None => return Ok(()),
+        };
+        if ready.can_write {
+            running.unblock(ready.token);
+        }
+        if ready.can_read && reads {
+            let outcome = running.receive(ready.token, &mut self.batch, self.time);
+            match (outcome, ready.token) {
+                (Err(fault), Token::Wire(place)) => {
+                    running.end_wire(place, &fault, &mut self.batch, &self.poller, self.time)?;
+                    say(&Notice::Down(place));
+                }
+                (outcome, _) => outcome?,
+            }
+        }
+        Ok(())
+    }
+
+    /// Reads the frames that the radio shows as acknowledged, once there may be many; where frames wait for them, they
+    /// are waited for.
+    pub(super) fn take_acknowledged(&mut self) -> Result<(), Fault> {
+        let running = match self.phase.running() {
+            Some(running) => running,
+            None => return Ok(()),
+        };
+        let given = running.outbound.air.sent() - running.reading.sent_before;
+        if running.outbound.air.wants_outcomes(given) {
+            running.receive(Token::Acknowledged, &mut self.batch, self.time)?;
+            running.outbound.air.reports_read();
+            self.send()?;
+        }
+        if let Some(running) = self.phase.running() {
+            let awaits = running.outbound.air.awaits_outcomes();
+            match &running.interfaces.acknowledged {
+                Some(port) if awaits != running.reading.awaits_acknowledged => {
+                    self.poller.change(port.descriptor(), Token::Acknowledged, awaits, false)?;
+                    running.reading.awaits_acknowledged = awaits;
+                }
+                _ => {}
+            }
+        }
+        Ok(())
+    }
+}
 
 impl<P: Port> Running<P> {
-    /// The wire of the network of this place is there, or there again.
-    pub(super) fn take_wire(&mut self, place: usize, port: P, poller: &Poller) -> Result<(), Fault> {
-        let is_down = self.is_down(place);
-        if let Some(wire) = self.outbound.wire(place).filter(|_| !is_down) {
-            poller.remove(wire.port.descriptor())?;
-            wire.port.close();
-        }
-        poller.add(port.descriptor(), Token::Wire(place), true, false)?;
-        self.ended.entry(place).or_insert(Ended { since: None, lost: 0 }).since = None;
-        log::write_event(
-            Level::Notice,
-            format_args!("{}: there, the wire of {} from now on", port.interface(), self.networks[place].bssid),
-        );
-        self.outbound.set_wire(place, port);
-        Ok(())
-    }
-
-    /// The interface of the wire of the network of this place.
-    pub(super) fn wire_of(&self, place: usize) -> Result<String, Fault> {
-        let wire = self.networks.get(place).and_then(|network| network.wire.clone());
-        wire.ok_or_else(|| Fault::new("tools/live handed over the wire of no network"))
-    }
-
-    /// The interface of a wire is down, or gone: that wire ends, and nothing else does. What came by it before is still
-    /// read. What waits to be sent by it is refused and counted by the next flush, and what comes later is lost.
-    pub(super) fn end_wire(
-        &mut self,
-        place: usize,
-        fault: &Fault,
-        batch: &mut Batch,
-        poller: &Poller,
-        time: Nanos,
-    ) -> Result<(), Fault> {
-        let bssid = self.networks[place].bssid;
-        log::write_event(
-            Level::Warning,
-            format_args!(
-                "{fault} The wire of {bssid} has ended: what that network sends there is lost until it is back. All \
-                 else goes on"
-            ),
-        );
-        let hears_no_more = match self.outbound.wire(place) {
-            Some(wire) => wire.port.set_filter(&nothing_filter()).is_ok(),
-            None => false,
-        };
-        if hears_no_more {
-            while self.receive(Token::Wire(place), batch, time).is_ok() && batch.packets().next().is_some() {}
-        }
-        if let Some(wire) = self.outbound.wire(place) {
-            poller.remove(wire.port.descriptor())?;
-            wire.port.close();
-            wire.unblock();
-            wire.settle();
-        }
-        self.ended.entry(place).or_insert(Ended { since: None, lost: 0 }).since = Some(time);
-        Ok(())
-    }
-
     /// Reads what waits at an interface, some batches of it at most.
-    pub(super) fn receive(&mut self, token: Token, batch: &mut Batch, time: Nanos) -> Result<(), Fault> {
+    pub(super) fn receive(&mut self, token: Token, batch: &mut Batch, time: Instant) -> Result<(), Fault> {
         batch.ask_for(self.most_to_ask_for(token));
         for _ in 0..IN_A_ROW {
             let port = match token {
-                Token::Wire(place) => match self.outbound.wire(place) {
+                Token::Wire(place) => match self.interfaces.wire(place) {
                     Some(wire) => &mut wire.port,
                     None => return Ok(()),
                 },
-                Token::Acknowledged => match self.outbound.acknowledged() {
+                Token::Acknowledged => match &mut self.interfaces.acknowledged {
                     Some(port) => port,
                     None => return Ok(()),
                 },
-                _ => &mut self.outbound.monitor.gate().port,
+                _ => &mut self.interfaces.monitor.port,
             };
             let number = match port.receive(batch) {
                 Ok(number) => number,
                 Err(fault) if is_down(&fault) && !matches!(token, Token::Wire(_)) => return self.went_down(time),
-                Err(fault) => {
-                    return Err(Fault::new(format!("{}: {}: was it taken down?", port.interface(), reason(&fault))))
-                }
+                Err(fault) => return Err(Fault::of_interface(port.interface(), &fault)),
             };
             if token != Token::Acknowledged {
                 self.batching.count(number);
             }
-            let wall = wall_now();
+            let arrival = self.reading.arrivals.read(wall_now(), now());
             for packet in batch.packets() {
-                let waited = packet.arrived.map_or(0, |arrived| wall.saturating_sub(arrived));
-                let arrived = time.saturating_sub(waited.min(SECOND));
+                let arrived = arrival(packet.arrived).min(time);
                 match token {
                     Token::Wire(place) => self.take_wired(place, &packet, arrived),
                     _ => self.take_air(&packet, arrived),
@@ -121,21 +110,26 @@ impl<P: Port> Running<P> {
             Token::Monitor => 0,
             Token::Wire(place) => 1 + place,
             _ => {
-                self.sent_before = self.outbound.air.sent();
+                self.reading.sent_before = self.outbound.air.sent();
                 return AT_A_TIME;
             }
         };
-        let before = std::mem::replace(&mut self.read_in[way], self.wakings);
-        if before + 1 == self.wakings || self.batching.are_many() {
+        let before = std::mem::replace(&mut self.reading.read_in[way], self.reading.wakings);
+        if before + 1 == self.reading.wakings || self.batching.are_many() {
             AT_A_TIME
         } else {
             1
         }
     }
 
-    fn take_air(&mut self, packet: &Packet<'_>, arrived: Nanos) {
+    fn take_air(&mut self, packet: &Packet<'_>, arrived: Instant) {
         match self.judge.judge(packet.octets, packet.is_outgoing, packet.is_cut) {
-            Judged::LeftOut(reason) => self.leave_out(Way::Air, reason),
+            Judged::LeftOut(reason) => {
+                if reason == LeftOut::Neighbours {
+                    self.hear_on(reception(packet.octets), arrived);
+                }
+                self.leave_out(Way::Air, reason);
+            }
             Judged::Sent(frame, outcome) => {
                 self.leave_out(Way::Air, LeftOut::Sent);
                 self.see_sent(frame, arrived);
@@ -144,30 +138,39 @@ impl<P: Port> Running<P> {
             }
             Judged::GoesOn(frame) => {
                 let reception = reception(packet.octets);
-                reception.frequency.into_iter().for_each(|frequency| self.radio.tuning.heard(frequency, arrived));
+                self.hear_on(reception, arrived);
                 self.outbound.heard(frame);
-                self.stations.heard(frame, reception, arrived);
-                self.wait_of_air(frame.octets(), arrived);
+                let changes_mode = self.stations.heard(frame, reception, arrived);
+                self.wait_of_air(frame.octets(), changes_mode, arrived);
             }
         }
     }
 
+    /// The radio names the frequency on which it heard a frame, where it names one.
+    fn hear_on(&mut self, reception: Reception, time: Instant) {
+        reception.frequency.into_iter().for_each(|frequency| self.radio.tuning.heard(frequency, time));
+    }
+
     /// The first frame of ours that the radio shows as sent shows that it sends what it is given, and a beacon that it
     /// still does.
-    fn see_sent(&mut self, frame: &[u8], time: Nanos) {
+    fn see_sent(&mut self, frame: &[u8], time: Instant) {
         let is_ours = Address::at(frame, 10).map_or(false, |found| self.outbound.place_of(&found).is_some());
-        if is_ours {
-            self.beacon_due = None;
+        if is_ours && matches!(self.first_beacon, FirstBeacon::Awaited { .. }) {
+            self.first_beacon = FirstBeacon::Seen;
         }
         if is_ours && frame.first() == Some(&BEACON) {
             self.radio.beacons.shown(time);
         }
     }
 
-    fn take_wired(&mut self, place: usize, packet: &Packet<'_>, arrived: Nanos) {
+    fn take_wired(&mut self, place: usize, packet: &Packet<'_>, arrived: Instant) {
         match judge_wired(packet.octets, packet.is_outgoing, packet.had_tag, packet.is_cut) {
             Err(reason) => self.leave_out(Way::Wire(place), reason),
-            Ok(octets) => self.waiting.push(Source::Wire(place), InboundFrame::of_wire(octets, arrived)),
+            Ok(octets) => {
+                let errand = self.stations.wired(place, octets, self.outbound.air.tells_outcomes(), arrived);
+                self.run(errand, arrived);
+                self.waiting.push(Source::Wire(place), InboundFrame::of_wire(octets, arrived));
+            }
         }
         if packet.has_no_checksum {
             self.tell_of_checksums(place);
@@ -180,16 +183,16 @@ impl<P: Port> Running<P> {
 
     /// Reads the interfaces no more.
     pub(super) fn stop_reading(&mut self, poller: &Poller) -> Result<(), Fault> {
-        poller.change(self.outbound.monitor.gate().port.descriptor(), Token::Monitor, false, false)?;
-        if let Some(port) = self.outbound.acknowledged() {
+        poller.change(self.interfaces.monitor.port.descriptor(), Token::Monitor, false, false)?;
+        if let Some(port) = &self.interfaces.acknowledged {
             poller.change(port.descriptor(), Token::Acknowledged, false, false)?;
         }
         for place in (0..self.networks.len()).filter(|place| !self.is_down(*place)).collect::<Vec<_>>() {
-            if let Some(wire) = self.outbound.wire(place) {
+            if let Some(wire) = self.interfaces.wire(place) {
                 poller.change(wire.port.descriptor(), Token::Wire(place), false, false)?;
             }
         }
-        self.outbound.gates().for_each(|gate| {
+        self.interfaces.gates().for_each(|gate| {
             gate.unblock();
             gate.settle();
         });

@@ -3,18 +3,17 @@ use super::{Bridge, Phase};
 use crate::control::faults::Fault;
 use crate::control::parent::Request;
 use crate::handover::state_files::StateFiles;
-use crate::os::sockets::OfSocket;
+use crate::os::port::OfSocket;
 
 impl<P: OfSocket> Bridge<P> {
     pub(super) fn take_requests(&mut self) -> Result<(), Fault> {
         while let Some(request) = self.requests.next()? {
-            match (request, self.phase) {
-                (Request::End, _) => {
-                    self.poller.remove(self.requests.descriptor())?;
-                    self.phase = Phase::Ending;
-                    return Ok(());
+            match (request, &mut self.phase) {
+                (Request::End, phase) => {
+                    phase.end();
+                    return self.poller.remove(self.requests.descriptor());
                 }
-                (request, Phase::Replay(_)) => self.deferred.push(request),
+                (request, Phase::Replay(replaying)) => replaying.deferred.push(request),
                 (request, _) => self.take_request(request)?,
             }
         }
@@ -23,19 +22,19 @@ impl<P: OfSocket> Bridge<P> {
 
     /// Does what `tools/live` asks for, but for the end.
     pub(super) fn take_request(&mut self, request: Request) -> Result<(), Fault> {
-        match (request, self.phase) {
+        match (request, &mut self.phase) {
             (Request::State(files), _) => self.state_files = Some(StateFiles::new(files)),
-            (Request::Open(handed), _) => self.handed = Some(handed),
-            (Request::Wire(place, socket), Phase::Running) => {
-                if let Some(running) = &mut self.running {
-                    let port = P::of(&running.wire_of(place)?, socket);
-                    running.take_wire(place, port, &self.poller)?;
-                }
+            (Request::Open(sockets), Phase::Opening { handed, .. } | Phase::SettingUp { handed }) => {
+                *handed = Some(sockets);
             }
-            (Request::Tables, Phase::Running) => self.tables_asked = true,
-            (Request::Dismiss(places), Phase::Running) => {
-                self.dismissing = true;
-                self.running.iter_mut().for_each(|running| running.stations.dismiss(&places));
+            (Request::Wire(place, socket), Phase::Running(running)) => {
+                let port = P::of(&running.wire_of(place)?, socket);
+                running.take_wire(place, port, &self.poller)?;
+            }
+            (Request::Tables, Phase::Running(running)) => running.tables_asked = true,
+            (Request::Dismiss(places), Phase::Running(running)) => {
+                running.dismisses = true;
+                running.stations.dismiss(&places);
             }
             _ => {}
         }

@@ -1,26 +1,30 @@
 //! The interfaces, and what waits between them and the program.
-use std::collections::BTreeMap;
+use std::collections::{BTreeMap, VecDeque};
 
 use super::radio::Radio;
 use super::Manner;
 use crate::apctl::feeder::Feeder;
-use crate::apctl::records::Event;
+use crate::apctl::protocol::Event;
 use crate::apctl::tables::Tables;
+use crate::control::events::Events;
 use crate::formats::frames::Frame;
 use crate::inbound::batching::Batching;
 use crate::inbound::frame::{InboundFrame, Source};
 use crate::inbound::judging::{Judge, LeftOut};
 use crate::inbound::queue::InboundQueue;
 use crate::network::Network;
-use crate::os::clock::{now, Nanos, SECOND};
+use crate::os::clock::{now, wall_now, Arrivals, Duration, Instant, SECOND};
+use crate::os::interfaces::Interfaces;
 use crate::os::poller::Token;
-use crate::os::sockets::Port;
+use crate::os::port::Port;
+use crate::outbound::air::hand_back_pace::Pace;
 use crate::outbound::Outbound;
-use crate::run::intervals::{BeaconDelays, Ticks};
+use crate::run::beacon_timing::BeaconTiming;
+use crate::run::wake_timing::WakeTiming;
 use crate::stations::{Errand, Stations};
 
 /// Within this time the first beacon has to be seen as sent.
-pub(super) const TO_BEACON: Nanos = SECOND;
+pub(super) const TO_BEACON: Duration = SECOND;
 
 /// By what a frame came: the air, or the wire of the network of this place.
 #[derive(Debug, Clone, Copy, PartialEq, Eq, PartialOrd, Ord)]
@@ -33,7 +37,7 @@ pub enum Way {
 #[derive(Debug)]
 pub struct Ended {
     /// Since when, where it isn't back.
-    pub(super) since: Option<Nanos>,
+    pub(super) since: Option<Instant>,
     /// How many frames of its network were lost while it was down.
     pub(super) lost: u64,
 }
@@ -45,35 +49,25 @@ pub struct Given {
     pub(super) wires: u64,
     pub(super) ticks: u64,
     pub(super) tables: u64,
+    pub(super) handed_back: u64,
     pub(super) without_checksums: u64,
 }
 
-/// The interfaces, and what waits between them and the program.
-pub struct Running<P> {
-    pub(super) outbound: Outbound<P>,
-    pub(super) networks: Vec<Network>,
-    pub(super) judge: Judge,
-    pub(super) waiting: InboundQueue,
-    pub(super) batching: Batching,
-    pub(super) stations: Stations,
-    pub(super) tables: Tables,
-    pub(super) ticks: Ticks,
-    /// When the last beginning of an interval was said, whether a beacon came since, and of how many networks none did.
-    pub(super) said_tick: Nanos,
-    pub(super) is_answered: bool,
-    pub(super) beacons_awaited: usize,
-    /// When stations are looked at next that are silent.
-    pub(super) look_due: Nanos,
-    pub(super) beacons: BeaconDelays,
-    /// Until when the first beacon has to be seen as sent, while none was.
-    pub(super) beacon_due: Option<Nanos>,
-    pub(super) has_told_sending: bool,
-    pub(super) radio: Radio,
-    pub(super) given: Given,
-    pub(super) left_out: BTreeMap<(Way, LeftOut), u64>,
-    pub(super) has_told_drops: bool,
-    /// The wires that have ended once, by the places of their networks.
-    pub(super) ended: BTreeMap<usize, Ended>,
+/// Whether the first beacon was seen as sent.
+#[derive(Debug, Clone, Copy, PartialEq, Eq)]
+pub(super) enum FirstBeacon {
+    /// It has to be by this time. None is said where an earlier bridge saw the radio send as it is set up: if it doesn't
+    /// now, the channel is busy, or `tools/live` sets it up anew.
+    Awaited { until: Option<Instant> },
+    /// It was.
+    Seen,
+    /// It was, and `tools/live` was told so.
+    Told,
+}
+
+/// What is known of the interfaces that are read.
+#[derive(Debug)]
+pub(super) struct Reading {
     /// How often the bridge was woken, and in which waking the air and each wire were read last.
     pub(super) wakings: u64,
     pub(super) read_in: Vec<u64>,
@@ -81,37 +75,97 @@ pub struct Running<P> {
     pub(super) sent_before: u64,
     /// Whether one waits for frames that were acknowledged.
     pub(super) awaits_acknowledged: bool,
+    /// When packets came.
+    pub(super) arrivals: Arrivals,
+}
+
+impl Reading {
+    /// Nothing was read yet of the air and of the wires of so many networks.
+    fn new(networks: usize) -> Reading {
+        Reading {
+            wakings: 0,
+            read_in: vec![0; 1 + networks],
+            sent_before: 0,
+            awaits_acknowledged: false,
+            arrivals: Arrivals::default(),
+        }
+    }
+}
+
+/// The interfaces, and what waits between them and the program.
+pub struct Running<P> {
+    pub(super) interfaces: Interfaces<P>,
+    pub(super) outbound: Outbound,
+    pub(super) networks: Vec<Network>,
+    pub(super) judge: Judge,
+    pub(super) waiting: InboundQueue,
+    pub(super) batching: Batching,
+    pub(super) stations: Stations,
+    pub(super) events: Events,
+    pub(super) tables: Tables,
+    pub(super) timing: BeaconTiming,
+    pub(super) first_beacon: FirstBeacon,
+    pub(super) radio: Radio,
+    pub(super) given: Given,
+    pub(super) left_out: BTreeMap<(Way, LeftOut), u64>,
+    pub(super) has_told_drops: bool,
+    /// The wires that have ended once, by the places of their networks.
+    pub(super) ended: BTreeMap<usize, Ended>,
+    pub(super) reading: Reading,
+    /// Whether wires learn which stations join, and of each network how often its wire did.
+    pub(super) tells_wires: bool,
+    pub(super) updates: Vec<u64>,
+    pub(super) update_paces: Vec<Pace>,
+    /// Whether the last events that were recorded are units that go back to the program.
+    pub(super) hands_back: bool,
+    /// Which stations wait for beacons before the program is told that they wake.
+    pub(super) wakes: WakeTiming,
+    /// Units by which stations that doze are asked whether they are there, with the places of their networks.
+    pub(super) questions: VecDeque<(usize, Vec<u8>)>,
+    /// Whether people have asked for the tables, and the program wasn't asked for them yet.
+    pub(super) tables_asked: bool,
+    /// Whether stations have to join again, and `tools/live` wasn't told yet that all were told so.
+    pub(super) dismisses: bool,
+    /// When `tools/live` was told last that the program answers.
+    pub(super) alive_told: Instant,
+    /// Whether all ends, and no beacon interval begins any more.
+    pub(super) is_ending: bool,
 }
 
 impl<P: Port> Running<P> {
-    pub(super) fn new(outbound: Outbound<P>, networks: Vec<Network>, manner: &Manner) -> Running<P> {
-        let start = now();
-        let ticks = Ticks::new(start, manner.setting.interval);
+    pub(super) fn new(interfaces: Interfaces<P>, manner: &Manner) -> Running<P> {
+        let (start, networks) = (now(), manner.networks.clone());
+        let networks_len = networks.len();
+        let timing = BeaconTiming::new(start, manner.setting.interval);
+        let reading = Reading::new(networks.len());
         Running {
-            radio: Radio::new(manner.setting.channel, networks.len(), &ticks),
-            outbound,
+            radio: Radio::new(manner.setting.channel, networks.len(), &timing),
+            interfaces,
+            outbound: Outbound::new(networks.clone()),
             judge: Judge::new(networks.iter().map(|network| network.bssid)),
             waiting: InboundQueue::new(networks.len()),
             batching: Batching::default(),
             stations: Stations::new(&networks, manner.most_silence),
+            events: Events::new(networks.iter().map(|network| network.bssid).collect(), wall_now()),
             tables: Tables::new(networks.len()),
-            read_in: vec![0; 1 + networks.len()],
             networks,
-            ticks,
-            said_tick: start,
-            is_answered: false,
-            beacons_awaited: 0,
-            look_due: start,
-            beacons: BeaconDelays::default(),
-            beacon_due: Some(start + TO_BEACON),
-            has_told_sending: false,
+            timing,
+            first_beacon: FirstBeacon::Awaited { until: (!manner.has_sent).then_some(start + TO_BEACON) },
             given: Given::default(),
             left_out: BTreeMap::new(),
             has_told_drops: false,
             ended: BTreeMap::new(),
-            wakings: 0,
-            sent_before: 0,
-            awaits_acknowledged: false,
+            reading,
+            tells_wires: manner.tells_wires,
+            updates: vec![0; networks_len],
+            update_paces: vec![Pace::default(); networks_len],
+            hands_back: false,
+            wakes: WakeTiming::new(),
+            questions: VecDeque::new(),
+            tables_asked: false,
+            dismisses: false,
+            alive_told: Instant::START,
+            is_ending: false,
         }
     }
 
@@ -120,29 +174,40 @@ impl<P: Port> Running<P> {
         self.ended.get(&place).map_or(false, |ended| ended.since.is_some())
     }
 
+    /// Does what is to be done of stations that are silent, or wait for beacons, where it is time.
+    pub(super) fn look(&mut self, time: Instant) {
+        if self.timing.looks(time) {
+            let errands = self.stations.look(time);
+            self.run(errands, time);
+        }
+        let due = self.wakes.take_due(self.timing.interval(time));
+        self.end_waits_for_beacons(due);
+    }
+
     /// Sends and says what the bridge has to by itself.
-    pub(super) fn run(&mut self, errands: Vec<Errand>, time: Nanos) {
+    pub(super) fn run(&mut self, errands: impl IntoIterator<Item = Errand>, time: Instant) {
         for errand in errands {
             match errand {
                 Errand::Send { place, frame, retries } => self.outbound.air.send_own(place, frame, retries, time),
-                Errand::Say(octets) => self.wait_of_air(&octets, time),
+                Errand::Say(octets) => self.wait_of_air(&octets, false, time),
+                Errand::Ask { place, frame } => self.questions.push_back((place, frame)),
             }
         }
     }
 
-    /// A frame of the air waits for the program.
-    pub(super) fn wait_of_air(&mut self, octets: &[u8], arrived: Nanos) {
+    /// A frame of the air waits for the program, and changes the mode of its station or doesn't.
+    pub(super) fn wait_of_air(&mut self, octets: &[u8], changes_mode: bool, arrived: Instant) {
         if let Some(frame) = Frame::of(octets) {
             let source = Source::of_air(self.judge.place_of(&frame.receiver()));
-            self.waiting.push(source, InboundFrame::of_air(frame, arrived));
+            self.waiting.push(source, InboundFrame::of_air(frame, changes_mode, arrived));
         }
     }
 
     pub(super) fn unblock(&mut self, token: Token) {
         match token {
-            Token::Monitor => self.outbound.monitor.gate().unblock(),
+            Token::Monitor => self.interfaces.monitor.unblock(),
             Token::Wire(place) => {
-                if let Some(wire) = self.outbound.wire(place) {
+                if let Some(wire) = self.interfaces.wire(place) {
                     wire.unblock();
                 }
             }
@@ -150,18 +215,54 @@ impl<P: Port> Running<P> {
         }
     }
 
+    /// Says to the program what waits, as far as it has read what was said before; answers how much that was.
+    pub(super) fn give(&mut self, feeder: &mut Feeder, time: Instant) -> usize {
+        let mut said = 0;
+        let room = if self.has_to_give() { feeder.room() } else { 0 };
+        while said < room && self.feed_next(feeder, time) {
+            said += 1;
+        }
+        self.end_handing_back(feeder);
+        said
+    }
+
+    /// Whether something waits for the program, be it for what goes before.
+    pub(super) fn has_rest(&self) -> bool {
+        self.has_to_give() || self.waiting.has_held()
+    }
+
+    /// Says what is next to the program: what goes back to it before what waits. Answers whether there was something.
+    pub(super) fn feed_next(&mut self, feeder: &mut Feeder, time: Instant) -> bool {
+        if self.hand_back(feeder) {
+            return true;
+        }
+        self.end_handing_back(feeder);
+        while let Some((source, frame)) = self.waiting.pop(time) {
+            match self.wakes_too_late(&frame, time) {
+                Some(member) => self.wait_for_beacons(member, source, frame, time),
+                None => {
+                    self.feed(source, &frame, feeder, time);
+                    return true;
+                }
+            }
+        }
+        false
+    }
+
     /// Says a frame to the program.
-    pub(super) fn feed(&mut self, source: Source, frame: &InboundFrame, feeder: &mut Feeder, time: Nanos) {
+    pub(super) fn feed(&mut self, source: Source, frame: &InboundFrame, feeder: &mut Feeder, time: Instant) {
         match source {
             Source::AirForAll | Source::Air(_) => {
                 self.given.air += 1;
                 self.stations.fed(&frame.octets, time);
-                feeder.feed(Event::Air(&frame.octets))
+                feeder.feed(Event::Air(&frame.octets));
+                self.take_moves(feeder, time);
             }
             Source::Wire(place) => {
                 self.given.wires += 1;
                 feeder.feed(Event::Wire(self.networks[place].bssid, &frame.octets))
             }
         }
+        self.note_kept(source, frame);
     }
 }

@@ -1,17 +1,19 @@
 //! Stations that an earlier bridge served stay: the program is told of them before frames go, and what the next bridge
 //! has to know of them is left for it (`handover`).
+use super::phase::{Phase, Replaying};
 use super::running::Running;
-use super::{Bridge, Phase, TO_READY};
+use super::{Bridge, TO_READY};
 use crate::control::faults::Fault;
 use crate::control::log::{self, Level};
 use crate::formats::frames::Frame;
 use crate::handover::replay::{Replay, Restored};
 use crate::handover::state::{self, NetworkState, NotUsed, Setting, State};
+use crate::handover::state_draft::{Made, StateDraft};
 use crate::handover::state_files::StateFiles;
 use crate::network::Network;
-use crate::os::clock::{now, Nanos};
-use crate::os::sockets::{OfSocket, Port};
-use crate::outbound::Outbound;
+use crate::os::clock::{boot_now, now, Instant};
+use crate::os::interfaces::Interfaces;
+use crate::os::port::{OfSocket, Port};
 
 /// Marks in the record around the events by which a new program comes to know stations: what it answers to these was
 /// swallowed.
@@ -20,20 +22,20 @@ pub(super) const RESTORED_TO: &str = "restored: up to here";
 
 impl<P: OfSocket> Bridge<P> {
     /// The interfaces are there. Where an earlier bridge has left stations, the program is told of these first.
-    pub(super) fn restore(&mut self, outbound: Outbound<P>) -> Result<(), Fault> {
+    pub(super) fn restore(&mut self, interfaces: Interfaces<P>) -> Result<(), Fault> {
         let state = match &mut self.state_files {
-            Some(state_files) => left_state(state_files, &self.manner.setting, self.time),
+            Some(state_files) => left_state(state_files, &self.manner.setting, boot_now()),
             None => None,
         };
-        let replay = state.and_then(|state| restoring_of(&state, outbound.networks()));
+        let replay = state.and_then(|state| restoring_of(&state, &self.manner.networks));
         match replay {
             Some(replay) => {
                 self.feeder.remark(RESTORED_FROM);
-                self.replay = Some((replay, outbound));
-                self.phase = Phase::Replay(self.time + TO_READY);
+                let until = self.time + TO_READY;
+                self.phase = Phase::Replay(Box::new(Replaying { until, replay, interfaces, deferred: Vec::new() }));
                 Ok(())
             }
-            None => self.begin(outbound),
+            None => self.begin(interfaces),
         }
     }
 
@@ -41,10 +43,10 @@ impl<P: OfSocket> Bridge<P> {
     /// said.
     pub(super) fn feed_replay(&mut self) -> usize {
         let mut said = 0;
-        if let Some((replay, _)) = &mut self.replay {
+        if let Phase::Replay(replaying) = &mut self.phase {
             let room = self.feeder.room();
             while said < room {
-                match replay.next() {
+                match replaying.replay.next() {
                     Some(event) => self.feeder.feed(event.event()),
                     None => break,
                 }
@@ -56,44 +58,64 @@ impl<P: OfSocket> Bridge<P> {
 
     /// Frames go once the program has answered all that was restored.
     pub(super) fn end_restoring(&mut self) -> Result<(), Fault> {
-        let (replay, outbound) = match self.replay.take() {
-            Some(found) if found.0.is_done() => found,
-            unfinished => {
-                self.replay = unfinished;
-                return Ok(());
-            }
+        let Replaying { replay, interfaces, deferred, .. } = match self.phase.take_replayed() {
+            Some(replayed) => replayed,
+            None => return Ok(()),
         };
         self.feeder.remark(RESTORED_TO);
         let restored = replay.restored();
         self.time = now();
-        self.begin(outbound)?;
-        if let Some(running) = &mut self.running {
+        self.begin(interfaces)?;
+        if let Some(running) = self.phase.running() {
             running.restore(&restored, self.time);
         }
-        let deferred = std::mem::take(&mut self.deferred);
         deferred.into_iter().try_for_each(|request| self.take_request(request))
     }
 
-    /// Leaves for the next bridge what it has to know of stations, where it is time, or at the end.
-    pub(super) fn keep(&mut self, is_last: bool) {
-        let (state_files, running) = match (&mut self.state_files, &mut self.running) {
+    /// Leaves for the next bridge what it has to know of stations, as it is at the end.
+    pub(super) fn keep_last(&mut self) {
+        if let (Some(state_files), Some(running)) = (&mut self.state_files, self.phase.still_running()) {
+            let (changes, time) = (running.stations.changes(), now());
+            state_files.write(&running.last_state(&self.manner.setting, time).text(), changes, time);
+        }
+    }
+
+    /// Goes on by a step with what is left for the next bridge, where it is time.
+    pub(super) fn keep(&mut self) {
+        let (state_files, running) = match (&mut self.state_files, self.phase.still_running()) {
             (Some(state_files), Some(running)) => (state_files, running),
             _ => return,
         };
-        let changes = running.stations.changes();
-        if is_last || state_files.is_due(changes, self.time) {
-            let written = now();
-            state_files.write(&running.state(&self.manner.setting, written, is_last).text(), changes, written);
+        if state_files.is_writing() {
+            return state_files.write_on(self.time);
         }
+        let changes = running.stations.changes();
+        let draft = match self.state_draft.take() {
+            None if !state_files.is_due(changes, self.time) => return,
+            None => StateDraft::new(&self.manner.setting, boot_now(), running.networks.len(), changes),
+            Some(draft) => draft,
+        };
+        match draft.step(|place| running.state_of(place, None)) {
+            Made::Part(draft) => self.state_draft = Some(draft),
+            Made::Whole { text, changes } => state_files.begin(text, changes),
+        }
+    }
+
+    /// Whether a part of what is left for the next bridge is still to be made or written.
+    pub(super) fn keeps(&self) -> bool {
+        self.state_draft.is_some() || self.state_files.as_ref().map_or(false, StateFiles::is_writing)
     }
 }
 
 impl<P: Port> Running<P> {
     /// The program knows stations that joined before.
-    pub(super) fn restore(&mut self, restored: &Restored, time: Nanos) {
-        for ((place, _), kept) in &restored.stay {
+    pub(super) fn restore(&mut self, restored: &Restored, time: Instant) {
+        for ((place, station), kept) in &restored.stay {
             if let Some(request) = Frame::of(&kept.request) {
                 self.outbound.air.restore(*place, request);
+            }
+            if kept.dozes {
+                self.outbound.air.has_dozed(*place, *station, time);
             }
         }
         for (place, network) in self.networks.iter().enumerate() {
@@ -111,24 +133,30 @@ impl<P: Port> Running<P> {
         self.run(errands, time);
     }
 
-    /// What a new program has to know of stations.
-    fn state(&mut self, setting: &Setting, written: Nanos, is_last: bool) -> State {
-        let tables = self.tables.last().filter(|_| is_last && self.tables.are_new(written));
-        let of_network = |(place, network): (usize, &Network)| NetworkState {
+    /// What a new program has to know of all stations, at the end.
+    fn last_state(&mut self, setting: &Setting, time: Instant) -> State {
+        let tables = self.tables.last().filter(|_| self.tables.are_new(time));
+        let kept = |place: usize| tables.and_then(|tables| tables.get(place)).and_then(|table| table.count("kept"));
+        let networks = (0..self.networks.len()).map(|place| self.state_of(place, kept(place))).collect();
+        State { setting: setting.clone(), written: boot_now(), is_last: true, networks }
+    }
+
+    /// The same of a network, with the number of units that it keeps where that is known.
+    fn state_of(&self, place: usize, units: Option<u64>) -> NetworkState {
+        let network = &self.networks[place];
+        NetworkState {
             bssid: network.bssid,
             ssid: network.ssid.clone(),
             rates: network.rates.clone(),
-            units: tables.and_then(|tables| tables.get(place)).and_then(|table| table.count("kept")),
+            units,
             waiting: self.stations.told_of(place),
             stations: self.stations.kept(place),
-        };
-        let networks = self.networks.iter().enumerate().map(of_network).collect();
-        State { setting: setting.clone(), written, is_last, networks }
+        }
     }
 }
 
 /// What an earlier bridge has left; where it isn't used, that is told.
-pub(super) fn left_state(state_files: &mut StateFiles, setting: &Setting, now: Nanos) -> Option<State> {
+pub(super) fn left_state(state_files: &mut StateFiles, setting: &Setting, now: Instant) -> Option<State> {
     let chosen = match state_files.left() {
         Ok(texts) => state::choose(&texts, setting, now),
         Err(_) => Err(NotUsed::Damaged),

@@ -7,15 +7,17 @@ use crate::control::clients::Question;
 use crate::control::faults::tell;
 use crate::control::status::{error, Faults, Named, Status};
 use crate::inbound::frame::Source;
-use crate::os::clock::Nanos;
-use crate::os::sockets::Port;
+use crate::os::clock::Instant;
+use crate::os::port::Port;
 
 impl<P: Port> Running<P> {
-    /// The answer to a question, or `None` where the program has to be asked first; a station is kicked for root alone.
-    pub(super) fn answer(&mut self, question: Question, is_root: bool, time: Nanos) -> Option<String> {
+    /// The answer to a question, or `None` where whoever asks waits; a station is kicked for root alone.
+    pub(super) fn answer(&mut self, question: Question, is_root: bool, time: Instant) -> Option<String> {
         match question {
-            Question::Status => None,
-            Question::Unknown => Some(error("no such question: there are `status` and `kick BSSID ADDRESS`")),
+            Question::Status | Question::Events { .. } => None,
+            Question::Unknown => {
+                Some(error("no such question: there are `status`, `events NUMBER` and `kick BSSID ADDRESS`"))
+            }
             Question::Kick { .. } if !is_root => Some(error("only root may kick a station")),
             Question::Kick { bssid, station } => match self.stations.kick(bssid, station, time) {
                 Err(fault) => Some(error(&fault)),
@@ -27,8 +29,15 @@ impl<P: Port> Running<P> {
         }
     }
 
+    /// What happened to stations waits for whoever follows it.
+    pub(super) fn gather_events(&mut self) {
+        for (place, time, happened) in self.stations.take_events() {
+            self.events.push(place, time, happened);
+        }
+    }
+
     /// Takes a line of a table, and answers whether it is to be shown; the stations are those of whole tables.
-    pub(super) fn take_table_line(&mut self, line: &str, time: Nanos) -> bool {
+    pub(super) fn take_table_line(&mut self, line: &str, time: Instant) -> bool {
         let before = self.tables.came();
         let is_shown = self.tables.take(line, time);
         if self.tables.came() != before {
@@ -44,12 +53,11 @@ impl<P: Port> Running<P> {
     pub(super) fn status<'a>(
         &'a mut self,
         manner: &'a Manner,
-        began: Nanos,
+        began: Instant,
         faults: &'a Faults,
         feeder: &'a Feeder,
-        now: Nanos,
+        now: Instant,
     ) -> Status<'a> {
-        self.beacons.missed = self.ticks.missed();
         let (drops, left_out) = (self.drops(), self.left_out());
         Status {
             phy: &manner.setting.phy,
@@ -59,11 +67,12 @@ impl<P: Port> Running<P> {
             began,
             faults,
             record: feeder.record(),
-            beacons: &self.beacons,
+            beacons: self.timing.delays(),
             drops,
             left_out,
             networks: &self.networks,
             wires_down: (0..self.networks.len()).map(|place| self.ended.get(&place)?.since).collect(),
+            updates: &self.updates,
             accounts: self.outbound.air.accounts(),
             table: self.stations.table(),
             tables: &self.tables,
@@ -78,7 +87,7 @@ impl<P: Port> Running<P> {
             waiting.map(|(source, reason, number)| (format!("{}: {reason}", self.name_of(source)), number)).collect();
         found.extend(self.outbound.counts().into_iter().filter(|(what, _)| !what.starts_with("sent ")));
         found.extend(self.lost_on_wires());
-        for gate in self.outbound.gates() {
+        for gate in self.interfaces.gates() {
             let number = gate.port.count_dropped();
             if number > 0 {
                 found.insert(format!("{}: dropped by the kernel", gate.port.interface()), number);
@@ -138,8 +147,15 @@ impl<P: Port> Running<P> {
 
     /// Says what was done.
     pub(super) fn tell_counts(&mut self) {
-        let Given { air, wires, ticks, tables, without_checksums } = self.given;
-        let given = [("A", air), ("I", tables), ("T", ticks), ("W", wires), ("without checksums", without_checksums)];
+        let Given { air, wires, ticks, tables, handed_back, without_checksums } = self.given;
+        let given = [
+            ("A", air),
+            ("I", tables),
+            ("T", ticks),
+            ("W", wires),
+            ("W, of units that went back", handed_back),
+            ("without checksums", without_checksums),
+        ];
         for (kind, number) in given.into_iter().filter(|(_, number)| *number > 0) {
             tell(format!("{number} lines given: {kind}"));
         }
@@ -151,13 +167,11 @@ impl<P: Port> Running<P> {
         for (source, reason, number) in dropped {
             tell(format!("{number} dropped of {}: {reason}", self.name_of(source)));
         }
-        if !self.waiting.is_empty() {
-            tell(format!("{} frames still waited for the program", self.waiting.len()));
-        }
+        self.waiting.rest().into_iter().for_each(tell);
         for (what, number) in self.outbound.counts().into_iter().chain(self.lost_on_wires()) {
             tell(format!("{number} frames {what}"));
         }
-        for gate in self.outbound.gates() {
+        for gate in self.interfaces.gates() {
             let (number, interface) = (gate.port.count_dropped(), gate.port.interface());
             if number > 0 {
                 tell(format!(

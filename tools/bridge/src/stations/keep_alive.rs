@@ -1,28 +1,30 @@
 //! Which stations are asked whether they are there, since nothing was heard of them for long, and which are forgotten.
 //!
-//! Stations are looked at every so often at a time at which no beacon is due; while one dozes, behind a beacon of its
-//! network after which units for the group may come: then it listens (IEEE Std 802.11-2016, 11.2.3.6). An
-//! acknowledgement is an answer, as any frame is. Questions go out a few at a time: each that nobody acknowledges takes
-//! some 8 ms of the air at 1 Mb/s. Networks share this pace: the one whose last frame went longest ago is looked at
-//! first. So one that has thousands of silent stations takes no more of it, where others want it, than its turns.
+//! Stations are looked at every so often at a time at which no beacon is due. An acknowledgement is an answer, as any
+//! frame is. One that dozes is asked by a unit, which the program keeps for it: it learns of that by the TIM, and its
+//! poll or its waking is the answer. Questions go out a few at a time: each that nobody acknowledges takes some 8 ms of
+//! the air at 1 Mb/s. Networks share this pace: the one whose last frame went longest ago is looked at first. So one
+//! that has thousands of silent stations takes no more of it, where others want it, than its turns.
 //!
 //! Where a network knows nearly as many stations as it may, those that authenticated and didn't associate are given up
 //! soon and unasked, so that made-up addresses don't keep newcomers out: who is there associates at once, or else
-//! authenticates again.
+//! authenticates again. A queue has one entry for each station that is known, and none for those that left.
 use std::collections::BTreeSet;
 
 use crate::formats::frames::Address;
-use crate::os::clock::{Nanos, MILLISECOND, SECOND};
+use crate::os::clock::{Duration, Instant, SECOND};
 use crate::stations::news::Forgotten;
 use crate::stations::station::{Asked, Member, State, Station};
 use crate::stations::table::StationTable;
 
 /// After how long those are asked that are authenticated only, if not sooner.
-pub const AUTHENTICATED: Nanos = 60 * SECOND;
+const AUTHENTICATED: Duration = Duration::from_secs(60);
 /// How often stations are looked at, where no beacon is in between.
-pub const EVERY: Nanos = 100 * MILLISECOND;
+pub const EVERY: Duration = Duration::from_millis(100);
 /// How long an answer is awaited.
-const TO_ANSWER: Nanos = SECOND;
+const TO_ANSWER: Duration = SECOND;
+/// The same of one that dozes, which listens at some beacons.
+const TO_ANSWER_OF_DOZING: Duration = Duration::from_secs(5);
 /// How often a station is asked, once it is associated and while it is authenticated only.
 const QUESTIONS: u32 = 3;
 const QUESTIONS_AUTHENTICATED: u32 = 1;
@@ -31,11 +33,11 @@ const MOST_AT_A_TIME: u32 = 2;
 /// How many stations of a queue are looked at in a row at most.
 const MOST_LOOKED_AT: u32 = 64;
 /// When a station is looked at again that should have left: what was said to the program may have been dropped.
-const AGAIN: Nanos = 5 * SECOND;
+const AGAIN: Duration = Duration::from_secs(5);
 /// A network is nearly full where so many tenths are known of the stations that it may know.
 const NEARLY_FULL: usize = 9;
 /// After how long those that are authenticated only are given up where their network is nearly full.
-pub const TO_ASSOCIATE: Nanos = 3 * SECOND;
+const TO_ASSOCIATE: Duration = Duration::from_secs(3);
 /// How large a part of a network's stations is given up at a time at most.
 const PARTS: usize = 8;
 
@@ -44,6 +46,8 @@ const PARTS: usize = 8;
 pub enum Step {
     /// It is asked.
     Ask(Address),
+    /// It dozes, and is asked by a unit.
+    AskByUnit(Address),
     /// It is forgotten, for this reason; it is told so or not.
     Forget { station: Address, why: Forgotten, tells: bool },
 }
@@ -53,7 +57,6 @@ pub enum Step {
 enum Queue {
     Authenticated,
     Associated,
-    Dozing,
 }
 
 impl Queue {
@@ -61,7 +64,6 @@ impl Queue {
     fn of(station: &Station) -> Queue {
         match station.state {
             State::Authenticated => Queue::Authenticated,
-            State::Associated(_) if station.dozes => Queue::Dozing,
             State::Associated(_) => Queue::Associated,
         }
     }
@@ -74,16 +76,16 @@ struct Watched {
     last_taken: u64,
     max_known: usize,
     /// When the network was nearly full last.
-    nearly_full: Option<Nanos>,
+    nearly_full: Option<Instant>,
     /// Of each queue.
-    queues: [BTreeSet<(Nanos, Address)>; 3],
+    queues: [BTreeSet<(Instant, Address)>; 2],
 }
 
 /// What is found of a station that is due.
 #[derive(Debug, Clone, Copy, PartialEq, Eq)]
 enum Found {
     /// It is to be looked at again then, and what is done until then.
-    Again { due: Nanos, times: u32, step: Option<Step> },
+    Again { due: Instant, times: u32, step: Option<Step> },
     /// Its turn comes later.
     Later(Queue),
     /// Enough were asked at a time.
@@ -93,14 +95,14 @@ enum Found {
 /// How many frames went to stations that may be gone, and how many may go until when.
 #[derive(Debug, Default)]
 struct Pace {
-    until: Nanos,
+    until: Instant,
     left: u32,
     taken: u64,
 }
 
 impl Pace {
     /// Whether one more may go now; answers its number among all.
-    fn take(&mut self, now: Nanos) -> Option<u64> {
+    fn take(&mut self, now: Instant) -> Option<u64> {
         if now >= self.until {
             (self.until, self.left) = (now + EVERY, MOST_AT_A_TIME);
         }
@@ -112,25 +114,29 @@ impl Pace {
 
 /// The stations of all networks.
 #[derive(Debug)]
-pub struct KeepAlive {
+pub(super) struct KeepAlive {
     /// After how long those are asked that are associated; `None` where nobody is asked.
-    most: Option<Nanos>,
+    most: Option<Duration>,
     networks: Vec<Watched>,
     pace: Pace,
 }
 
 impl KeepAlive {
     /// For networks that know so many stations at most; `None` asks nobody.
-    pub fn new(most: Option<Nanos>, max_known: impl IntoIterator<Item = usize>) -> KeepAlive {
+    pub fn new(most: Option<Duration>, max_known: impl IntoIterator<Item = usize>) -> KeepAlive {
         let watched = |max_known| Watched { last_taken: 0, max_known, nearly_full: None, queues: Default::default() };
         let networks = max_known.into_iter().map(watched).collect();
         KeepAlive { most, networks, pace: Pace::default() }
     }
 
-    /// What is to be done at a time at which no beacon is due, of stations of the networks of these places, of each of
-    /// which it is known whether stations that doze listen now.
-    pub fn look(&mut self, table: &mut StationTable, listen: &[bool], now: Nanos) -> Vec<(usize, Step)> {
+    /// What is to be done at a time at which no beacon is due, of stations of the networks of these places.
+    pub fn look(&mut self, table: &mut StationTable, now: Instant) -> Vec<(usize, Step)> {
         let mut steps = Vec::new();
+        for ((place, station), due) in table.take_left() {
+            for queue in &mut self.networks[place].queues {
+                queue.remove(&(due, station));
+            }
+        }
         for member in table.take_entered() {
             if let Some(most) = self.most {
                 let heard = table.station(&member).map_or(now, |station| station.heard);
@@ -139,13 +145,9 @@ impl KeepAlive {
         }
         for place in self.in_turn() {
             self.give_up(table, place, now, &mut steps);
-            for queue in [Queue::Authenticated, Queue::Associated, Queue::Dozing] {
-                match self.most {
-                    Some(most) if queue != Queue::Dozing || listen.get(place) == Some(&true) => {
-                        self.look_at(table, (place, queue), most, now, &mut steps);
-                    }
-                    _ => {}
-                }
+            if let Some(most) = self.most {
+                self.look_at(table, (place, Queue::Authenticated), most, now, &mut steps);
+                self.look_at(table, (place, Queue::Associated), most, now, &mut steps);
             }
         }
         steps
@@ -159,7 +161,7 @@ impl KeepAlive {
     }
 
     /// Whether a network may have one more frame go now to a station that may be gone.
-    fn takes(&mut self, place: usize, now: Nanos) -> bool {
+    fn takes(&mut self, place: usize, now: Instant) -> bool {
         let taken = self.pace.take(now);
         self.networks[place].last_taken = taken.unwrap_or(self.networks[place].last_taken);
         taken.is_some()
@@ -167,7 +169,7 @@ impl KeepAlive {
 
     /// Gives up who has been authenticated only for too long and was so while its network was nearly full, some at a
     /// time. Who is given up is told so as long as that are few.
-    fn give_up(&mut self, table: &StationTable, place: usize, now: Nanos, steps: &mut Vec<(usize, Step)>) {
+    fn give_up(&mut self, table: &StationTable, place: usize, now: Instant, steps: &mut Vec<(usize, Step)>) {
         let network = &mut self.networks[place];
         if table.known(place) * 10 >= network.max_known * NEARLY_FULL {
             network.nearly_full = Some(now);
@@ -177,9 +179,9 @@ impl KeepAlive {
             None => return,
         };
         let found = table.unassociated(place);
-        let found = found.take_while(|(since, _)| *since <= nearly_full && since + TO_ASSOCIATE <= now);
+        let found = found.take_while(|(since, _)| *since <= nearly_full && *since + TO_ASSOCIATE <= now);
         for (since, station) in found.take(network.max_known / PARTS + 1) {
-            let why = Forgotten::Unassociated(now - since);
+            let why = Forgotten::Unassociated(now.since(since));
             steps.push((place, Step::Forget { station, why, tells: self.takes(place, now) }));
         }
     }
@@ -189,8 +191,8 @@ impl KeepAlive {
         &mut self,
         table: &mut StationTable,
         (place, queue): (usize, Queue),
-        most: Nanos,
-        now: Nanos,
+        most: Duration,
+        now: Instant,
         steps: &mut Vec<(usize, Step)>,
     ) {
         for _ in 0..MOST_LOOKED_AT {
@@ -222,13 +224,13 @@ impl KeepAlive {
     }
 
     /// What is to be done of a station that is due.
-    fn judge(&mut self, station: &Station, member: Member, queue: Queue, most: Nanos, now: Nanos) -> Found {
+    fn judge(&mut self, station: &Station, member: Member, queue: Queue, most: Duration, now: Instant) -> Found {
         let (limit, questions) = match station.state {
             State::Associated(_) => (most, QUESTIONS),
             State::Authenticated => (AUTHENTICATED.min(most), QUESTIONS_AUTHENTICATED),
         };
         let (Asked { times, .. }, (place, address)) = (station.asked, member);
-        let silent = now.saturating_sub(station.heard);
+        let silent = now.since(station.heard);
         if silent < limit {
             Found::Again { due: station.heard + limit, times: 0, step: None }
         } else if times >= questions || station.is_leaving {
@@ -239,11 +241,15 @@ impl KeepAlive {
         } else if !self.takes(place, now) {
             Found::Enough
         } else {
-            Found::Again { due: now + TO_ANSWER, times: times + 1, step: Some(Step::Ask(address)) }
+            let (to_answer, step) = match station.dozes {
+                true => (TO_ANSWER_OF_DOZING, Step::AskByUnit(address)),
+                false => (TO_ANSWER, Step::Ask(address)),
+            };
+            Found::Again { due: now + to_answer, times: times + 1, step: Some(step) }
         }
     }
 
-    fn put(&mut self, table: &mut StationTable, member: Member, due: Nanos, queue: Queue) {
+    fn put(&mut self, table: &mut StationTable, member: Member, due: Instant, queue: Queue) {
         if let Some(asked) = table.asked(&member) {
             asked.due = due;
             self.networks[member.0].queues[queue as usize].insert((due, member.1));

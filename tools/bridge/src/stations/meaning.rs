@@ -84,6 +84,8 @@ pub enum FromNetwork {
 pub struct Tim {
     /// After how many beacons the next comes after which units for the group are sent; 0 for this one.
     pub dtim_count: u8,
+    /// Whether units for the group are kept, which follow this beacon.
+    pub has_group_units: bool,
     /// The identifiers of the stations for which units are kept.
     pub aids: Vec<u16>,
 }
@@ -128,7 +130,7 @@ fn read_tim(body: &[u8]) -> Option<Tim> {
         .map(|bit| first + bit)
         .filter(|aid| *aid != 0)
         .collect();
-    Some(Tim { dtim_count: fixed[0], aids })
+    Some(Tim { dtim_count: fixed[0], has_group_units: fixed[2] & 1 != 0, aids })
 }
 
 #[cfg(test)]
@@ -214,9 +216,11 @@ mod tests {
             Some(FromNetwork::Beacon(tim)) => tim,
             other => panic!("{other:?}"),
         };
-        assert_eq!(tim(&[5, 4, 1, 3, 0, 0x06]), Tim { dtim_count: 1, aids: vec![1, 2] });
-        assert_eq!(tim(&[5, 5, 0, 3, 3, 0x01, 0x80]), Tim { dtim_count: 0, aids: vec![16, 31] });
-        assert_eq!(tim(&[5, 4, 2, 3, 1, 0x01]), Tim { dtim_count: 2, aids: vec![] });
+        let found =
+            |dtim_count, has_group_units, aids: &[u16]| Tim { dtim_count, has_group_units, aids: aids.to_vec() };
+        assert_eq!(tim(&[5, 4, 1, 3, 0, 0x06]), found(1, false, &[1, 2]));
+        assert_eq!(tim(&[5, 5, 0, 3, 3, 0x01, 0x80]), found(0, true, &[16, 31]));
+        assert_eq!(tim(&[5, 4, 2, 3, 1, 0x01]), found(2, true, &[]));
         for broken in [&[][..], &[5, 2, 0, 1], &[5, 9, 0, 1, 0, 0], &[7]] {
             assert_eq!(tim(broken), Tim::default(), "{broken:?}");
         }

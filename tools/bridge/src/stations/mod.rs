@@ -1,30 +1,39 @@
 //! What the bridge does by itself beside the way of frames: it knows the stations from the frames that pass, tells what
 //! happens to them, asks those that have fallen silent, and lets the program know who is gone. Whatever it tells the
 //! program is an event as any other: a station's deauthentication, which stands in the record too.
+mod echoes;
+pub mod joining;
 pub mod keep_alive;
 pub mod meaning;
 pub mod news;
+mod observing;
 pub mod own_frames;
+mod roaming;
 pub mod station;
 pub mod table;
 
+use crate::control::events::Happened;
 use crate::control::log::{self, Bounded, Level};
+use crate::formats::ethernet::test_command;
 use crate::formats::frames::{Address, Frame};
 use crate::formats::radiotap::{Outcome, Reception};
 use crate::handover::replay::Restored;
 use crate::network::Network;
-use crate::os::clock::Nanos;
+use crate::os::clock::{wall_now, Duration, Instant};
 use crate::stations::keep_alive::{KeepAlive, Step};
-use crate::stations::news::{sentence, Forgotten};
+use crate::stations::news::{sentence, Forgotten, News};
 use crate::stations::own_frames::{
     deauthentication, departure, disassociation, is_null_of_network, null, number_beside, INACTIVITY, LEAVING,
 };
-use crate::stations::station::{KeptStation, Member, State};
+use crate::stations::roaming::Roaming;
+use crate::stations::station::{KeptStation, Member, Move, State};
 use crate::stations::table::StationTable;
 
 /// How often a question is tried again where nobody acknowledges it, and how often what a station is told that is
 /// there.
 const QUESTION_RETRIES: u8 = 3;
+/// Where the source of a frame of Ethernet stands.
+const SOURCE_AT: usize = 6;
 const WORD_RETRIES: u8 = 3;
 
 /// What is to be done for it.
@@ -34,6 +43,8 @@ pub enum Errand {
     Send { place: usize, frame: Vec<u8>, retries: u8 },
     /// The program is told of a frame as of one that was heard.
     Say(Vec<u8>),
+    /// The program is given a unit for a station that dozes, as what came by the wire of the network of this place.
+    Ask { place: usize, frame: Vec<u8> },
 }
 
 /// What is known, and what is to be done.
@@ -42,11 +53,12 @@ pub struct Stations {
     bssids: Vec<Address>,
     table: StationTable,
     keep_alive: KeepAlive,
+    roaming: Roaming,
     log: Bounded,
+    /// What happened since it was taken last, in which network, and how long after 1970.
+    events: Vec<(usize, Duration, Happened)>,
     /// Of each network the sequence number of its last frame.
     numbers: Vec<u16>,
-    /// Of each network whether its last beacon was one after which stations that doze listen, and is new.
-    listen: Vec<bool>,
     /// The networks whose stations have still to be told that they have to join again.
     to_dismiss: Vec<usize>,
     /// Of each network whether its stations are or were told so.
@@ -55,14 +67,15 @@ pub struct Stations {
 
 impl Stations {
     /// Of these networks; who was silent for so long is asked, or nobody.
-    pub fn new(networks: &[Network], most_silence: Option<Nanos>) -> Stations {
+    pub fn new(networks: &[Network], most_silence: Option<Duration>) -> Stations {
         let bssids: Vec<Address> = networks.iter().map(|network| network.bssid).collect();
         Stations {
             table: StationTable::new(bssids.clone()),
             keep_alive: KeepAlive::new(most_silence, networks.iter().map(|network| usize::from(network.max_known))),
+            roaming: Roaming::new(bssids.len()),
             log: Bounded::new(bssids.len()),
+            events: Vec::new(),
             numbers: vec![0; bssids.len()],
-            listen: vec![false; bssids.len()],
             to_dismiss: Vec::new(),
             is_dismissed: vec![false; bssids.len()],
             bssids,
@@ -71,7 +84,7 @@ impl Stations {
 
     /// The same, and nothing is told of stations.
     #[cfg(test)]
-    pub fn quiet(networks: &[Network], most_silence: Option<Nanos>) -> Stations {
+    pub fn quiet(networks: &[Network], most_silence: Option<Duration>) -> Stations {
         Stations { log: Bounded::quiet(networks.len()), ..Stations::new(networks, most_silence) }
     }
 
@@ -80,25 +93,35 @@ impl Stations {
         &mut self.table
     }
 
-    /// A frame was heard that goes on to the program.
-    pub fn heard(&mut self, frame: Frame<'_>, reception: Reception, now: Nanos) {
-        self.table.heard(frame, reception, now);
+    /// A frame was heard that goes on to the program. Answers whether it changes the mode of its station.
+    pub fn heard(&mut self, frame: Frame<'_>, reception: Reception, now: Instant) -> bool {
+        self.table.heard(frame, reception, now)
+    }
+
+    /// The station that dozes, as the program knows it, until it is given this frame.
+    pub fn woken_by(&self, octets: &[u8]) -> Option<Member> {
+        self.table.woken_by(octets)
+    }
+
+    /// How modes of stations changed since this was asked last, as the program knows it.
+    pub fn take_moves(&mut self) -> Vec<(Member, Move)> {
+        self.table.take_moves()
     }
 
     /// A frame of the air is said to the program.
-    pub fn fed(&mut self, octets: &[u8], now: Nanos) {
+    pub fn fed(&mut self, octets: &[u8], now: Instant) {
         self.table.fed(octets, now);
         self.tell(now);
     }
 
     /// The radio tells what became of a frame that it was given.
-    pub fn reported(&mut self, frame: &[u8], outcome: Outcome, now: Nanos) {
+    pub fn reported(&mut self, frame: &[u8], outcome: Outcome, now: Instant) {
         let is_unit = frame.first() == Some(&0x08) && !is_null_of_network(frame);
         self.table.reported(frame, outcome, is_unit, now);
     }
 
     /// The program has a network send a frame; answers what is to be done behind it.
-    pub fn answered(&mut self, bssid: Address, octets: &[u8], now: Nanos) -> Vec<Errand> {
+    pub fn answered(&mut self, bssid: Address, octets: &[u8], now: Instant) -> Vec<Errand> {
         let place = match self.table.place_of(&bssid) {
             Some(place) => place,
             None => return Vec::new(),
@@ -107,25 +130,45 @@ impl Stations {
             self.numbers[place] = number >> 4;
         }
         let tim = self.table.answered(place, octets, now);
-        let errand = tim.and_then(|tim| {
-            self.listen[place] = tim.dtim_count == 0;
-            self.dismiss_behind_beacon(place)
-        });
+        let errand = tim.and_then(|_| self.dismiss_behind_beacon(place));
         self.tell(now);
         errand.into_iter().collect()
     }
 
-    /// What is to be done of stations that are silent, or don't associate, at a time at which no beacon is due.
-    pub fn look(&mut self, now: Nanos) -> Vec<Errand> {
-        let steps = self.keep_alive.look(&mut self.table, &self.listen, now);
-        self.listen.fill(false);
-        let errands = steps.into_iter().flat_map(|(place, step)| self.take_step(place, step, now)).collect();
+    /// What is to be done of stations that are silent, don't associate, or may have moved, at a time at which no beacon
+    /// is due.
+    pub fn look(&mut self, now: Instant) -> Vec<Errand> {
+        let steps = self.keep_alive.look(&mut self.table, now);
+        let mut errands: Vec<Errand> =
+            steps.into_iter().flat_map(|(place, step)| self.take_step(place, step, now)).collect();
+        for step in self.roaming.look(&self.table, now) {
+            errands.extend(self.take_roaming_step(step, now));
+        }
         self.tell(now);
         errands
     }
 
+    /// The wire of the network of this place brought a frame; answers what is to be done, where it shows that a station
+    /// is elsewhere. `answers` says whether the radio tells of acknowledgements.
+    pub fn wired(&mut self, place: usize, frame: &[u8], answers: bool, now: Instant) -> Option<Errand> {
+        let member = (place, Address::at(frame, SOURCE_AT)?);
+        let station = self.table.station(&member)?;
+        if !matches!(station.state, State::Associated(_)) || station.is_leaving {
+            return None;
+        }
+        let step = self.roaming.hint(member, station, frame, answers, now)?;
+        let errand = self.take_roaming_step(step, now);
+        self.tell(now);
+        errand
+    }
+
+    /// A frame goes to the wire of the network of this place.
+    pub fn put_on_wire(&mut self, place: usize, frame: &[u8], now: Instant) {
+        self.roaming.put(place, frame, now);
+    }
+
     /// A person wants a station to be forgotten, which has to be known.
-    pub fn kick(&mut self, bssid: Address, station: Address, now: Nanos) -> Result<Vec<Errand>, String> {
+    pub fn kick(&mut self, bssid: Address, station: Address, now: Instant) -> Result<Vec<Errand>, String> {
         let place = self.table.place_of(&bssid).ok_or_else(|| format!("{bssid} is no network of these"))?;
         let known = self.table.station(&(place, station)).filter(|station| !station.is_leaving);
         let state = known.ok_or_else(|| format!("{bssid} has no station {station}"))?.state;
@@ -164,7 +207,7 @@ impl Stations {
     }
 
     /// A new program knows stations as the one before did; answers what is to be done for the others.
-    pub fn restore(&mut self, restored: &Restored, now: Nanos) -> Vec<Errand> {
+    pub fn restore(&mut self, restored: &Restored, now: Instant) -> Vec<Errand> {
         for (member, kept) in &restored.stay {
             self.table.restore(*member, kept, now);
         }
@@ -174,6 +217,12 @@ impl Stations {
             Errand::Send { place: *place, frame, retries: WORD_RETRIES }
         });
         leave.chain(again).collect()
+    }
+
+    /// What happened since this was asked last: in the network of which place, and how long after
+    /// 1970.
+    pub fn take_events(&mut self) -> Vec<(usize, Duration, Happened)> {
+        std::mem::take(&mut self.events)
     }
 
     /// Whether stations of a network have still to be told so.
@@ -188,12 +237,10 @@ impl Stations {
         Some(Errand::Send { place, frame, retries: 0 })
     }
 
-    fn take_step(&mut self, place: usize, step: Step, now: Nanos) -> Vec<Errand> {
+    fn take_step(&mut self, place: usize, step: Step, now: Instant) -> Vec<Errand> {
         match step {
-            Step::Ask(station) => {
-                let frame = null(self.bssids[place], station, self.number(place));
-                vec![Errand::Send { place, frame, retries: QUESTION_RETRIES }]
-            }
+            Step::Ask(station) => vec![self.question((place, station))],
+            Step::AskByUnit(station) => vec![self.question_by_unit((place, station))],
             Step::Forget { station, why, tells } => {
                 let member = (place, station);
                 let state = self.table.station(&member).map(|station| station.state).filter(|_| tells);
@@ -201,6 +248,27 @@ impl Stations {
                 word.into_iter().chain([self.forget(member, why, now)]).collect()
             }
         }
+    }
+
+    fn take_roaming_step(&mut self, step: roaming::Step, now: Instant) -> Option<Errand> {
+        match step {
+            roaming::Step::Ask(member) => Some(self.question(member)),
+            roaming::Step::AskByUnit(member) => Some(self.question_by_unit(member)),
+            roaming::Step::Move(member) => Some(self.forget(member, Forgotten::Moved, now)),
+            roaming::Step::Stay(member) => {
+                self.table.tell(member, News::Claimed);
+                None
+            }
+        }
+    }
+
+    fn question(&self, (place, station): Member) -> Errand {
+        let frame = null(self.bssids[place], station, self.number(place));
+        Errand::Send { place, frame, retries: QUESTION_RETRIES }
+    }
+
+    fn question_by_unit(&self, (place, station): Member) -> Errand {
+        Errand::Ask { place, frame: test_command(self.bssids[place], station) }
     }
 
     /// A station is told that it is forgotten.
@@ -214,7 +282,7 @@ impl Stations {
     }
 
     /// A station is forgotten: the program is told that it left.
-    fn forget(&mut self, member: Member, why: Forgotten, now: Nanos) -> Errand {
+    fn forget(&mut self, member: Member, why: Forgotten, now: Instant) -> Errand {
         self.table.forget(member, why, now);
         Errand::Say(departure(self.bssids[member.0], member.1))
     }
@@ -224,17 +292,37 @@ impl Stations {
     }
 
     /// Tells what happened to stations.
-    fn tell(&mut self, now: Nanos) {
+    fn tell(&mut self, now: Instant) {
         for (place, more) in self.log.take_left_out(now) {
             let bssid = self.bssids[place];
             log::write_event(Level::Notice, format_args!("{more} more lines of stations in one second, of {bssid}"));
+            self.events.push((place, wall_now(), Happened::LeftOut { count: more }));
         }
-        for ((place, station), news) in self.table.take_news() {
+        for (member, news) in self.table.take_news() {
+            let (place, station) = member;
             if self.log.takes(place) {
                 let (level, text) = sentence(station, self.bssids[place], news);
                 log::write_event(level, text);
+                self.events.push((place, wall_now(), self.happened(member, news)));
             }
         }
+    }
+
+    fn happened(&self, (place, station): Member, news: News) -> Happened {
+        match (news, self.other_network_of((place, station))) {
+            (News::Joins { aid, listen }, Some(from)) => Happened::Moved { station, from, aid, listen },
+            _ => Happened::Station { station, news },
+        }
+    }
+
+    /// The other network that has this station too.
+    fn other_network_of(&self, (place, address): Member) -> Option<Address> {
+        let mut others = (0..self.bssids.len()).filter(|other| *other != place);
+        let has = |other: &usize| {
+            let station = self.table.station(&(*other, address)).filter(|station| !station.is_leaving);
+            station.map_or(false, |station| matches!(station.state, State::Associated(_)))
+        };
+        others.find(has).map(|other| self.bssids[other])
     }
 }
 

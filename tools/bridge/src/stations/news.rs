@@ -1,17 +1,20 @@
 //! What happens to stations, and how people are told of it.
+
 use crate::control::log::Level;
 use crate::formats::frames::Address;
-use crate::os::clock::{Nanos, SECOND};
+use crate::os::clock::Duration;
 
 /// Why a station is forgotten.
 #[derive(Debug, Clone, Copy, PartialEq, Eq)]
 pub enum Forgotten {
     /// Nothing was heard of it for so long, and it didn't answer.
-    Silent(Nanos),
+    Silent(Duration),
     /// It has been authenticated only for so long, and its network was nearly full.
-    Unassociated(Nanos),
+    Unassociated(Duration),
     /// A person asked for it.
     Kicked,
+    /// The wire of its network shows it behind another access point.
+    Moved,
 }
 
 /// What happened to a station.
@@ -29,10 +32,12 @@ pub enum News {
     SentAway { reason: u16 },
     /// It is forgotten.
     Forgotten(Forgotten),
+    /// The wire of its network showed it elsewhere again, soon after it was forgotten for that; so it stays.
+    Claimed,
 }
 
 /// What happened to a station of a network, for people.
-pub fn sentence(station: Address, bssid: Address, news: News) -> (Level, String) {
+pub(super) fn sentence(station: Address, bssid: Address, news: News) -> (Level, String) {
     match news {
         News::Joins { aid, listen } => {
             (Level::Info, format!("{station} joins {bssid}: association identifier {aid}, listen interval {listen}"))
@@ -51,11 +56,11 @@ pub fn sentence(station: Address, bssid: Address, news: News) -> (Level, String)
         }
         News::SentAway { reason } => (Level::Info, format!("{station} was sent away by {bssid}: reason {reason}")),
         News::Forgotten(Forgotten::Silent(keep_alive)) => {
-            let seconds = keep_alive / SECOND;
+            let seconds = keep_alive.as_secs();
             (Level::Info, format!("{station} was forgotten by {bssid}: silent for {seconds} seconds"))
         }
         News::Forgotten(Forgotten::Unassociated(time)) => {
-            let seconds = time / SECOND;
+            let seconds = time.as_secs();
             let text = format!(
                 "{station} was forgotten by {bssid}, which is nearly full: authenticated for {seconds} seconds and not \
                  associated"
@@ -63,5 +68,15 @@ pub fn sentence(station: Address, bssid: Address, news: News) -> (Level, String)
             (Level::Info, text)
         }
         News::Forgotten(Forgotten::Kicked) => (Level::Info, format!("{station} was forgotten by {bssid}: kicked")),
+        News::Forgotten(Forgotten::Moved) => {
+            (Level::Info, format!("{station} was forgotten by {bssid}: its wire shows it behind another access point"))
+        }
+        News::Claimed => {
+            let text = format!(
+                "{station} stays with {bssid}, though its wire shows it elsewhere twice in ten seconds: two may have this \
+                 address"
+            );
+            (Level::Notice, text)
+        }
     }
 }

@@ -1,12 +1,13 @@
 //! The frames that the bridge makes by itself (IEEE Std 802.11-2016, 9.3): it asks a station whether it is there, tells
 //! stations that they have to join again, and tells the program that a station has left, or is there as before.
+
 use crate::formats::frames::Address;
 use crate::network::Network;
 
 /// Disassociated or deauthenticated due to inactivity (table 9-45).
 pub const INACTIVITY: u16 = 4;
 /// Deauthenticated because the sending station is leaving, or has left (table 9-45).
-pub const LEAVING: u16 = 3;
+pub(super) const LEAVING: u16 = 3;
 
 const NULL: [u8; 2] = [0x48, 0x02];
 const DISASSOCIATION: [u8; 2] = [0xa0, 0];
@@ -28,7 +29,7 @@ const SEQUENCE_NUMBERS: u16 = 4096;
 
 /// A frame of the bridge goes with a sequence number that is far from those of the program's frames, so that no
 /// receiver takes one for the other sent again (10.3.2.11).
-pub fn number_beside(number: u16) -> u16 {
+pub(super) fn number_beside(number: u16) -> u16 {
     (number + SEQUENCE_NUMBERS / 2) % SEQUENCE_NUMBERS
 }
 
@@ -43,7 +44,7 @@ pub fn is_null_of_network(frame: &[u8]) -> bool {
 }
 
 /// A disassociation of a station by its network (9.3.3.5).
-pub fn disassociation(bssid: Address, station: Address, reason: u16, number: u16) -> Vec<u8> {
+pub(super) fn disassociation(bssid: Address, station: Address, reason: u16, number: u16) -> Vec<u8> {
     with_reason(DISASSOCIATION, station, bssid, bssid, reason, number)
 }
 

@@ -1,6 +1,6 @@
 //! A station of a network: how far it has joined, and what is known of it.
 use crate::formats::frames::Address;
-use crate::os::clock::Nanos;
+use crate::os::clock::Instant;
 
 /// A network's place, and the address of a station of it.
 pub type Member = (usize, Address);
@@ -12,6 +12,21 @@ pub enum State {
     Authenticated,
     /// It is associated, with this identifier.
     Associated(u16),
+}
+
+/// How a station's mode changes, or whether it is one of its network, as the program knows it.
+#[derive(Debug, Clone, Copy, PartialEq, Eq)]
+pub enum Move {
+    /// It dozes, by a frame that the program was given.
+    Dozes,
+    /// It is awake, by a frame that the program was given.
+    Wakes,
+    /// It leaves, by a frame that the program was given.
+    Leaves,
+    /// It isn't associated, by what the program answered or has in its tables.
+    Left,
+    /// It is associated, by what the program answered; a frame that came since says that it dozes, or none.
+    Joins { dozes: bool },
 }
 
 /// What was sent to a station or heard of it: data with a unit, in whole frames.
@@ -36,7 +51,7 @@ impl Traffic {
 #[derive(Debug, Clone, Copy, Default, PartialEq, Eq)]
 pub struct Asked {
     /// When it is to be looked at again.
-    pub due: Nanos,
+    pub due: Instant,
     /// How often it was asked since it was heard.
     pub times: u32,
 }
@@ -48,10 +63,14 @@ pub struct Station {
     pub state: State,
     /// Whether it dozes.
     pub dozes: bool,
+    /// Whether it dozes by the last frame that was heard of it, which may still wait for the program.
+    pub(super) will_doze: bool,
+    /// Whether it dozes once it is associated, by what the program was given since it asked.
+    pub(super) joins_dozing: bool,
     /// Since when it has this state.
-    pub since: Nanos,
+    pub since: Instant,
     /// When a frame or an acknowledgement of it was heard last.
-    pub heard: Nanos,
+    pub heard: Instant,
     /// The signal of its last frame in dBm.
     pub signal: Option<i8>,
     /// What was sent to it.
@@ -61,7 +80,7 @@ pub struct Station {
     /// Whether it was asked.
     pub asked: Asked,
     /// Whether the program is about to be told that it left.
-    pub is_leaving: bool,
+    pub(super) is_leaving: bool,
     /// Its turn among all: the order in which they were entered.
     pub turn: u64,
     /// Its listen interval, where it is associated.
@@ -69,10 +88,16 @@ pub struct Station {
     /// Whether it has dozed since it was associated.
     pub has_dozed: bool,
     /// The association request by which it was associated last, where it is.
-    pub joined_by: Option<Vec<u8>>,
-    pub wanted_listen: u16,
+    pub(super) joined_by: Option<Vec<u8>>,
+    pub(super) wanted_listen: u16,
     /// Its association request that wasn't answered yet.
-    pub asks_by: Option<Vec<u8>>,
+    pub(super) asks_by: Option<Vec<u8>>,
+}
+
+impl Station {
+    pub fn is_associated(&self) -> bool {
+        matches!(self.state, State::Associated(_))
+    }
 }
 
 /// What a new program has to know of a station that is associated.

@@ -1,8 +1,8 @@
 use super::*;
-use crate::os::clock::SECOND;
+use crate::os::clock::{Instant, SECOND};
 use crate::stations::news::News;
 use crate::stations::own_frames::association_request;
-use crate::testing::samples::{network, OTHER, OURS, STATION, STRANGER};
+use crate::testing::samples::{at, network, OTHER, OURS, STATION, STRANGER};
 
 /// A frame of a network, with a sequence number.
 fn of_network(control: u8, receiver: Address, number: u16, body: &[u8]) -> Vec<u8> {
@@ -17,33 +17,33 @@ fn beacon(number: u16) -> Vec<u8> {
 /// Our network with a station that is associated.
 fn joined() -> Stations {
     let networks = [network(OTHER), Network { max_known: 2, ..network(OURS) }];
-    let mut operating = Stations::new(&networks, Some(5 * SECOND));
-    operating.answered(OURS, &of_network(0xb0, STATION, 1, &[0, 0, 2, 0, 0, 0]), 0);
-    operating.answered(OURS, &of_network(0x10, STATION, 2, &[1, 0, 0, 0, 1, 0xc0]), 0);
-    operating
+    let mut stations = Stations::new(&networks, Some(5 * SECOND));
+    stations.answered(OURS, &of_network(0xb0, STATION, 1, &[0, 0, 2, 0, 0, 0]), Instant::START);
+    stations.answered(OURS, &of_network(0x10, STATION, 2, &[1, 0, 0, 0, 1, 0xc0]), Instant::START);
+    stations
 }
 
 /// What is done behind a beacon of our network.
-fn behind_beacon(operating: &mut Stations, number: u16, now: Nanos) -> Vec<Errand> {
-    assert_eq!(operating.answered(OURS, &beacon(number), now), []);
-    operating.look(now)
+fn behind_beacon(stations: &mut Stations, number: u16, now: Instant) -> Vec<Errand> {
+    assert_eq!(stations.answered(OURS, &beacon(number), now), []);
+    stations.look(now)
 }
 
 #[test]
 fn who_is_silent_is_asked_and_forgotten() {
-    let mut operating = joined();
-    assert_eq!(behind_beacon(&mut operating, 3, 4 * SECOND), []);
+    let mut stations = joined();
+    assert_eq!(behind_beacon(&mut stations, 3, at(4 * SECOND)), []);
     for number in 4..7 {
         let frame = null(OURS, STATION, number + 2048);
         let wanted = [Errand::Send { place: 1, frame, retries: 3 }];
-        assert_eq!(behind_beacon(&mut operating, number, Nanos::from(number + 1) * SECOND), wanted);
+        assert_eq!(behind_beacon(&mut stations, number, at(u32::from(number + 1) * SECOND)), wanted);
     }
     let frame = disassociation(OURS, STATION, INACTIVITY, 2055);
     let wanted = [Errand::Send { place: 1, frame, retries: 0 }, Errand::Say(departure(OURS, STATION))];
-    assert_eq!(behind_beacon(&mut operating, 7, 8 * SECOND), wanted);
-    operating.fed(&departure(OURS, STATION), 8 * SECOND);
-    assert_eq!(behind_beacon(&mut operating, 8, 30 * SECOND), []);
-    assert_eq!(operating.table().station(&(1, STATION)), None);
+    assert_eq!(behind_beacon(&mut stations, 7, at(8 * SECOND)), wanted);
+    stations.fed(&departure(OURS, STATION), at(8 * SECOND));
+    assert_eq!(behind_beacon(&mut stations, 8, at(30 * SECOND)), []);
+    assert_eq!(stations.table().station(&(1, STATION)), None);
 }
 
 /// Who stays is known without a word. Whoever doesn't is told to join again, and the program that those have left
@@ -52,7 +52,7 @@ fn who_is_silent_is_asked_and_forgotten() {
 fn who_is_restored_is_known_and_others_are_told() {
     let request = association_request(&network(OURS), STATION);
     let kept = KeptStation { address: STATION, aid: 4, listen: 1, dozes: false, has_dozed: false, request };
-    let mut operating = Stations::new(&[network(OTHER), network(OURS)], None);
+    let mut stations = Stations::new(&[network(OTHER), network(OURS)], None);
     let restored = Restored {
         stay: vec![((1, STATION), kept.clone())],
         again: vec![(0, STRANGER)],
@@ -65,76 +65,113 @@ fn who_is_restored_is_known_and_others_are_told() {
         Errand::Say(departure(OURS, STRANGER)),
         Errand::Send { place: 0, frame, retries: 3 },
     ];
-    assert_eq!(operating.restore(&restored, 0), wanted);
-    assert_eq!((operating.kept(0), operating.kept(1)), (vec![], vec![kept]));
-    assert_eq!(operating.table().take_news(), []);
+    assert_eq!(stations.restore(&restored, Instant::START), wanted);
+    assert_eq!((stations.kept(0), stations.kept(1)), (vec![], vec![kept]));
+    assert_eq!(stations.table().take_news(), []);
     // Who is told to join again isn't left for the next bridge.
-    operating.dismiss(&[1]);
-    assert_eq!(operating.kept(1), []);
+    stations.dismiss(&[1]);
+    assert_eq!(stations.kept(1), []);
 }
 
 #[test]
 fn who_acknowledges_stays() {
-    let mut operating = joined();
-    assert_eq!(behind_beacon(&mut operating, 3, 5 * SECOND).len(), 1);
+    let mut stations = joined();
+    assert_eq!(behind_beacon(&mut stations, 3, at(5 * SECOND)).len(), 1);
     let outcome = Outcome { is_acknowledged: true, retries: 2, rate: Some(2) };
-    operating.reported(&null(OURS, STATION, 9), outcome, 5 * SECOND);
+    stations.reported(&null(OURS, STATION, 9), outcome, at(5 * SECOND));
     for second in 6..10 {
-        assert_eq!(behind_beacon(&mut operating, 4, second * SECOND), []);
+        assert_eq!(behind_beacon(&mut stations, 4, at(second * SECOND)), []);
     }
-    assert_eq!(operating.table().station(&(1, STATION)).unwrap().to.rate, None);
+    assert_eq!(stations.table().station(&(1, STATION)).unwrap().to.rate, None);
 }
 
 #[test]
-fn who_dozes_is_asked_behind_a_beacon_after_which_it_listens() {
-    let mut operating = joined();
+fn who_dozes_is_asked_by_a_unit_that_the_program_keeps() {
+    let mut stations = joined();
     let null = [&[0x48, 0x11, 0, 0][..], OURS.octets(), STATION.octets(), OURS.octets(), &[0, 0]].concat();
-    operating.fed(&null, 0);
-    assert_eq!(operating.look(5 * SECOND), []);
-    let other = of_network(0x80, Address::BROADCAST, 3, &[&[0; 12][..], &[5, 4, 1, 2, 0, 0]].concat());
-    operating.answered(OURS, &other, 6 * SECOND);
-    assert_eq!(operating.look(6 * SECOND), []);
-    assert_eq!(behind_beacon(&mut operating, 4, 7 * SECOND).len(), 1);
+    stations.fed(&null, Instant::START);
+    let wanted = [Errand::Ask { place: 1, frame: test_command(OURS, STATION) }];
+    assert_eq!(stations.look(at(5 * SECOND)), wanted);
 }
 
 #[test]
 fn who_does_not_associate_is_given_up_where_its_network_is_nearly_full() {
-    let mut operating = joined();
-    operating.answered(OURS, &of_network(0xb0, STRANGER, 3, &[0, 0, 2, 0, 0, 0]), SECOND);
-    assert_eq!(behind_beacon(&mut operating, 4, 3 * SECOND), []);
+    let mut stations = joined();
+    stations.answered(OURS, &of_network(0xb0, STRANGER, 3, &[0, 0, 2, 0, 0, 0]), at(SECOND));
+    assert_eq!(behind_beacon(&mut stations, 4, at(3 * SECOND)), []);
     let frame = deauthentication(OURS, STRANGER, INACTIVITY, 2053);
     let wanted = [Errand::Send { place: 1, frame, retries: 0 }, Errand::Say(departure(OURS, STRANGER))];
-    assert_eq!(behind_beacon(&mut operating, 5, 4 * SECOND), wanted);
+    assert_eq!(behind_beacon(&mut stations, 5, at(4 * SECOND)), wanted);
 }
 
 #[test]
 fn who_is_kicked_goes_at_once() {
-    let mut operating = joined();
-    let errands = operating.kick(OURS, STATION, 0).unwrap();
+    let mut stations = joined();
+    let errands = stations.kick(OURS, STATION, Instant::START).unwrap();
     let frame = disassociation(OURS, STATION, INACTIVITY, 2050);
     let wanted = [Errand::Send { place: 1, frame, retries: 3 }, Errand::Say(departure(OURS, STATION))];
     assert_eq!(errands, wanted);
     for (bssid, station, says) in
         [(OURS, STATION, "has no station"), (OURS, STRANGER, "has no station"), (STRANGER, STATION, "no network")]
     {
-        assert!(operating.kick(bssid, station, 0).unwrap_err().contains(says));
+        assert!(stations.kick(bssid, station, Instant::START).unwrap_err().contains(says));
     }
-    operating.answered(OURS, &of_network(0xb0, STRANGER, 9, &[0, 0, 2, 0, 0, 0]), 0);
+    stations.answered(OURS, &of_network(0xb0, STRANGER, 9, &[0, 0, 2, 0, 0, 0]), Instant::START);
     let frame = deauthentication(OURS, STRANGER, INACTIVITY, 2057);
     let wanted = Errand::Send { place: 1, frame, retries: 3 };
-    assert_eq!(operating.kick(OURS, STRANGER, 0).unwrap()[0], wanted);
+    assert_eq!(stations.kick(OURS, STRANGER, Instant::START).unwrap()[0], wanted);
+}
+
+/// Who joins another network of this radio has moved from the first one, which still knows it. Who isn't associated
+/// there has joined.
+#[test]
+fn who_joins_another_network_has_moved() {
+    let mut stations = joined();
+    let happened = |stations: &mut Stations| -> Vec<(usize, Happened)> {
+        stations.take_events().into_iter().map(|(place, _, happened)| (place, happened)).collect()
+    };
+    let joins = News::Joins { aid: 1, listen: 0 };
+    assert_eq!(happened(&mut stations), [(1, Happened::Station { station: STATION, news: joins })]);
+    let of_other = |control, body: &[u8]| {
+        let mut frame = of_network(control, STATION, 1, body);
+        frame[10..16].copy_from_slice(OTHER.octets());
+        frame
+    };
+    stations.answered(OTHER, &of_other(0xb0, &[0, 0, 2, 0, 0, 0]), Instant::START);
+    stations.answered(OTHER, &of_other(0x10, &[1, 0, 0, 0, 7, 0xc0]), Instant::START);
+    assert_eq!(happened(&mut stations), [(0, Happened::Moved { station: STATION, from: OURS, aid: 7, listen: 0 })]);
+    stations.kick(OURS, STATION, Instant::START).unwrap();
+    let kicked = Happened::Station { station: STATION, news: News::Forgotten(Forgotten::Kicked) };
+    assert_eq!(happened(&mut stations), [(1, kicked)]);
+    stations.answered(OTHER, &of_other(0x10, &[1, 0, 0, 0, 7, 0xc0]), Instant::START);
+    let joins = News::Joins { aid: 7, listen: 0 };
+    assert_eq!(happened(&mut stations), [(0, Happened::Station { station: STATION, news: joins })]);
+}
+
+/// As many events as lines of the log: what is left out there is one event with their number.
+#[test]
+fn a_flood_of_a_network_is_one_event_more() {
+    let mut stations = joined();
+    stations.take_events();
+    for _ in 0..60 {
+        stations.answered(OURS, &of_network(0xb0, STRANGER, 3, &[0, 0, 2, 0, 13, 0]), at(SECOND));
+    }
+    assert_eq!(stations.take_events().len(), 50);
+    stations.look(at(3 * SECOND));
+    let happened: Vec<Happened> = stations.take_events().into_iter().map(|(_, _, happened)| happened).collect();
+    assert_eq!(happened, [Happened::LeftOut { count: 10 }]);
 }
 
 #[test]
 fn all_are_told_behind_the_next_beacon() {
-    let mut operating = joined();
-    operating.dismiss(&[0, 1]);
+    let mut stations = joined();
+    stations.dismiss(&[0, 1]);
     let frame = deauthentication(OURS, Address::BROADCAST, LEAVING, 2051);
-    assert_eq!(operating.answered(OURS, &beacon(3), 0), [Errand::Send { place: 1, frame, retries: 0 }]);
-    assert!(operating.dismisses());
-    assert_eq!(operating.answered(OURS, &beacon(4), 0), []);
-    assert_eq!(operating.answered(OTHER, &beacon(3), 0).len(), 1);
-    assert!(!operating.dismisses());
+    assert_eq!(stations.answered(OURS, &beacon(3), Instant::START), [Errand::Send { place: 1, frame, retries: 0 }]);
+    assert!(stations.dismisses());
+    assert_eq!(stations.answered(OURS, &beacon(4), Instant::START), []);
+    assert_eq!(stations.answered(OTHER, &beacon(3), Instant::START).len(), 1);
+    assert!(!stations.dismisses());
 }
 
 #[test]

@@ -1,7 +1,10 @@
 use super::*;
+use crate::formats::frames::Frame;
+use crate::formats::radiotap::{Outcome, Reception};
 use crate::os::clock::SECOND;
+use crate::stations::meaning::Tim;
 use crate::stations::own_frames::departure;
-use crate::testing::samples::{OTHER, OURS, STATION, STRANGER};
+use crate::testing::samples::{at, OTHER, OURS, STATION, STRANGER};
 
 const FIRST: Member = (0, STATION);
 const PLAIN: Reception = Reception { signal: Some(-40), rate: Some(22), frequency: None };
@@ -16,12 +19,12 @@ fn frame(control: [u8; 2], receiver: Address, sender: Address, body: &[u8]) -> V
 }
 
 fn authenticated(table: &mut StationTable, station: Address, status: u8) {
-    table.answered(0, &frame([0xb0, 0], station, OURS, &[0, 0, 2, 0, status, 0]), SECOND);
+    table.answered(0, &frame([0xb0, 0], station, OURS, &[0, 0, 2, 0, status, 0]), at(SECOND));
 }
 
 fn associated(table: &mut StationTable, station: Address, status: u8, aid: u8) {
-    table.fed(&frame([0, 0], OURS, station, &[1, 0, 2, 0]), SECOND);
-    table.answered(0, &frame([0x10, 0], station, OURS, &[1, 0, status, 0, aid, 0xc0]), 2 * SECOND);
+    table.fed(&frame([0, 0], OURS, station, &[1, 0, 2, 0]), at(SECOND));
+    table.answered(0, &frame([0x10, 0], station, OURS, &[1, 0, status, 0, aid, 0xc0]), at(2 * SECOND));
 }
 
 fn joined() -> StationTable {
@@ -34,18 +37,18 @@ fn joined() -> StationTable {
 
 fn beacon(table: &mut StationTable, bits: u8) -> Option<Tim> {
     let body = [&[0; 12][..], &[5, 4, 0, 1, 0, bits]].concat();
-    table.answered(0, &frame([0x80, 0], Address::BROADCAST, OURS, &body), 3 * SECOND)
+    table.answered(0, &frame([0x80, 0], Address::BROADCAST, OURS, &body), at(3 * SECOND))
 }
 
 #[test]
 fn a_station_joins_and_leaves() {
     let mut table = joined();
     let found = table.station(&FIRST).unwrap();
-    assert_eq!((found.state, found.since), (State::Associated(1), 2 * SECOND));
-    table.fed(&frame([0xa0, 0], OURS, STATION, &[8, 0]), 4 * SECOND);
+    assert_eq!((found.state, found.since), (State::Associated(1), at(2 * SECOND)));
+    table.fed(&frame([0xa0, 0], OURS, STATION, &[8, 0]), at(4 * SECOND));
     assert_eq!(table.station(&FIRST).unwrap().state, State::Authenticated);
-    table.fed(&frame([0xa0, 0], OURS, STATION, &[8, 0]), 4 * SECOND);
-    table.fed(&frame([0xc0, 0], OURS, STATION, &[3, 0]), 5 * SECOND);
+    table.fed(&frame([0xa0, 0], OURS, STATION, &[8, 0]), at(4 * SECOND));
+    table.fed(&frame([0xc0, 0], OURS, STATION, &[3, 0]), at(5 * SECOND));
     assert_eq!(table.station(&FIRST), None);
     let left = [(FIRST, News::Leaves { reason: 8 }), (FIRST, News::Leaves { reason: 3 })];
     assert_eq!(table.take_news(), left);
@@ -60,7 +63,7 @@ fn who_is_refused_is_not_entered() {
     authenticated(&mut table, STATION, 0);
     associated(&mut table, STATION, 17, 0);
     assert_eq!(table.station(&FIRST).unwrap().state, State::Authenticated);
-    table.answered(0, &frame([0xc0, 0], STRANGER, OURS, &[6, 0]), SECOND);
+    table.answered(0, &frame([0xc0, 0], STRANGER, OURS, &[6, 0]), at(SECOND));
     let wanted = [
         (FIRST, News::Refused { status: 1, is_association: false }),
         (FIRST, News::Refused { status: 17, is_association: true }),
@@ -75,20 +78,20 @@ fn who_is_refused_is_not_entered() {
 fn frames_and_acknowledgements_are_signs_of_life() {
     let mut table = joined();
     let unit = frame([0x08, 0x11], OURS, STATION, &[1; 10]);
-    table.heard(Frame::of(&unit).unwrap(), PLAIN, 9 * SECOND);
-    table.fed(&unit, 9 * SECOND);
+    table.heard(Frame::of(&unit).unwrap(), PLAIN, at(9 * SECOND));
+    table.fed(&unit, at(9 * SECOND));
     let found = table.station(&FIRST).unwrap();
-    assert_eq!((found.heard, found.signal, found.dozes), (9 * SECOND, Some(-40), true));
+    assert_eq!((found.heard, found.signal, found.dozes), (at(9 * SECOND), Some(-40), true));
     assert_eq!(found.from, Traffic { octets: 34, frames: 1, rate: Some(22) });
     let sent = frame([0x08, 0x02], STATION, OURS, &[1; 20]);
-    table.answered(0, &sent, 10 * SECOND);
+    table.answered(0, &sent, at(10 * SECOND));
     let outcome = |is_acknowledged| Outcome { is_acknowledged, retries: 0, rate: Some(108) };
-    table.reported(&sent, outcome(false), true, 10 * SECOND);
-    assert_eq!(table.station(&FIRST).unwrap().heard, 9 * SECOND);
-    table.reported(&sent, outcome(true), true, 11 * SECOND);
+    table.reported(&sent, outcome(false), true, at(10 * SECOND));
+    assert_eq!(table.station(&FIRST).unwrap().heard, at(9 * SECOND));
+    table.reported(&sent, outcome(true), true, at(11 * SECOND));
     let found = table.station(&FIRST).unwrap();
-    assert_eq!((found.heard, found.to), (11 * SECOND, Traffic { octets: 44, frames: 1, rate: Some(108) }));
-    table.fed(&frame([0x48, 0x01], OURS, STATION, &[]), 12 * SECOND);
+    assert_eq!((found.heard, found.to), (at(11 * SECOND), Traffic { octets: 44, frames: 1, rate: Some(108) }));
+    table.fed(&frame([0x48, 0x01], OURS, STATION, &[]), at(12 * SECOND));
     assert!(!table.station(&FIRST).unwrap().dozes);
 }
 
@@ -97,11 +100,11 @@ fn who_dozes_too_long_is_told_of_once() {
     let mut table = joined();
     let too_long = (FIRST, News::DozesTooLong { beacons: 3, listen: 2 });
     for _ in 0..5 {
-        assert_eq!(beacon(&mut table, 0x02), Some(Tim { dtim_count: 0, aids: vec![1] }));
+        assert_eq!(beacon(&mut table, 0x02), Some(Tim { aids: vec![1], ..Tim::default() }));
     }
     assert_eq!(table.take_news(), [too_long]);
     let poll = [&[0xa4, 0x10, 1, 0xc0][..], OURS.octets(), STATION.octets()].concat();
-    table.fed(&poll, SECOND);
+    table.fed(&poll, at(SECOND));
     for _ in 0..2 {
         beacon(&mut table, 0x02);
     }
@@ -117,11 +120,11 @@ fn who_dozes_too_long_is_told_of_once() {
 #[test]
 fn who_is_forgotten_leaves_without_a_word() {
     let mut table = joined();
-    table.forget(FIRST, Forgotten::Kicked, SECOND);
-    table.forget(FIRST, Forgotten::Kicked, SECOND);
+    table.forget(FIRST, Forgotten::Kicked, at(SECOND));
+    table.forget(FIRST, Forgotten::Kicked, at(SECOND));
     assert_eq!(table.take_news(), [(FIRST, News::Forgotten(Forgotten::Kicked))]);
     assert!(table.station(&FIRST).unwrap().is_leaving);
-    table.fed(&departure(OURS, STATION), SECOND);
+    table.fed(&departure(OURS, STATION), at(SECOND));
     assert_eq!(table.station(&FIRST), None);
     assert_eq!(table.take_news(), []);
 }
@@ -137,25 +140,25 @@ fn what_stations_joined_by_is_kept_while_they_are_associated() {
     let plain =
         KeptStation { address: STATION, aid: 1, listen: 2, dozes: false, has_dozed: false, request: request.clone() };
     assert_eq!((table.kept(0), table.changes()), (vec![plain.clone()], 1));
-    table.fed(&frame([0x48, 0x11], OURS, STATION, &[]), 0);
-    table.fed(&frame([0x48, 0x11], OURS, STATION, &[]), 0);
+    table.fed(&frame([0x48, 0x11], OURS, STATION, &[]), Instant::START);
+    table.fed(&frame([0x48, 0x11], OURS, STATION, &[]), Instant::START);
     let dozing = KeptStation { dozes: true, has_dozed: true, ..plain.clone() };
     assert_eq!((table.kept(0), table.changes()), (vec![dozing.clone()], 2));
-    table.fed(&frame([0x48, 0x01], OURS, STATION, &[]), 0);
+    table.fed(&frame([0x48, 0x01], OURS, STATION, &[]), Instant::START);
     assert_eq!(table.kept(0), [KeptStation { dozes: false, ..dozing }]);
     // A request that is refused changes nothing, and one that is accepted takes the place of the one before.
-    table.fed(&frame([0, 0], OURS, STATION, &[1, 0, 7, 0]), 0);
-    table.answered(0, &frame([0x10, 0], STATION, OURS, &[1, 0, 17, 0, 0, 0]), 0);
+    table.fed(&frame([0, 0], OURS, STATION, &[1, 0, 7, 0]), Instant::START);
+    table.answered(0, &frame([0x10, 0], STATION, OURS, &[1, 0, 17, 0, 0, 0]), Instant::START);
     assert_eq!(table.kept(0)[0].request, request);
-    table.fed(&frame([0x20, 0], OURS, STATION, &[1, 0, 9, 0, 0, 0, 0, 0, 0, 0]), 0);
-    table.answered(0, &frame([0x30, 0], STATION, OURS, &[1, 0, 0, 0, 1, 0xc0]), 0);
+    table.fed(&frame([0x20, 0], OURS, STATION, &[1, 0, 9, 0, 0, 0, 0, 0, 0, 0]), Instant::START);
+    table.answered(0, &frame([0x30, 0], STATION, OURS, &[1, 0, 0, 0, 1, 0xc0]), Instant::START);
     let again = frame([0x20, 0], OURS, STATION, &[1, 0, 9, 0, 0, 0, 0, 0, 0, 0]);
     assert_eq!(table.kept(0), [KeptStation { listen: 9, request: again, ..plain }]);
     // Of two requests before an answer the later one counts, whose listen interval the program has too.
-    table.fed(&frame([0, 0], OURS, STATION, &[1, 0, 3, 0]), 0);
+    table.fed(&frame([0, 0], OURS, STATION, &[1, 0, 3, 0]), Instant::START);
     associated(&mut table, STATION, 0, 1);
     assert_eq!(table.kept(0), [plain]);
-    table.fed(&frame([0xa0, 0], OURS, STATION, &[8, 0]), 0);
+    table.fed(&frame([0xa0, 0], OURS, STATION, &[8, 0]), Instant::START);
     assert_eq!(table.kept(0), []);
     assert!(table.kept(1).is_empty());
 }
@@ -164,7 +167,7 @@ fn what_stations_joined_by_is_kept_while_they_are_associated() {
 fn who_is_forgotten_is_kept_no_more() {
     let mut table = joined();
     assert_eq!(table.kept(0).len(), 1);
-    table.forget(FIRST, Forgotten::Kicked, SECOND);
+    table.forget(FIRST, Forgotten::Kicked, at(SECOND));
     assert_eq!(table.kept(0), []);
 }
 
@@ -180,9 +183,9 @@ fn who_is_kept_stands_in_the_order_of_identifiers_and_each_change_counts() {
     }
     let identifiers: Vec<u16> = table.kept(0).iter().map(|kept| kept.aid).collect();
     assert_eq!(identifiers, [1, 3, 5, 7, 9]);
-    table.fed(&frame([0xa0, 0], OURS, stations[0].1, &[8, 0]), 0);
+    table.fed(&frame([0xa0, 0], OURS, stations[0].1, &[8, 0]), Instant::START);
     assert_eq!((table.changes(), table.kept(0).len()), (6, 4));
-    table.fed(&departure(OURS, stations[1].1), 0);
+    table.fed(&departure(OURS, stations[1].1), Instant::START);
     assert_eq!((table.changes(), table.kept(0).len()), (7, 3));
     // One that authenticates again is associated no more.
     authenticated(&mut table, stations[2].1, 0);
@@ -194,11 +197,17 @@ fn who_is_restored_is_there_as_before_without_a_word() {
     let before = joined().kept(0);
     let mut table = table();
     let dozing = KeptStation { dozes: true, ..before[0].clone() };
-    table.restore(FIRST, &dozing, 9 * SECOND);
+    table.restore(FIRST, &dozing, at(9 * SECOND));
     let found = table.station(&FIRST).unwrap();
     assert_eq!((found.state, found.listen, found.dozes), (State::Associated(1), 2, true));
     assert_eq!((table.take_news(), table.take_entered()), (vec![], vec![FIRST]));
     assert_eq!(table.kept(0), [KeptStation { has_dozed: true, ..dozing }]);
+    // One that had dozed before and was awake counts as one that may doze, where the next bridge doesn't know better.
+    let awake = KeptStation { dozes: false, has_dozed: true, ..before[0].clone() };
+    table.restore(FIRST, &awake, at(9 * SECOND));
+    assert_eq!(table.kept(0), [awake]);
+    table.restore(FIRST, &before[0], at(9 * SECOND));
+    assert_eq!(table.kept(0), before);
     for _ in 0..3 {
         beacon(&mut table, 0x02);
     }
@@ -212,7 +221,7 @@ fn an_identifier_goes_to_another_station() {
     authenticated(&mut table, STATION, 0);
     authenticated(&mut table, STRANGER, 0);
     associated(&mut table, STRANGER, 0, 1);
-    table.fed(&departure(OURS, STATION), SECOND);
+    table.fed(&departure(OURS, STATION), at(SECOND));
     table.take_news();
     for _ in 0..3 {
         beacon(&mut table, 0x02);
@@ -226,10 +235,97 @@ fn an_identifier_goes_to_another_station() {
 fn the_program_s_tables_are_right() {
     let mut table = joined();
     let known = HashMap::from([(STRANGER, State::Associated(4))]);
-    table.agree(1, &HashMap::new(), SECOND);
+    table.agree(1, &HashMap::new(), at(SECOND));
     assert!(table.station(&FIRST).is_some());
-    table.agree(0, &known, SECOND);
+    table.agree(0, &known, at(SECOND));
     assert_eq!(table.station(&FIRST), None);
     assert_eq!(table.station(&(0, STRANGER)).unwrap().state, State::Associated(4));
     assert_eq!(table.take_entered(), [FIRST, (0, STRANGER)]);
+}
+
+fn fed_null(table: &mut StationTable, dozes: bool) {
+    let control = if dozes { [0x48, 0x11] } else { [0x48, 0x01] };
+    table.fed(&frame(control, OURS, STATION, &[]), at(4 * SECOND));
+}
+
+/// A mode that was said before changes nothing.
+#[test]
+fn each_change_of_a_mode_is_told_once() {
+    let mut table = joined();
+    assert_eq!(table.take_moves(), [(FIRST, Move::Joins { dozes: false })]);
+    for dozes in [false, true, true, false] {
+        fed_null(&mut table, dozes);
+    }
+    table.fed(&frame([0x08, 0x11], OURS, STATION, &[1; 10]), at(4 * SECOND));
+    let wanted = [Move::Dozes, Move::Wakes, Move::Dozes].map(|change| (FIRST, change));
+    assert_eq!(table.take_moves(), wanted);
+    table.fed(&frame([0xa0, 0], OURS, STATION, &[8, 0]), at(4 * SECOND));
+    fed_null(&mut table, true);
+    assert_eq!(table.take_moves(), [(FIRST, Move::Leaves)]);
+}
+
+/// The program makes a station active as it joins; what it is given behind the request holds.
+#[test]
+fn a_mode_that_comes_before_the_answer_to_a_request_holds() {
+    for modes in [&[][..], &[true], &[true, false], &[false, true]] {
+        let mut table = joined();
+        fed_null(&mut table, true);
+        table.take_moves();
+        table.fed(&frame([0, 0], OURS, STATION, &[1, 0, 2, 0]), at(5 * SECOND));
+        modes.iter().for_each(|dozes| fed_null(&mut table, *dozes));
+        table.answered(0, &frame([0x10, 0], STATION, OURS, &[1, 0, 0, 0, 1, 0xc0]), at(6 * SECOND));
+        let dozes = modes.last() == Some(&true);
+        assert_eq!(table.take_moves().last(), Some(&(FIRST, Move::Joins { dozes })), "{modes:?}");
+        assert_eq!(table.station(&FIRST).unwrap().dozes, dozes);
+    }
+}
+
+/// Also by what the program answers or has in its tables.
+#[test]
+fn who_is_associated_no_more_is_told() {
+    let left = [(FIRST, Move::Left)];
+    let mut table = joined();
+    table.take_moves();
+    authenticated(&mut table, STATION, 0);
+    assert_eq!(table.take_moves(), left);
+    table.answered(0, &frame([0xa0, 0], STATION, OURS, &[7, 0]), at(SECOND));
+    assert_eq!(table.take_moves(), left);
+    table.answered(0, &frame([0xc0, 0], STRANGER, OURS, &[6, 0]), at(SECOND));
+    table.fed(&departure(OURS, STATION), at(SECOND));
+    assert_eq!(table.take_moves(), []);
+    let mut table = joined();
+    table.take_moves();
+    table.agree(0, &HashMap::new(), at(SECOND));
+    assert_eq!(table.take_moves(), left);
+    let mut table = joined();
+    table.take_moves();
+    table.fed(&departure(OURS, STATION), at(SECOND));
+    assert_eq!(table.take_moves(), [(FIRST, Move::Leaves)]);
+}
+
+/// Until the program was given the frame that changes it, each further one changes it too.
+#[test]
+fn a_frame_that_changes_a_mode_is_known_when_it_is_heard() {
+    let mut table = joined();
+    let unit = |dozes| frame([0x08, if dozes { 0x11 } else { 0x01 }], OURS, STATION, &[1; 10]);
+    let mut changes = |octets: &[u8]| table.heard(Frame::of(octets).unwrap(), PLAIN, at(SECOND));
+    assert_eq!([false, true, true, false, false].map(|dozes| changes(&unit(dozes))), [false, true, true, true, false]);
+    assert!(!changes(&frame([0xa0, 0], OURS, STATION, &[8, 0])) && changes(&unit(true)));
+    assert!(!changes(&frame([0x88, 0x01], OURS, STATION, &[0, 0])));
+    table.fed(&unit(true), at(SECOND));
+    let mut changes = |octets: &[u8]| table.heard(Frame::of(octets).unwrap(), PLAIN, at(SECOND));
+    assert_eq!([true, false].map(|dozes| changes(&unit(dozes))), [false, true]);
+    assert!(!changes(&frame([0x08, 0x11], OURS, STRANGER, &[1; 10])));
+}
+
+/// A station that joins again as it is about to be forgotten is no longer about to leave.
+#[test]
+fn one_that_joins_anew_is_not_leaving() {
+    let mut table = StationTable::new(vec![OURS]);
+    let member = (0, STATION);
+    table.associate(member, 1, at(SECOND));
+    table.forget(member, Forgotten::Kicked, at(2 * SECOND));
+    assert!(table.station(&member).unwrap().is_leaving && table.kept(0).is_empty());
+    table.associate(member, 1, at(3 * SECOND));
+    assert!(!table.station(&member).unwrap().is_leaving);
 }

@@ -1,13 +1,16 @@
 //! A seeded mutator over what the bridge reads of others: headers of radiotap, frames, and the program's answers. It
 //! tries a million inputs, each a good one that was changed in some places, cut, or joined to another.
-use crate::apctl::records::{Answer, Answers};
+
+use crate::apctl::protocol::{Answer, Answers};
 use crate::formats::frames::{is_tagged, Address, Frame, BEACON, MOST};
 use crate::formats::radiotap::{captured, reception, Outcome, SENDING_LEN};
-use crate::inbound::filter::{monitor_filter, Shown};
+use crate::inbound::filter::{monitor_filter, Drawn, Shown};
 use crate::inbound::judging::{judge_wired, Judge, Judged};
 use crate::network::Network;
+use crate::os::clock::{Duration, Instant};
+use crate::os::interfaces::Interfaces;
 use crate::outbound::air::Transmitter;
-use crate::outbound::monitor::Monitor;
+use crate::outbound::monitor::{self, MonitorSender};
 use crate::stations::{Errand, Stations};
 use crate::testing::samples::{data, network, radiotap, Recorder, Seeded, Unit, OTHER, OURS, STATION};
 
@@ -155,14 +158,15 @@ fn the_way_to_the_air() {
         to(0x50, STATION, OTHER),
     ];
     let networks = [Network { rates: vec![0x82, 0x84, 12, 108], ..network(OURS) }, network(OTHER)];
-    let (mut seeded, mut time) = (Seeded(5), 0);
+    let (mut seeded, mut time) = (Seeded(5), Instant::START);
     let mut air = Transmitter::new(&networks);
-    let mut monitor = Monitor::new(Recorder::default(), Recorder::default());
+    let mut interfaces = Interfaces::new(Recorder::default(), Recorder::default(), vec![]);
+    let mut sender = MonitorSender::default();
     let (mut given, mut again, mut beacons) = (0u64, 0u64, 0u64);
     for _ in 0..INPUTS / 2 {
         let mut octets = mutated(&mut seeded, &good);
         let place = seeded.below(2);
-        time += seeded.below(1 << 21) as u64;
+        time += Duration::from_nanos(seeded.below(1 << 21) as u64);
         match seeded.below(4) {
             0 => {
                 if let Some(frame) = Frame::of(&octets) {
@@ -181,28 +185,26 @@ fn the_way_to_the_air() {
                 air.reported(place, &octets, Outcome { is_acknowledged, retries, rate }, time);
             }
         }
-        if seeded.below(50) == 0 {
-            monitor.expire(&mut air, time);
-        }
+        monitor::expire(&mut air, &interfaces, time);
         if seeded.below(10) == 0 {
             air.reports_read();
         }
-        monitor.gate().port.unsent = [0, 100][seeded.below(2)];
-        monitor.flush_beacons(&mut air);
-        monitor.flush(&mut air, time, u64::MAX);
-        let sent = &mut monitor.gate().port.sent;
+        interfaces.monitor.port.unsent = [0, 100][seeded.below(2)];
+        sender.flush_beacons(&mut air, &mut interfaces);
+        sender.flush(&mut air, &mut interfaces, time, Instant::NEVER);
+        let sent = &mut interfaces.monitor.port.sent;
         again +=
             sent.drain(..).filter(|packet| packet.get(SENDING_LEN + 1).map_or(false, |f| f & 0x08 != 0)).count() as u64;
     }
     air.end();
-    monitor.gate().port.unsent = 0;
+    interfaces.monitor.port.unsent = 0;
     while let Some(due) = air.due() {
-        monitor.expire(&mut air, due);
-        monitor.flush(&mut air, due, u64::MAX);
+        monitor::expire(&mut air, &interfaces, due);
+        sender.flush(&mut air, &mut interfaces, due, Instant::NEVER);
     }
     let unsent: u64 = air.accounts().iter().flat_map(|account| account.unsent.values()).sum();
     assert_eq!(air.sent() - beacons + unsent, given + air.unacknowledged().again);
-    assert!(again > 1000 && monitor.is_idle(&air), "{again}");
+    assert!(again > 1000 && monitor::is_idle(&air, &interfaces), "{again}");
     assert!(air.accounts().iter().all(|account| account.waiting == 0));
 }
 
@@ -223,32 +225,38 @@ fn what_the_bridge_does_by_itself() {
         Unit { control: [0xc0, 0], body: vec![3, 0], ..Unit::default() }.octets(),
         Unit { control: [0, 0], body: vec![1, 0, 5, 0], ..Unit::default() }.octets(),
     ];
-    let (mut seeded, mut time) = (Seeded(6), 0);
+    let (mut seeded, mut time) = (Seeded(6), Instant::START);
     let networks = [network(OTHER), Network { max_known: 2, ..network(OURS) }];
-    let mut operating = Stations::quiet(&networks, Some(1 << 30));
+    let mut stations = Stations::quiet(&networks, Some(Duration::from_nanos(1 << 30)));
     let (mut sent, mut said) = (0u32, 0u32);
     for _ in 0..INPUTS / 2 {
         let octets = mutated(&mut seeded, &good);
-        time += seeded.below(1 << 27) as u64;
+        time += Duration::from_nanos(seeded.below(1 << 27) as u64);
         match (seeded.below(4), Frame::of(&octets)) {
-            (0, Some(frame)) => operating.heard(frame, reception(&octets), time),
-            (1, _) => operating.fed(&octets, time),
+            (0, Some(frame)) => {
+                stations.heard(frame, reception(&octets), time);
+            }
+            (1, _) => stations.fed(&octets, time),
             (2, _) => {
                 let is_acknowledged = seeded.below(2) == 0;
-                operating.reported(&octets, Outcome { is_acknowledged, retries: 0, rate: None }, time);
+                stations.reported(&octets, Outcome { is_acknowledged, retries: 0, rate: None }, time);
             }
             _ => {
-                let answered = operating.answered(OURS, &octets, time);
-                for errand in answered.into_iter().chain(operating.look(time)) {
+                let answered = stations.answered(OURS, &octets, time);
+                for errand in answered.into_iter().chain(stations.look(time)) {
                     match errand {
                         Errand::Send { place, frame, .. } => {
                             sent += 1;
                             assert_eq!((place, Address::at(&frame, 10)), (1, Some(OURS)));
                         }
+                        Errand::Ask { place, frame } => {
+                            sent += 1;
+                            assert_eq!((place, frame.len(), Address::at(&frame, 6)), (1, 17, Some(OURS)));
+                        }
                         Errand::Say(frame) => {
                             said += 1;
                             assert_eq!((frame[0], frame.len(), Address::at(&frame, 4)), (0xc0, 26, Some(OURS)));
-                            operating.fed(&frame, time);
+                            stations.fed(&frame, time);
                         }
                     }
                 }
@@ -263,8 +271,8 @@ fn what_the_bridge_does_by_itself() {
 fn filters() {
     for number in 0..=16 {
         let networks = vec![OURS; number];
-        for shown in [Shown::All, Shown::Outcomes] {
-            let filter = monitor_filter(&networks, shown);
+        for (shown, neighbours) in [(Shown::All, Drawn::Each), (Shown::Outcomes, Drawn::ONE_IN_HUNDRED)] {
+            let filter = monitor_filter(&networks, shown, neighbours);
             for (place, step) in filter.iter().enumerate() {
                 let furthest = place + 1 + usize::from(step.jt.max(step.jf));
                 assert!(furthest <= filter.len(), "{place}");

@@ -1,18 +1,28 @@
 //! Frames that several tests use, and a port that keeps what is sent by it.
 use std::io::{self, Read, Write};
-use std::os::unix::io::RawFd;
+use std::os::unix::io::BorrowedFd;
 use std::os::unix::net::UnixStream;
 
 use libc::sock_filter;
 
 use crate::formats::frames::Address;
 use crate::network::Network;
-use crate::os::sockets::{Batch, Port};
+use crate::os::batch::Batch;
+use crate::os::clock::{Duration, Instant};
+use crate::os::port::Port;
 
 pub const OURS: Address = Address::of([2, 0, 0, 0, 1, 1]);
 pub const OTHER: Address = Address::of([2, 0, 0, 0, 1, 2]);
 pub const STATION: Address = Address::of([2, 0xaa, 0, 0, 0, 1]);
 pub const STRANGER: Address = Address::of([2, 0xbb, 0, 0, 0, 1]);
+
+/// The shortest time that moments differ by.
+pub const NANOSECOND: Duration = Duration::from_nanos(1);
+
+/// The moment that is so long after the start of the machine.
+pub fn at(time: Duration) -> Instant {
+    Instant::START + time
+}
 
 /// A network of this address, without a wire.
 pub fn network(bssid: Address) -> Network {
@@ -22,6 +32,7 @@ pub fn network(bssid: Address) -> Network {
         rates: vec![0x82],
         max_stations: 100,
         max_known: 100,
+        quota: 100,
         wire: None,
         weight: 1,
     }
@@ -119,8 +130,8 @@ pub struct Recorder {
 }
 
 impl Port for Recorder {
-    fn descriptor(&self) -> RawFd {
-        -1
+    fn descriptor(&self) -> Option<BorrowedFd<'_>> {
+        None
     }
 
     fn interface(&self) -> &str {

@@ -1,8 +1,7 @@
 //! What the air was to each network: for how long it was used, what waits, and what never went.
+use crate::os::clock::Duration;
 use std::collections::BTreeMap;
 use std::fmt;
-
-use crate::os::clock::Nanos;
 
 /// Why a frame never went on the air.
 #[derive(Debug, Clone, Copy, PartialEq, Eq, PartialOrd, Ord)]
@@ -15,6 +14,12 @@ pub enum Unsent {
     Full,
     /// The interface refused it.
     Refused,
+    /// Its station had left, or authenticated anew.
+    Left,
+    /// Its station dozed, and more went back to the program in a second than its network keeps.
+    OverQuota,
+    /// Its station dozed, and as it has no wired form it couldn't go back to the program.
+    NoWiredForm,
 }
 
 impl fmt::Display for Unsent {
@@ -24,6 +29,9 @@ impl fmt::Display for Unsent {
             Unsent::Crowded => "too many for one receiver",
             Unsent::Full => "no more could wait",
             Unsent::Refused => "refused by the interface",
+            Unsent::Left => "its station had left",
+            Unsent::OverQuota => "more than `quota` came back in a second, as its station dozed",
+            Unsent::NoWiredForm => "its station dozed, and it has no wired form",
         })
     }
 }
@@ -31,14 +39,25 @@ impl fmt::Display for Unsent {
 /// What the air was to one network.
 #[derive(Debug, Clone, Default, PartialEq, Eq)]
 pub struct Account {
-    /// For how long its frames were sent, all tries counted and beacons left out.
-    pub used: Nanos,
+    /// For how long its frames were sent, all tries and the mean wait before each counted, and beacons left out.
+    pub used: Duration,
     /// How many of its frames wait.
     pub waiting: usize,
     /// How many octets they have.
     pub octets: usize,
     /// How many frames never went, and why.
     pub unsent: BTreeMap<Unsent, u64>,
+    /// What went back to the program, since its station dozed.
+    pub handed_back: HandedBack,
+}
+
+/// Units that went back to the program, since their station dozed.
+#[derive(Debug, Clone, Copy, Default, PartialEq, Eq)]
+pub struct HandedBack {
+    /// How many.
+    pub units: u64,
+    /// How many of them went back behind others of their station, some of which they had been before.
+    pub out_of_order: u64,
 }
 
 impl Account {

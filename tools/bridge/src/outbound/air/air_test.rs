@@ -2,15 +2,31 @@ use super::*;
 use crate::formats::frames::{Address, BEACON};
 use crate::formats::radiotap::{captured, Outcome};
 use crate::inbound::frame::LONGEST;
-use crate::os::clock::{MILLISECOND, SECOND};
+use crate::os::clock::{Instant, MILLISECOND, SECOND};
+use crate::os::interfaces::Interfaces;
 use crate::outbound::air::account::Unsent;
 use crate::outbound::air::air_time::Size;
 use crate::outbound::air::dequeue::{FEW, LOOK_EVERY};
 use crate::outbound::air::frame::{MOST_LIFETIME, PROBE_RESPONSE};
 use crate::outbound::air::in_flight::MOST_OUT;
 use crate::outbound::air::queue::{MOST_FOR_STATION, MOST_OCTETS};
-use crate::outbound::monitor::Monitor;
-use crate::testing::samples::{network, Recorder, Unit, OTHER, OURS, STATION, STRANGER};
+use crate::outbound::counts::Counts;
+use crate::outbound::monitor::{self, MonitorSender};
+use crate::testing::samples::{at, network, Recorder, Unit, NANOSECOND, OTHER, OURS, STATION, STRANGER};
+
+#[path = "holding_test.rs"]
+mod holding;
+
+#[path = "dozing_test.rs"]
+mod dozing;
+#[path = "dropping_test.rs"]
+mod dropping;
+#[path = "medium_test.rs"]
+mod medium;
+#[path = "sharing_test.rs"]
+mod sharing;
+#[path = "strangers_test.rs"]
+mod strangers;
 
 const RATES: [u8; 12] = [0x82, 0x84, 0x8b, 0x96, 12, 18, 24, 36, 48, 72, 96, 108];
 const OTHERS_RATES: [u8; 2] = [0x8b, 0x96];
@@ -35,12 +51,15 @@ impl Seen {
     }
 }
 
-/// A transmitter and its interface, with a clock that is set by hand.
+/// The way to the air and the interface, with a clock that is set by hand.
 struct Driver {
     air: Transmitter,
-    monitor: Monitor<Recorder>,
-    now: Nanos,
+    interfaces: Interfaces<Recorder>,
+    monitor: MonitorSender,
+    now: Instant,
     on_air: VecDeque<Seen>,
+    /// The number of the last frame that was made for it.
+    next: u16,
 }
 
 fn driver(weights: [u8; 2]) -> Driver {
@@ -48,8 +67,18 @@ fn driver(weights: [u8; 2]) -> Driver {
         Network { rates: RATES.to_vec(), weight: weights[0], ..network(OURS) },
         Network { rates: OTHERS_RATES.to_vec(), weight: weights[1], ..network(OTHER) },
     ];
-    let monitor = Monitor::new(Recorder::default(), Recorder::default());
-    Driver { air: Transmitter::new(&networks), monitor, now: SECOND, on_air: VecDeque::new() }
+    driver_of(&networks)
+}
+
+fn driver_of(networks: &[Network]) -> Driver {
+    Driver {
+        air: Transmitter::new(networks),
+        interfaces: Interfaces::new(Recorder::default(), Recorder::default(), vec![]),
+        monitor: MonitorSender::default(),
+        now: at(SECOND),
+        on_air: VecDeque::new(),
+        next: 0,
+    }
 }
 
 fn seen(packets: &mut Vec<Vec<u8>>) -> Vec<Seen> {
@@ -68,27 +97,37 @@ impl Driver {
 
     /// What goes on the air now.
     fn flush(&mut self) -> Vec<Seen> {
-        self.monitor.flush_beacons(&mut self.air);
+        self.monitor.flush_beacons(&mut self.air, &mut self.interfaces);
         self.flush_others();
-        seen(&mut self.monitor.gate.port.sent)
+        seen(&mut self.interfaces.monitor.port.sent)
     }
 
     /// What is no beacon goes on the air now.
     fn flush_others(&mut self) {
-        self.monitor.flush(&mut self.air, self.now, Nanos::MAX);
+        self.monitor.flush(&mut self.air, &mut self.interfaces, self.now, Instant::NEVER);
     }
 
     /// What was waited for in vain until then isn't any more.
-    fn expire(&mut self, now: Nanos) {
-        self.monitor.expire(&mut self.air, now);
+    fn expire(&mut self, now: Instant) {
+        monitor::expire(&mut self.air, &self.interfaces, now);
     }
 
     fn has_room(&self) -> bool {
-        self.monitor.has_room(&self.air)
+        monitor::has_room(&self.air, &self.interfaces)
+    }
+
+    fn is_idle(&self) -> bool {
+        monitor::is_idle(&self.air, &self.interfaces)
+    }
+
+    fn refused(&self) -> Counts {
+        let mut counts = Counts::new();
+        self.monitor.refused().add_to(&mut counts);
+        counts
     }
 
     fn beacons(&mut self) -> Vec<Seen> {
-        seen(&mut self.monitor.beacons.port.sent)
+        seen(&mut self.interfaces.beacons.port.sent)
     }
 
     /// The radio tells of a frame, at once.
@@ -120,7 +159,7 @@ impl Driver {
 
     /// A station asks to join the first network, or the second, and is told that it is associated.
     fn ask(&mut self, place: Place, station: Address) -> Vec<Seen> {
-        let bssid = [OURS, OTHER][place];
+        let bssid = medium::BSSIDS[place];
         let elements = [&[0; 4][..], &[1, 8], &RATES[..8], &[50, 4], &RATES[8..]].concat();
         let request =
             Unit { control: [0, 0], receiver: bssid, transmitter: station, body: elements, ..Unit::default() };
@@ -214,136 +253,15 @@ fn one_that_was_refused_or_never_asked_is_sent_to_at_the_lowest_basic_rate() {
 fn groups_go_once_and_answers_by_what_their_tries_take() {
     let mut driver = driver([1, 1]);
     driver.at_54();
-    driver.send(0, of_network(0x08, OURS, Address::BROADCAST, 1, vec![0; 8]));
-    driver.send(0, of_network(0xb0, OURS, STRANGER, 2, vec![0, 0, 2, 0, 0, 0]));
-    driver.send(0, deauthentication(3));
-    driver.send(0, long(OURS, STATION, 4));
-    let sent = driver.run(4);
-    let by_number = |number| sent.iter().find(|seen| seen.number() == number).unwrap();
-    let found = [1, 2, 3, 4].map(|number| (by_number(number).rate, by_number(number).retries));
-    assert_eq!(found, [(2, 0), (2, 5), (2, 5), (108, 6)]);
-}
-
-#[test]
-fn a_lost_unit_is_sent_once_more_with_retry_and_later_ones_wait() {
-    let mut driver = driver([1, 1]);
-    driver.at_54();
-    driver.send(0, unit(OURS, STATION, 9));
-    let first = driver.flush();
-    driver.reported(0, &first[0], 6, false);
-    driver.send(0, unit(OURS, STATION, 10));
-    let second = driver.flush();
-    assert_eq!((second.len(), second[0].rate, second[0].is_again(), second[0].number()), (1, 12, true, 9));
-    driver.reported(0, &second[0], 0, true);
-    let third = driver.flush();
-    assert_eq!((third.len(), third[0].is_again(), third[0].number()), (1, false, 10));
-    assert_eq!(driver.air.unacknowledged(), Unacknowledged { again: 1, lost: 0 });
-}
-
-/// Of a station that loses tries the radio has one frame, so that each may be sent once more, unless many wait.
-#[test]
-fn a_station_that_loses_some_is_given_one_frame_at_a_time_while_few_wait() {
-    for (waiting, given) in [(FEW, 1), (FEW + 3, 3)] {
-        let mut driver = driver([1, 1]);
-        driver.at_54();
-        driver.send(0, unit(OURS, STATION, 8));
-        let first = driver.flush();
-        driver.reported(0, &first[0], 1, true);
-        (9..9 + waiting as u16).for_each(|number| driver.send(0, unit(OURS, STATION, number)));
-        let sent = driver.flush();
-        assert_eq!(sent.len(), given);
-        driver.reported(0, &sent[0], 6, false);
-        let next = driver.flush();
-        let again = next.first().map(|seen| (seen.number(), seen.is_again()));
-        assert_eq!(again, (given == 1).then_some((9, true)));
+    let group = of_network(0x08, OURS, Address::BROADCAST, 1, vec![0; 8]);
+    let answer = of_network(0xb0, OURS, STRANGER, 2, vec![0, 0, 2, 0, 0, 0]);
+    for (frame, found) in
+        [(group, (2, 0)), (answer, (2, 5)), (deauthentication(3), (2, 5)), (long(OURS, STATION, 4), (108, 6))]
+    {
+        driver.send(0, frame);
+        let sent = driver.run(1);
+        assert_eq!((sent[0].rate, sent[0].retries), found);
     }
-}
-
-#[test]
-fn a_unit_behind_which_others_went_is_not_sent_out_of_order() {
-    let mut driver = driver([1, 1]);
-    driver.at_54();
-    (9..12).for_each(|number| driver.send(0, unit(OURS, STATION, number)));
-    let sent = driver.flush();
-    assert_eq!(numbers(&sent), [9, 10, 11]);
-    sent[..2].iter().for_each(|seen| driver.reported(0, seen, 6, false));
-    assert_eq!(driver.flush(), []);
-    driver.reported(0, &sent[2], 6, false);
-    let again = driver.flush();
-    assert_eq!((again.len(), again[0].number(), again[0].is_again()), (1, 11, true));
-    assert_eq!(driver.air.unacknowledged(), Unacknowledged { again: 1, lost: 2 });
-}
-
-#[test]
-fn a_unit_that_is_lost_twice_is_given_up_and_the_next_goes() {
-    let mut driver = driver([1, 1]);
-    driver.at_54();
-    driver.send(0, unit(OURS, STATION, 9));
-    for _ in 0..2 {
-        let sent = driver.flush();
-        driver.reported(0, &sent[0], 1, false);
-    }
-    (10..12).for_each(|number| driver.send(0, unit(OURS, STATION, number)));
-    assert_eq!(numbers(&driver.flush()), [10]);
-    assert_eq!(driver.air.unacknowledged(), Unacknowledged { again: 1, lost: 1 });
-}
-
-#[test]
-fn while_a_sample_is_on_the_air_frames_wait_in_order_and_not_for_ever() {
-    let mut driver = driver([1, 1]);
-    driver.join(0, STATION);
-    driver.send(0, unit(OURS, STATION, 2));
-    driver.send(0, deauthentication(3));
-    assert_eq!(numbers(&driver.flush()), [2]);
-    assert!(driver.air.awaits_outcomes());
-    let due = driver.air.due().unwrap();
-    assert_eq!(due, driver.now + MOST_OUT);
-    driver.expire(due - 1);
-    assert_eq!(driver.flush(), []);
-    driver.now = due;
-    driver.expire(due);
-    assert_eq!(numbers(&driver.flush()), [3]);
-}
-
-/// A station that is gone is not fed: it costs what was given, and what waits for it is bounded.
-#[test]
-fn no_more_frames_wait_for_a_station_than_there_is_room_for_and_the_oldest_are_dropped() {
-    let mut driver = driver([1, 1]);
-    driver.join(0, STATION);
-    (0..200).for_each(|number| {
-        driver.send(0, unit(OURS, STATION, number));
-        driver.flush_others();
-    });
-    assert_eq!(numbers(&driver.flush()), [0]);
-    assert_eq!(driver.air.queue.accounts[0].waiting, MOST_FOR_STATION);
-    assert_eq!(driver.unsent(0, Unsent::Crowded), 199 - MOST_FOR_STATION as u64);
-    driver.now += MILLISECOND;
-    let sample = Seen { rate: 22, retries: 1, frame: unit(OURS, STATION, 0) };
-    driver.reported(0, &sample, 0, true);
-    assert_eq!(numbers(&driver.flush()), [200 - MOST_FOR_STATION as u8]);
-}
-
-#[test]
-fn a_radio_that_tells_nothing_is_given_all_at_the_lowest_rate_as_it_sends() {
-    let mut driver = driver([1, 1]);
-    driver.ask(0, STRANGER);
-    for number in 0..200 {
-        driver.send(0, long(OURS, STRANGER, number));
-        driver.flush();
-        driver.now += 300 * MILLISECOND;
-        driver.expire(driver.now);
-    }
-    (0..3).for_each(|number| driver.send(0, long(OURS, STRANGER, number)));
-    driver.monitor.gate.port.unsent = 5000;
-    assert_eq!(driver.flush().len(), 1);
-    driver.now += 10 * MILLISECOND;
-    driver.expire(driver.now);
-    assert_eq!(driver.flush(), []);
-    driver.monitor.gate.port.unsent = 0;
-    driver.now += LOOK_EVERY;
-    driver.expire(driver.now);
-    let sent = driver.flush();
-    assert_eq!((sent.len(), sent[0].rate), (1, 2));
 }
 
 #[test]
@@ -363,26 +281,13 @@ fn a_beacon_goes_before_all_that_waits_and_nothing_that_came_behind_it_before_it
     let group = of_network(0x08, OURS, Address::BROADCAST, 3, vec![0; 8]);
     driver.send(0, group);
     driver.send(0, of_network(BEACON, OURS, Address::BROADCAST, 4, vec![0; 30]));
-    driver.monitor.beacons.port.room = Some(0);
+    driver.interfaces.beacons.port.room = Some(0);
     driver.send(0, unit(OURS, STATION, 5));
     assert_eq!((driver.flush(), driver.beacons()), (vec![], vec![]));
-    driver.monitor.beacons.port.room = None;
+    driver.interfaces.beacons.port.room = None;
     let sent = driver.flush();
     assert_eq!(numbers(&driver.beacons()), [4]);
     assert_eq!((sent.len(), numbers(&sent).contains(&3)), (2, true));
-}
-
-#[test]
-fn of_beacons_that_find_no_room_the_last_ones_are_kept() {
-    let mut driver = driver([1, 1]);
-    driver.monitor.beacons.port.room = Some(0);
-    for number in 0..50 {
-        driver.send(0, of_network(BEACON, OURS, Address::BROADCAST, number, vec![]));
-        driver.flush();
-    }
-    driver.monitor.beacons.port.room = None;
-    driver.flush();
-    assert_eq!(numbers(&driver.beacons()), [46, 47, 48, 49]);
 }
 
 #[test]
@@ -406,7 +311,7 @@ fn who_asks_for_all_networks_is_answered_by_one_try_within_20_milliseconds() {
 fn networks_take_turns_by_time_on_the_air() {
     for (weights, parts) in [([1, 1], [1, 1]), ([2, 1], [2, 1]), ([1, 4], [1, 4])] {
         let mut driver = driver(weights);
-        let mut used = [0; 2];
+        let mut used = [Duration::ZERO; 2];
         for round in 0..4000u16 {
             for place in 0..2 {
                 while driver.air.queue.accounts[place].waiting < 4 {
@@ -418,224 +323,12 @@ fn networks_take_turns_by_time_on_the_air() {
             for seen in driver.run(1) {
                 let place = usize::from(seen.frame[15] == OTHER.octets()[5]);
                 let size = Size { octets: seen.frame.len(), rate: seen.rate, is_acknowledged: true };
-                used[place] += size.cost().sending(1);
+                used[place] += size.cost().tries(1);
             }
         }
         let wanted = (used[0] + used[1]) * parts[0] / (parts[0] + parts[1]);
-        assert!(used[0].abs_diff(wanted) < wanted / 20, "{weights:?} {used:?}");
+        assert!(used[0].max(wanted) - used[0].min(wanted) < wanted / 20, "{weights:?} {used:?}");
     }
-}
-
-#[test]
-fn the_radio_has_no_more_at_once_than_it_sends_in_eight_milliseconds() {
-    let mut driver = driver([1, 1]);
-    driver.at_54();
-    (0..60).for_each(|number| driver.send(0, long(OURS, STATION, number)));
-    driver.run(usize::MAX);
-    (0..40).for_each(|number| driver.send(0, long(OURS, STATION, number)));
-    let sent = driver.flush();
-    assert!((8..=17).contains(&sent.len()), "{}", sent.len());
-    assert!(!driver.has_room() && driver.air.awaits_outcomes() && !driver.monitor.is_idle(&driver.air));
-    for seen in &sent {
-        driver.now += MILLISECOND / 2;
-        driver.reported(0, seen, 0, true);
-    }
-    let more = driver.flush();
-    assert!((8..=17).contains(&more.len()), "{}", more.len());
-    driver.air.end();
-    assert_eq!(driver.flush().len(), 40 - sent.len() - more.len());
-}
-
-/// What one network's station doesn't acknowledge holds up its own frames alone.
-#[test]
-fn a_station_whose_frame_is_out_too_long_is_given_nothing_more() {
-    let mut driver = driver([1, 1]);
-    driver.at_54();
-    driver.join(1, STRANGER);
-    driver.send(0, long(OURS, STATION, 9));
-    let first = driver.flush();
-    driver.now += 2 * MILLISECOND;
-    driver.monitor.gate.port.unsent = 1500;
-    driver.send(0, long(OURS, STATION, 10));
-    driver.send(1, unit(OTHER, STRANGER, 7));
-    assert_eq!(numbers(&driver.flush()), [7]);
-    driver.reported(0, &first[0], 6, false);
-    let again = driver.flush();
-    assert_eq!((again.len(), again[0].number(), again[0].is_again()), (1, 9, true));
-}
-
-/// Frames need not wait for what is told of others that the radio has no more. Of such that are missing among those
-/// that it told of one knows nothing, whatever its socket says.
-#[test]
-fn a_frame_that_left_the_radio_keeps_none_waiting_until_outcomes_were_looked_at() {
-    let mut driver = driver([1, 1]);
-    driver.at_54();
-    driver.send(0, long(OURS, STATION, 9));
-    let first = driver.flush();
-    driver.now += 2 * MILLISECOND;
-    driver.send(0, long(OURS, STATION, 10));
-    assert!(!driver.air.in_flight.is_unknown(0, STATION));
-    let second = driver.flush();
-    assert_eq!(numbers(&second), [10]);
-    assert!(driver.air.in_flight.is_unknown(0, STATION));
-    driver.reported(0, &second[0], 0, true);
-    driver.air.reports_read();
-    assert!(!driver.air.in_flight.is_unknown(0, STATION));
-    driver.now += 2 * MILLISECOND;
-    driver.send(0, long(OURS, STATION, 11));
-    assert_eq!(driver.flush(), []);
-    driver.reported(0, &first[0], 0, true);
-    assert_eq!(numbers(&driver.flush()), [11]);
-}
-
-/// What the bridge asks a station by itself keeps nothing back once it is known what became of it.
-#[test]
-fn behind_a_question_of_the_bridge_frames_go_once_it_is_told_of() {
-    let mut driver = driver([1, 1]);
-    driver.at_54();
-    driver.air.send_own(0, crate::stations::own_frames::null(OURS, STATION, 2057), 3, driver.now);
-    let asked = driver.flush();
-    assert_eq!((asked.len(), asked[0].rate, asked[0].retries), (1, 2, 3));
-    driver.monitor.gate.port.unsent = 100;
-    driver.now += 20 * MILLISECOND;
-    driver.send(0, of_network(0xb0, OURS, STATION, 9, vec![0, 0, 2, 0, 0, 0]));
-    assert_eq!(driver.flush(), []);
-    driver.reported(0, &asked[0], 0, true);
-    assert_eq!(numbers(&driver.flush()), [9]);
-}
-
-#[test]
-fn frames_of_which_the_radio_never_tells_leave_it_room() {
-    let mut driver = driver([1, 1]);
-    driver.at_54();
-    (0..40).for_each(|number| driver.send(0, deauthentication(number)));
-    let sent = driver.flush().len();
-    driver.monitor.gate.port.unsent = 100;
-    driver.now += MOST_OUT - 1;
-    driver.expire(driver.now);
-    assert_eq!(driver.flush(), []);
-    driver.now += 1;
-    driver.expire(driver.now);
-    assert_eq!(driver.flush().len(), sent);
-    driver.monitor.gate.port.unsent = 0;
-    driver.now += 100 * MILLISECOND;
-    driver.expire(driver.now);
-    assert_eq!(driver.flush().len(), sent);
-}
-
-#[test]
-fn what_waited_for_a_station_before_it_joined_goes_before_what_comes_behind() {
-    let mut driver = driver([1, 1]);
-    driver.send(0, long(OURS, Address::of([2, 9, 9, 9, 9, 9]), 100));
-    driver.flush();
-    driver.send(0, of_network(0xb0, OURS, STATION, 1, vec![0, 0, 2, 0, 0, 0]));
-    driver.send(0, response(OURS, STATION, 0));
-    (3..6).for_each(|number| driver.send(0, unit(OURS, STATION, number)));
-    let mut sent = driver.run(usize::MAX);
-    sent.extend(driver.run(usize::MAX));
-    driver.reported(0, &Seen { rate: 2, retries: 0, frame: long(OURS, Address::of([2, 9, 9, 9, 9, 9]), 100) }, 0, true);
-    sent.extend(driver.run(usize::MAX));
-    assert_eq!(numbers(&sent), [1, 1, 3, 4, 5]);
-    assert_eq!(sent[0].frame[0], 0xb0);
-}
-
-#[test]
-fn a_refused_frame_is_counted_and_the_next_is_sent() {
-    let mut driver = driver([1, 1]);
-    driver.monitor.gate.port.longest = Some(60);
-    for number in 1..5 {
-        let body = vec![0; if number % 4 == 1 || number == 4 { 4 } else { 60 }];
-        driver.send(0, of_network(0x08, OURS, STATION, number, body));
-    }
-    assert_eq!(numbers(&driver.run(usize::MAX)), [1, 4]);
-    assert_eq!(driver.monitor.counts()["refused by mon0: Message too long"], 2);
-    assert_eq!(driver.unsent(0, Unsent::Refused), 2);
-}
-
-/// While the interface is down, beacons are refused and counted. Else nothing is lost of what isn't late yet once it is
-/// up again.
-#[test]
-fn what_waits_for_an_interface_that_is_down_goes_once_it_is_up_unless_it_is_late() {
-    for (down, lost) in [(LONGEST / 2, 0), (LONGEST * 2, 2)] {
-        let mut driver = driver([1, 1]);
-        driver.monitor.gate.port.is_down = true;
-        driver.monitor.beacons.port.is_down = true;
-        driver.send(0, deauthentication(3));
-        driver.send(1, unit(OTHER, STATION, 4));
-        assert_eq!((driver.flush(), driver.air.is_down(), driver.air.chosen.len()), (vec![], true, 2));
-        driver.send(0, of_network(BEACON, OURS, Address::BROADCAST, 5, Vec::new()));
-        driver.send(1, of_network(0xc0, OTHER, STATION, 6, vec![8, 0]));
-        assert_eq!((driver.flush(), driver.beacons(), driver.has_room()), (vec![], vec![], false));
-        driver.now += down;
-        driver.monitor.gate.port.is_down = false;
-        driver.monitor.beacons.port.is_down = false;
-        driver.air.came_up(down);
-        driver.send(0, of_network(BEACON, OURS, Address::BROADCAST, 7, Vec::new()));
-        let sent = driver.run(3);
-        assert_eq!(numbers(&sent), if lost > 0 { vec![6] } else { vec![3, 4, 6] });
-        assert_eq!(numbers(&driver.beacons()), [7]);
-        assert_eq!(driver.unsent(0, Unsent::Late) + driver.unsent(1, Unsent::Late), lost);
-        assert_eq!(driver.monitor.counts()["refused by mon0: Network is down"], 1);
-        assert!(!driver.air.is_down() && driver.air.chosen.is_empty() && driver.air.queue.scheduler.is_empty());
-    }
-}
-
-#[test]
-fn what_waits_for_room_goes_later_and_late_units_are_dropped() {
-    let mut driver = driver([1, 1]);
-    driver.monitor.gate.port.room = Some(1);
-    driver.send(0, unit(OURS, STATION, 1));
-    let first = driver.flush();
-    assert_eq!(numbers(&first), [1]);
-    driver.reported(0, &first[0], 0, true);
-    driver.send(0, unit(OURS, STATION, 2));
-    driver.send(1, of_network(0xc0, OTHER, STRANGER, 3, vec![4, 0]));
-    assert_eq!(driver.flush(), []);
-    assert!(driver.monitor.gate().is_blocked() && !driver.has_room());
-    driver.send(0, unit(OURS, STATION, 4));
-    driver.now += MOST_LIFETIME + 1;
-    driver.send(0, unit(OURS, STATION, 5));
-    driver.monitor.gate().port.room = None;
-    driver.monitor.gate().unblock();
-    let sent = driver.run(usize::MAX);
-    let numbers = numbers(&sent);
-    assert!(numbers.contains(&3) && numbers.contains(&5) && !numbers.contains(&4), "{numbers:?}");
-    assert_eq!(driver.unsent(0, Unsent::Late), 1);
-}
-
-/// While others take the air for less than 300 ms nothing is lost; then what could have gone for 50 ms is dropped.
-#[test]
-fn units_that_are_late_for_a_while_go_all_the_same() {
-    let mut driver = driver([1, 1]);
-    driver.at_54();
-    let mut goes_after = |wait: u64| {
-        driver.send(0, unit(OURS, STATION, 1));
-        driver.now += wait * MILLISECOND;
-        let sent = driver.flush();
-        sent.iter().for_each(|seen| driver.reported(0, seen, 0, true));
-        !sent.is_empty()
-    };
-    let going = (0..8).map(|_| goes_after(60)).collect::<Vec<_>>();
-    assert_eq!(going, [true, true, true, true, true, false, false, false]);
-    assert!((0..31).all(|_| goes_after(10)) && goes_after(60));
-    assert_eq!(driver.unsent(0, Unsent::Late), 3);
-}
-
-#[test]
-fn what_waits_of_a_network_is_bounded_and_the_longest_queue_loses_its_oldest() {
-    let mut driver = driver([1, 1]);
-    driver.monitor.gate.port.room = Some(0);
-    driver.send(0, of_network(0x08, OURS, STATION, 0, vec![0; 4000]));
-    for number in 0..4000u16 {
-        let [high, low] = (number % 40).to_be_bytes();
-        driver.send(0, of_network(0x08, OURS, Address::of([2, 9, 0, 0, high, low]), number, vec![0; 4000]));
-        driver.send(1, of_network(0x08, OTHER, Address::of([2, 9, 0, 0, high, low]), number, vec![0; 10]));
-    }
-    let Account { waiting, octets, .. } = driver.air.queue.accounts[0].clone();
-    assert!(octets <= MOST_OCTETS && waiting == MOST_OCTETS / 4024, "{waiting} {octets}");
-    assert_eq!(driver.unsent(0, Unsent::Full) + driver.unsent(0, Unsent::Crowded) + waiting as u64, 4001);
-    assert_eq!(driver.unsent(1, Unsent::Full), 0);
-    assert_eq!(driver.air.queue.scheduler.waiting(0, Receiver::Station(STATION)), 1);
 }
 
 #[test]
@@ -647,5 +340,5 @@ fn what_a_network_used_of_the_air_is_counted_with_all_its_tries() {
     let sent = driver.flush();
     driver.reported(0, &sent[0], 6, true);
     let size = Size { octets: sent[0].frame.len(), rate: 108, is_acknowledged: true };
-    assert_eq!(driver.air.queue.accounts[0].used - before, size.cost().sending(7));
+    assert_eq!(driver.air.queue.accounts[0].used - before, size.cost().tries(7));
 }

@@ -1,11 +1,12 @@
 //! What a frame takes of the air of the 2.4 GHz band: what shares of the air are reckoned by.
 //!
 //! A frame is sent for its preamble and its octets, and for SIFS and the acknowledgement where one is awaited (the crate
-//! `tx_time`): by this shares are reckoned. A try takes DIFS and half of its contention window besides, which doubles
-//! with each try (IEEE Std 802.11-2016, 10.3.3): by this one reckons how long to try.
+//! `tx_time`). A try takes DIFS and half of its contention window besides, which doubles with each try (IEEE Std
+//! 802.11-2016, 10.3.3). What a radio really draws isn't told: the mean is reckoned.
+
 use tx_time::{is_spread, of_acknowledgement, of_frame, DIFS, SLOT};
 
-use crate::os::clock::Nanos;
+use crate::os::clock::{nanos, Duration};
 
 const LEAST_WINDOW: [u64; 2] = [15, 31];
 const MOST_WINDOW: u64 = 1023;
@@ -22,42 +23,41 @@ pub struct Size {
 }
 
 impl Size {
+    /// How long one try of it is on the air with its acknowledgement, in nanoseconds.
+    pub fn on_air(self) -> u64 {
+        let acknowledgement = if self.is_acknowledged { of_acknowledgement(self.rate) } else { 0 };
+        of_frame(self.rate, self.octets) + acknowledgement
+    }
+
     /// What it takes of the air, reckoned once for all that is asked of it.
     pub fn cost(self) -> Cost {
-        let acknowledgement = if self.is_acknowledged { of_acknowledgement(self.rate) } else { 0 };
-        let once = of_frame(self.rate, self.octets) + acknowledgement;
-        Cost { once, window: LEAST_WINDOW[usize::from(is_spread(self.rate))] }
+        Cost { once: self.on_air(), window: LEAST_WINDOW[usize::from(is_spread(self.rate))] }
     }
 }
 
 /// What a frame takes of the air.
 #[derive(Debug, Clone, Copy, PartialEq, Eq)]
 pub struct Cost {
-    /// How long one try is sent.
-    once: Nanos,
+    /// How long one try is sent, in nanoseconds.
+    once: u64,
     /// The contention window of the first try.
     window: u64,
 }
 
 impl Cost {
-    /// How long it is sent in so many tries.
-    pub fn sending(self, tries: u32) -> Nanos {
-        Nanos::from(tries) * self.once
-    }
-
     /// How long so many tries take in all, on the average of what is drawn.
-    pub fn tries(self, number: u32) -> Nanos {
-        let (mut time, mut window) = (self.sending(number), self.window);
+    pub fn tries(self, number: u32) -> Duration {
+        let (mut time, mut window) = (u64::from(number) * self.once, self.window);
         for _ in 0..number {
             time += wait(window);
             window = wider(window);
         }
-        time
+        Duration::from_nanos(time)
     }
 
     /// How many tries fit into a time, of so many at most, and `least` where fewer do.
-    pub fn tries_within(self, time: Nanos, least: u8, most: u8) -> u8 {
-        let (mut number, mut taken, mut window) = (0, 0, self.window);
+    pub fn tries_within(self, time: Duration, least: u8, most: u8) -> u8 {
+        let (time, mut number, mut taken, mut window) = (nanos(time), 0, 0, self.window);
         while number < most {
             taken += self.once + wait(window);
             if taken > time {
@@ -70,8 +70,8 @@ impl Cost {
     }
 }
 
-/// How long is waited before a try, on the average: DIFS, and half of its contention window.
-fn wait(window: u64) -> Nanos {
+/// How many nanoseconds are waited before a try, on the average: DIFS, and half of its contention window.
+fn wait(window: u64) -> u64 {
     DIFS + window * SLOT / 2
 }
 
@@ -96,12 +96,14 @@ mod tests {
     #[test]
     fn a_try_takes_its_backoff_and_its_acknowledgement_too() {
         // At 54 Mb/s: DIFS, 7.5 slots, 26 microseconds and 54 symbols, SIFS and the acknowledgement.
-        assert_eq!(cost(1436, 108).tries(1), 50_000 + 150_000 + 242_000 + 44_000);
+        assert_eq!(nanos(cost(1436, 108).tries(1)), 50_000 + 150_000 + 242_000 + 44_000);
         assert_eq!(
-            Size { is_acknowledged: false, ..size(1436, 2) }.cost().tries(1),
+            nanos(Size { is_acknowledged: false, ..size(1436, 2) }.cost().tries(1)),
             50_000 + 310_000 + 192_000 + 11_520_000
         );
-        assert_eq!((cost(1436, 108).tries(0), cost(1436, 108).sending(3)), (0, 3 * 286_000));
+        assert_eq!(cost(1436, 108).tries(0), Duration::ZERO);
+        // The window doubles: 31 and 63 slots.
+        assert_eq!(nanos(cost(1436, 108).tries(3)), 3 * (50_000 + 286_000) + 150_000 + 310_000 + 630_000);
     }
 
     #[test]
@@ -119,8 +121,8 @@ mod tests {
     fn each_rate_and_length_takes_a_time() {
         for rate in 0..=u8::MAX {
             for octets in [0, 10, 1500, 4096] {
-                assert!(cost(octets, rate).tries(1) > DIFS);
-                assert!(cost(octets, rate).tries_within(0, 2, 11) == 2);
+                assert!(cost(octets, rate).tries(1) > Duration::from_nanos(DIFS));
+                assert!(cost(octets, rate).tries_within(Duration::ZERO, 2, 11) == 2);
             }
         }
     }

@@ -4,7 +4,9 @@ use std::collections::BTreeMap;
 use super::*;
 use crate::formats::frames::Address;
 use crate::formats::radiotap::{Outcome, SENDING_LEN};
-use crate::os::clock::MILLISECOND;
+use crate::os::clock::{Instant, MILLISECOND, SECOND};
+use crate::outbound::air::handing_back::Errand;
+use crate::outbound::air::sleeping::Mark;
 use crate::testing::samples::{network, Seeded, Unit, OTHER, OURS, STATION, STRANGER};
 
 const CALLS: usize = if cfg!(debug_assertions) { 50_000 } else { 500_000 };
@@ -16,16 +18,24 @@ const RATES: [u8; 6] = [0x82, 0x84, 12, 24, 48, 108];
 struct Caller {
     air: Transmitter,
     seeded: Seeded,
-    now: Nanos,
+    now: Instant,
     sequence: u16,
     on_air: VecDeque<Vec<u8>>,
+    /// The marks that aren't answered, and the number of the last one.
+    marks: VecDeque<Mark>,
+    last_mark: Mark,
+    handed_back: usize,
+    /// Whether the radio's socket has room.
+    has_room: bool,
 }
 
 impl Caller {
     fn new(seed: u64) -> Caller {
         let networks = BSSIDS.map(|bssid| Network { rates: RATES.to_vec(), ..network(bssid) });
         let air = Transmitter::new(&networks);
-        Caller { air, seeded: Seeded(seed), now: 0, sequence: 0, on_air: VecDeque::new() }
+        let (on_air, marks, now) = (VecDeque::new(), VecDeque::new(), Instant::START);
+        let (sequence, last_mark, handed_back, has_room) = (0, 0, 0, true);
+        Caller { air, seeded: Seeded(seed), now, sequence, on_air, marks, last_mark, handed_back, has_room }
     }
 
     fn frame(&mut self, control: u8, body: Vec<u8>) -> (Place, Vec<u8>) {
@@ -46,6 +56,17 @@ impl Caller {
         self.air.send(place, octets, self.now);
     }
 
+    /// Three units come for a station, and have their turn where they may.
+    fn send_units(&mut self, place: Place, receiver: Address) {
+        for _ in 0..3 {
+            self.sequence = (self.sequence + 1) % 4096;
+            let (transmitter, sequence) = (BSSIDS[place], self.sequence << 4);
+            let unit = Unit { control: [0x08, 0], receiver, transmitter, sequence, ..Unit::default() };
+            self.air.send(place, unit.octets(), self.now);
+        }
+        self.air.choose(usize::MAX, self.now);
+    }
+
     fn hear(&mut self) {
         let (place, transmitter) = (self.seeded.below(2), RECEIVERS[self.seeded.below(2)]);
         let body = [&[0; 4][..], &[1, 6], &RATES].concat();
@@ -57,11 +78,51 @@ impl Caller {
     fn report(&mut self) {
         let from = if self.seeded.below(8) == 0 { self.seeded.below(self.on_air.len()) } else { 0 };
         if let Some(packet) = self.on_air.remove(from) {
-            let frame = &packet[SENDING_LEN..];
-            let place = usize::from(frame[15] == OTHER.octets()[5]);
             let (is_acknowledged, retries) = (self.seeded.below(6) > 0, self.seeded.below(4) as u8);
-            let outcome = Outcome { is_acknowledged, retries, rate: Some(packet[8]) };
-            self.air.reported(place, frame, outcome, self.now);
+            self.tell(&packet, is_acknowledged, retries);
+        }
+    }
+
+    fn tell(&mut self, packet: &[u8], is_acknowledged: bool, retries: u8) {
+        let frame = &packet[SENDING_LEN..];
+        let place = usize::from(frame[15] == OTHER.octets()[5]);
+        let outcome = Outcome { is_acknowledged, retries, rate: Some(packet[8]) };
+        self.air.reported(place, frame, outcome, self.now);
+    }
+
+    /// A station dozes, wakes, leaves or joins, or the program answers a mark.
+    fn move_station(&mut self) {
+        let (place, station) = (self.seeded.below(2), RECEIVERS[self.seeded.below(2)]);
+        let (mark, now) = (self.last_mark + 1, self.now);
+        let moved = match self.seeded.below(16) {
+            0 => {
+                self.air.leaves(place, station, Some(mark), now);
+                true
+            }
+            1 => {
+                self.air.joins(place, station, now);
+                false
+            }
+            2..=5 if self.air.is_asleep(place, station) => {
+                self.air.wakes(place, station, mark, now);
+                true
+            }
+            2..=5 => {
+                self.air.dozes(place, station, mark, now);
+                true
+            }
+            _ => {
+                let answered = self.marks.pop_front();
+                answered.into_iter().for_each(|mark| assert!(self.air.answered(mark, now)));
+                false
+            }
+        };
+        if moved {
+            self.marks.push_back(mark);
+            self.last_mark = mark;
+        }
+        while let Some(errand) = self.air.next_errand() {
+            self.handed_back += usize::from(matches!(errand, Errand::HandBack { .. }));
         }
     }
 
@@ -83,13 +144,14 @@ impl Caller {
 
     /// A seeded call; answers what goes on the air after it.
     fn call(&mut self) -> Vec<Vec<u8>> {
-        self.now += self.seeded.below(MILLISECOND as usize) as u64;
-        match self.seeded.below(16) {
+        self.now += Duration::from_nanos(self.seeded.below(1_000_000) as u64);
+        match self.seeded.below(17) {
+            16 => self.move_station(),
             0..=6 => self.send(),
             7 => self.hear(),
             8..=13 => self.report(),
             14 => self.pass(),
-            _ if self.air.is_down() => self.air.came_up(20 * MILLISECOND),
+            _ if self.air.is_down() => self.air.came_up(20 * MILLISECOND, self.now),
             _ if self.seeded.below(50) == 0 => self.air.went_down(),
             _ => {}
         }
@@ -97,12 +159,48 @@ impl Caller {
             return Vec::new();
         }
         if self.seeded.below(50) == 0 {
-            self.air.refused();
+            self.air.refused(self.now);
         }
-        let gone: Vec<Vec<u8>> = self.air.chosen().map(<[u8]>::to_vec).collect();
+        let changes = self.seeded.below(if self.has_room { 40 } else { 8 }) == 0;
+        self.has_room ^= changes;
+        if self.has_room {
+            self.give()
+        } else {
+            Vec::new()
+        }
+    }
+
+    /// The radio is given what had its turn.
+    fn give(&mut self) -> Vec<Vec<u8>> {
+        let gone: Vec<Vec<u8>> = self.air.awaiting_room().map(<[u8]>::to_vec).collect();
         self.air.gave(gone.len());
         self.on_air.extend(gone.iter().cloned());
         gone
+    }
+
+    /// All stations are awake, doze while there is no room, and are awake again; then units for them come. From now on
+    /// the radio has room, and tells of all that it has at once, until nothing waits or for three seconds.
+    fn finish(&mut self) {
+        for (place, station) in [0, 1].into_iter().flat_map(|place| [STATION, STRANGER].map(|to| (place, to))) {
+            self.air.joins(place, station, self.now);
+            self.send_units(place, station);
+            self.air.dozes(place, station, self.last_mark + 1, self.now);
+            self.air.joins(place, station, self.now);
+            self.send_units(place, station);
+        }
+        if self.air.is_down() {
+            self.air.came_up(20 * MILLISECOND, self.now);
+        }
+        let end = self.now + 3 * SECOND;
+        while !self.air.is_empty() && self.now < end {
+            while let Some(packet) = self.on_air.pop_front() {
+                self.tell(&packet, true, 0);
+            }
+            self.now += MILLISECOND;
+            self.air.expire(self.now);
+            self.air.choose(usize::MAX, self.now);
+            self.give();
+        }
     }
 }
 
@@ -117,7 +215,7 @@ fn the_same_calls_have_the_same_answers() {
         assert_eq!((one.air.due(), one.air.has_next()), (other.air.due(), other.air.has_next()));
     }
     assert_eq!(one.air.accounts(), other.air.accounts());
-    assert!(gone > CALLS / 8, "{gone}");
+    assert!(gone > CALLS / 8 && one.handed_back > CALLS / 100, "{gone} {}", one.handed_back);
 }
 
 /// Units for one receiver go in the order in which they came. One goes once more at most, and before newer ones.
@@ -138,4 +236,17 @@ fn units_for_one_receiver_keep_their_order() {
         }
     }
     assert!(again > CALLS / 500, "{again}");
+}
+
+/// Whatever was called before: a radio that tells of all that it has is given all that waits.
+#[test]
+fn what_waits_goes_in_the_end() {
+    for seed in 0..CALLS as u64 / 500 {
+        let mut caller = Caller::new(seed);
+        (0..500).for_each(|_| {
+            caller.call();
+        });
+        caller.finish();
+        assert!(caller.air.is_empty(), "{seed}");
+    }
 }

@@ -3,11 +3,11 @@ use std::rc::Rc;
 
 use super::{microseconds, Intake, Interface, Reports, Sent, Transmitter};
 use crate::formats::frames::{Address, Frame};
-use crate::formats::radiotap::{sending_header, SENDING_LEN};
-use crate::os::clock::{Nanos, MILLISECOND};
+use crate::formats::radiotap::{sending_header, MOST_RETRIES, SENDING_LEN};
+use crate::os::clock::{Duration, Instant, MILLISECOND};
 use crate::outbound::air::account::Unsent;
 use crate::outbound::air::air_time::{Cost, Size};
-use crate::outbound::air::frame::{FrameKind, OutboundFrame, Receiver, MOST_LIFETIME};
+use crate::outbound::air::frame::{FrameKind, OutboundFrame, Receiver, MOST_LIFETIME, MOST_UNDRAINED};
 use crate::outbound::air::in_flight::FrameName;
 use crate::outbound::air::lateness::Lateness;
 use crate::outbound::air::links::Links;
@@ -16,43 +16,79 @@ use crate::outbound::air::scheduler::Place;
 
 /// How long the tries of one sending take at most, the waits before them included. Linux stations and hostapd give up
 /// after seven tries, which take so long for a long unit at 54 Mb/s.
-const MOST_TRYING: Nanos = 25_200_000;
+const MOST_TRYING: Duration = Duration::from_micros(25_200);
 /// One that has to be acknowledged is tried twice, however long that takes.
 const LEAST_TRIES: u8 = 2;
+/// How long the radio takes at most for the frames of one network that it has at once, if nobody acknowledges any of
+/// them, unless that is one frame. A beacon waits so long where a station has gone.
+pub const MOST_TRYING_AT_ONCE: Duration = Duration::from_millis(50);
+/// So often a unit is tried at most that goes behind others of its network, to a station that loses few tries: where it
+/// loses a tenth of them, one unit in 10,000 goes once more. So the radio may have enough of them at once.
+const MOST_TRIES_BEHIND: u8 = 4;
 /// While no more frames wait for a station that loses some, the radio has one of them at a time.
 pub const FEW: usize = 8;
+/// Answers are tried twice at most while one other is sent or waits, and once while more than so many are or do.
+const MOST_TRIED_TWICE: usize = 8;
 /// How often the radio's socket is looked at, where the radio doesn't say what became of a frame.
-pub const LOOK_EVERY: Nanos = MILLISECOND;
+pub const LOOK_EVERY: Duration = MILLISECOND;
 /// A radio that had as much as it may have at once is busy for so long.
-const BUSY_SINCE_FULL: Nanos = 100 * MILLISECOND;
+const BUSY_SINCE_FULL: Duration = Duration::from_millis(100);
+
+/// How a frame is expected to go, unless it is a sample or one that was lost.
+#[derive(Debug, Clone, Copy)]
+struct Expected {
+    size: Size,
+    cost: Cost,
+    /// For how long it may be tried.
+    trying: Duration,
+}
 
 impl Transmitter {
     /// Whether the frame that waits first is worth nothing any more. A unit's time counts since its station could be
-    /// sent to, and late ones go for a while (`lateness`).
-    fn is_worthless(links: &Links, lateness: &mut Lateness, place: Place, frame: &OutboundFrame, now: Nanos) -> bool {
-        let waited = now.saturating_sub(frame.since);
-        let is_late = waited > frame.kind.lifetime();
-        if !matches!(frame.kind, FrameKind::Unit | FrameKind::Again) {
-            return is_late;
+    /// sent to, and late ones go for a while (`lateness`). What was kept is worth something while it drains.
+    fn is_worthless(links: &Links, lateness: &mut Lateness, place: Place, frame: &OutboundFrame, now: Instant) -> bool {
+        let is_late = now > frame.since + frame.kind.lifetime();
+        match frame.kind {
+            FrameKind::Unit | FrameKind::Again => {
+                let since = links.had_kept(place, frame.address).max(frame.since);
+                let could_go = links.goes_since(place, frame.address).max(since);
+                let is_late = is_late && now > could_go + frame.kind.lifetime();
+                lateness.look(place, frame.address, is_late, now) || now > since + MOST_LIFETIME
+            }
+            FrameKind::Kept => is_late && now > links.acknowledged(place, frame.address) + MOST_UNDRAINED,
+            _ => is_late,
         }
-        let could_go = || now.saturating_sub(links.goes_since(place, frame.address).max(frame.since));
-        let is_late = is_late && could_go() > frame.kind.lifetime();
-        lateness.look(place, frame.address, is_late, now) || waited > MOST_LIFETIME
+    }
+
+    /// The frame that waits first is worth nothing any more. A unit that answers a poll goes back to the program, as long
+    /// as its station dozes. Where what was kept for a station doesn't drain, all of it is dropped.
+    fn give_up(&mut self, place: Place, receiver: Receiver, now: Instant) {
+        let frame = match self.queue.take_first(place, receiver) {
+            Some(frame) => frame,
+            None => return,
+        };
+        if frame.kind.is_unit() && self.hand_back_late(place, frame.address, &frame.octets, now) {
+            return;
+        }
+        self.queue.accounts[place].count_unsent(Unsent::Late);
+        if frame.kind == FrameKind::Kept {
+            self.queue.drop_backlog(place, frame.address, Unsent::Late);
+        }
     }
 
     /// Chooses what goes next, until so many frames are chosen or none may go. Answers whether any is chosen that may
     /// be handed to the radio: none while a beacon waits.
-    pub fn choose(&mut self, most: usize, now: Nanos) -> bool {
+    pub fn choose(&mut self, most: usize, now: Instant) -> bool {
         if self.interface == Interface::Down || !self.beacons.is_empty() {
             return false;
         }
-        while self.chosen.len() < most && self.choose_one(now) {}
-        !self.chosen.is_empty()
+        while self.awaiting_room.len() < most && self.choose_one(now) {}
+        !self.awaiting_room.is_empty()
     }
 
     /// Whether frames wait behind such as are out for long, so that one asks the radio's socket whether they are.
-    pub fn is_doubtful(&self, now: Nanos) -> bool {
-        self.in_flight.is_doubtful(now) && self.chosen.is_empty() && self.queue.scheduler.has_ready()
+    pub fn is_doubtful(&self, now: Instant) -> bool {
+        self.in_flight.is_doubtful(now) && self.awaiting_room.is_empty() && self.queue.scheduler.any_ready()
     }
 
     /// The radio's socket is empty or isn't. If it is, what became of those frames needn't be known before others go.
@@ -66,49 +102,92 @@ impl Transmitter {
     }
 
     /// What may go is chosen: the radio's socket is looked at some time later, where frames wait for the radio.
-    pub fn set_look(&mut self, now: Nanos) {
-        self.look_due = match (self.intake, self.look_due) {
-            (Intake::Bounded | Intake::Unbounded, _) => None,
-            (Intake::Closed, due) => due.or_else(|| Some(self.next_look(now))),
+    pub fn set_look(&mut self, now: Instant) {
+        let waits_for_radio = match self.intake {
+            Intake::Closed => true,
+            Intake::Bounded if self.in_flight.any_missing() => !self.queue.scheduler.is_empty(),
+            Intake::Bounded => self.queue.scheduler.any_ready() && self.queue.scheduler.held().is_some(),
+            Intake::Unbounded => false,
         };
+        self.look_due = waits_for_radio.then(|| self.look_due.unwrap_or_else(|| self.next_look(now)));
     }
 
     /// When the radio's socket is looked at: once its first frame is overdue, and at once where it never tells
     /// anything.
-    fn next_look(&self, now: Nanos) -> Nanos {
+    fn next_look(&self, now: Instant) -> Instant {
         let overdue = self.in_flight.overdue().filter(|_| self.links.is_told());
-        overdue.unwrap_or(0).max(now + LOOK_EVERY)
+        overdue.unwrap_or(now).max(now + LOOK_EVERY)
     }
 
     /// Chooses the frame that goes next; false where none may go now.
-    fn choose_one(&mut self, now: Nanos) -> bool {
-        while let Some((place, receiver, frame)) = self.queue.scheduler.first() {
+    fn choose_one(&mut self, now: Instant) -> bool {
+        if !self.queue.notices.is_empty() {
+            self.queue.admit_notice(now);
+        }
+        loop {
+            self.pass_over();
+            let (place, receiver, frame) = match self.queue.scheduler.first() {
+                Some(first) => first,
+                None => return false,
+            };
             let address = frame.address;
             if Self::is_worthless(&self.links, &mut self.lateness, place, frame, now) {
-                self.queue.drop_first(place, receiver, Unsent::Late);
+                self.give_up(place, receiver, now);
             } else if matches!(receiver, Receiver::Station(_)) && self.awaits(place, address, now) {
                 self.queue.scheduler.hold(place, receiver);
             } else {
-                let is_unit = matches!(frame.kind, FrameKind::Unit | FrameKind::Again);
-                let rate = self.links.expected_rate(place, address, is_unit);
+                let rate = self.links.expected_rate(place, address, frame.kind.is_unit());
                 let size = Size { octets: frame.octets.len(), rate, is_acknowledged: !address.is_group() };
                 let (cost, octets, kind) = (size.cost(), Rc::clone(&frame.octets), frame.kind);
-                if self.intake != Intake::Unbounded && !self.in_flight.has_room(cost.tries(1), now) {
+                let trying = self.most_trying((place, receiver), frame, cost, now);
+                let has_room = trying.is_some() && self.in_flight.has_room(cost.tries(1), now);
+                if self.intake != Intake::Unbounded && !has_room {
                     self.intake = Intake::Closed;
                     self.busy_until = now + BUSY_SINCE_FULL;
                     return false;
                 }
                 self.resume();
-                return self.take((place, receiver, address), kind, &octets, (size, cost), now);
+                let expected = Expected { size, cost, trying: trying.unwrap_or(MOST_TRYING) };
+                return self.take((place, receiver, address), kind, &octets, expected, now);
             }
         }
-        false
+    }
+
+    /// For how long a frame may be tried that costs so much a try; `None` where it waits until the radio told of others
+    /// of its network.
+    fn most_trying(
+        &self,
+        (place, receiver): (Place, Receiver),
+        frame: &OutboundFrame,
+        cost: Cost,
+        now: Instant,
+    ) -> Option<Duration> {
+        let others = self.in_flight.longest_of(place, now, Sent::longest);
+        if others.is_zero() {
+            return Some(MOST_TRYING);
+        }
+        let is_sure = frame.kind.is_unit() && self.links.is_sure(place, frame.address);
+        let most = if is_sure { MOST_TRIES_BEHIND - 1 } else { most_retries(frame) };
+        let most = most.min(self.retries_beside_others(place, receiver, frame.kind));
+        let trying = cost.tries(u32::from(tries_within(cost, MOST_TRYING, most)));
+        (others + trying <= MOST_TRYING_AT_ONCE).then_some(trying)
+    }
+
+    /// If all is held of the network whose turn it is, the others wait with it until the radio told of its frames. Where
+    /// the radio has none of them, that may take long, and it is passed over.
+    fn pass_over(&mut self) {
+        while let Some(held) = self.queue.scheduler.held() {
+            if self.in_flight.has_any(held) && self.intake != Intake::Unbounded {
+                break;
+            }
+            self.queue.scheduler.pass_over(held);
+        }
     }
 
     /// Whether what comes next for a station waits for what became of a frame before: of one that takes long, and of
     /// one that may be lost, since a unit is sent once more only where nothing went to its station since. Where many
     /// wait, the radio has several of them all the same, unless the last one was lost.
-    fn awaits(&self, place: Place, address: Address, now: Nanos) -> bool {
+    fn awaits(&self, place: Place, address: Address, now: Instant) -> bool {
         if self.links.is_sure(place, address) {
             return self.in_flight.is_overdue(place, address, now);
         }
@@ -125,31 +204,56 @@ impl Transmitter {
         (place, receiver, address): (Place, Receiver, Address),
         kind: FrameKind,
         octets: &Rc<Vec<u8>>,
-        expected: (Size, Cost),
-        now: Nanos,
+        expected: Expected,
+        now: Instant,
     ) -> bool {
+        let most_retries = self.retries_beside_others(place, receiver, kind);
         let (choice, waits, cost) = self.choice(place, address, kind, octets, expected, now);
-        let sending = cost.sending(1);
-        if !self.queue.serve(place, microseconds(sending)) {
+        let choice = Choice { retries: choice.retries.min(most_retries), ..choice };
+        let one_try = cost.tries(1);
+        if !self.queue.serve(place, receiver, microseconds(one_try)) {
             return false;
+        }
+        if kind == FrameKind::Kept {
+            self.links.has_kept(place, address, now);
         }
         if waits {
             self.queue.scheduler.hold(place, receiver);
         }
-        self.queue.accounts[place].used += sending;
+        self.queue.accounts[place].used += one_try;
         let number = Frame::of(octets).and_then(|frame| frame.sequence_control());
         let name = FrameName { place, receiver: address, number };
-        let is_own = matches!(kind, FrameKind::Own { .. });
         // A sample is likely to need both of its tries.
         let reckoned = cost.tries(1 + u32::from(choice.is_sample));
-        self.in_flight.give(name, Sent { cost, receiver, is_own }, reckoned, now);
+        let (size, retries) = (Size { rate: choice.rate, ..expected.size }, choice.retries);
+        let sent = Sent { size, cost, retries, receiver, kind, octets: Rc::clone(octets) };
+        self.in_flight.give(name, sent, reckoned, now);
         let mut packet = self.spare.pop().unwrap_or_default();
         packet.clear();
         packet.reserve_exact(SENDING_LEN + octets.len());
         packet.extend(sending_header(choice.rate, choice.retries));
         packet.extend_from_slice(octets);
-        self.chosen.push_back((name, packet));
+        self.awaiting_room.push_back((name, packet));
         true
+    }
+
+    /// How often a frame is tried again at most that goes next, where others wait to be answered: most of them may be
+    /// addresses that somebody made up, and who is there asks again. So one that is lost costs the others little.
+    fn retries_beside_others(&self, place: Place, receiver: Receiver, kind: FrameKind) -> u8 {
+        match kind {
+            FrameKind::Notice => 0,
+            FrameKind::Answer => {
+                let is_answer = |frame: &OutboundFrame| frame.kind == FrameKind::Answer;
+                let waiting = self.queue.scheduler.count_first(place, Receiver::Others, is_answer);
+                let with_radio = self.in_flight.count(|sent| sent.kind == FrameKind::Answer);
+                match waiting + with_radio - usize::from(receiver == Receiver::Others) {
+                    0 => u8::MAX,
+                    1..=MOST_TRIED_TWICE => 1,
+                    _ => 0,
+                }
+            }
+            _ => u8::MAX,
+        }
     }
 
     /// At which rate a frame goes, how often it is tried again, whether what comes next for its station waits, and what
@@ -160,8 +264,8 @@ impl Transmitter {
         address: Address,
         kind: FrameKind,
         octets: &Rc<Vec<u8>>,
-        (expected, cost): (Size, Cost),
-        now: Nanos,
+        expected: Expected,
+        now: Instant,
     ) -> (Choice, bool, Cost) {
         let lowest = self.links.lowest(place);
         let plainly = |retries| Choice { rate: lowest, retries, is_sample: false };
@@ -174,12 +278,27 @@ impl Transmitter {
             }
         };
         let choice = if kind == FrameKind::AnswerToAll { plainly(0) } else { choice };
-        let size = Size { rate: choice.rate, ..expected };
-        let cost = if size == expected { cost } else { size.cost() };
-        let tries = match choice.retries {
-            0 => 1,
-            retries => cost.tries_within(MOST_TRYING, LEAST_TRIES, retries + 1),
-        };
+        let size = Size { rate: choice.rate, ..expected.size };
+        let cost = if size == expected.size { expected.cost } else { size.cost() };
+        let tries = tries_within(cost, expected.trying, choice.retries);
         (Choice { retries: tries - 1, ..choice }, waits, cost)
+    }
+}
+
+/// How often a frame is tried within a time, where it is tried again so often at most.
+fn tries_within(cost: Cost, time: Duration, retries: u8) -> u8 {
+    match retries {
+        0 => 1,
+        retries => cost.tries_within(time, LEAST_TRIES, retries + 1),
+    }
+}
+
+/// How often a frame is tried again at most, by what it is.
+fn most_retries(frame: &OutboundFrame) -> u8 {
+    match frame.kind {
+        FrameKind::Own { retries } => retries,
+        FrameKind::AnswerToAll | FrameKind::Notice => 0,
+        _ if frame.address.is_group() => 0,
+        _ => MOST_RETRIES,
     }
 }

@@ -4,9 +4,9 @@ use std::rc::Rc;
 
 use crate::formats::frames::{Address, Frame, FrameType};
 use crate::inbound::frame::LONGEST;
-use crate::os::clock::{Nanos, MILLISECOND, SECOND};
+use crate::os::clock::{Duration, Instant, MILLISECOND, SECOND};
 
-pub const PROBE_RESPONSE: u8 = 0x50;
+pub(super) const PROBE_RESPONSE: u8 = 0x50;
 const AUTHENTICATION: u8 = 0xb0;
 const ASSOCIATION_RESPONSES: [u8; 2] = [0x10, 0x30];
 
@@ -49,6 +49,10 @@ impl Hash for Receiver {
 pub enum FrameKind {
     /// A unit of data for a station.
     Unit,
+    /// A unit that the program kept for a station until it woke.
+    Kept,
+    /// A unit by which the program answers the poll of a station that dozes.
+    PollAnswer,
     /// A unit that was lost, and is sent once more.
     Again,
     /// A unit of data for a group.
@@ -59,6 +63,8 @@ pub enum FrameKind {
     Answer,
     /// What tells a station that it has to go, and all else.
     Word,
+    /// The same for one who isn't associated: whoever sends frames of made-up addresses causes it.
+    Notice,
     /// A frame that the bridge made, tried again so often.
     Own { retries: u8 },
 }
@@ -74,22 +80,31 @@ impl FrameKind {
         }
     }
 
+    /// Whether it is a unit of data for a station.
+    pub fn is_unit(self) -> bool {
+        matches!(self, FrameKind::Unit | FrameKind::Kept | FrameKind::PollAnswer | FrameKind::Again)
+    }
+
     /// How long it is worth sending, and of a unit when it is late: stations that ask for all networks listen for some
     /// 20 ms, and those that join ask again after some 200 ms. What is for groups comes at once behind a DTIM beacon,
     /// and may last to the next beacon.
-    pub fn lifetime(self) -> Nanos {
+    pub(super) fn lifetime(self) -> Duration {
         match self {
             FrameKind::Unit | FrameKind::Again => LONGEST,
+            FrameKind::PollAnswer => MOST_LIFETIME,
+            FrameKind::Kept => MOST_UNDRAINED,
             FrameKind::GroupUnit => 100 * MILLISECOND,
             FrameKind::AnswerToAll => 20 * MILLISECOND,
             FrameKind::Answer => 200 * MILLISECOND,
-            FrameKind::Word | FrameKind::Own { .. } => 2 * SECOND,
+            FrameKind::Word | FrameKind::Notice | FrameKind::Own { .. } => 2 * SECOND,
         }
     }
 }
 
 /// A unit is worth nothing after so long, whatever it waited for.
-pub const MOST_LIFETIME: Nanos = 400 * MILLISECOND;
+pub(super) const MOST_LIFETIME: Duration = Duration::from_millis(400);
+/// A unit that was kept is worth nothing once its station has acknowledged nothing for so long.
+pub(super) const MOST_UNDRAINED: Duration = Duration::from_secs(2);
 
 /// A frame that waits for the air.
 #[derive(Debug)]
@@ -97,5 +112,30 @@ pub struct OutboundFrame {
     pub octets: Rc<Vec<u8>>,
     pub address: Address,
     pub kind: FrameKind,
-    pub since: Nanos,
+    pub since: Instant,
+}
+
+/// What those who aren't associated wait for, in the order in which it goes to them.
+#[derive(Debug, Clone, Copy, PartialEq, Eq, PartialOrd, Ord)]
+pub enum Urgency {
+    /// The answer to an authentication or an association: who gets it joins.
+    Joining,
+    /// The answer to a probe request for this network alone.
+    Probing,
+    /// The answer to one for all networks.
+    ProbingAll,
+    /// No answer.
+    Rest,
+}
+
+impl OutboundFrame {
+    /// When it goes to one who isn't associated.
+    pub fn urgency(&self) -> Urgency {
+        match self.kind {
+            FrameKind::Answer if self.octets.first() == Some(&PROBE_RESPONSE) => Urgency::Probing,
+            FrameKind::Answer => Urgency::Joining,
+            FrameKind::AnswerToAll => Urgency::ProbingAll,
+            _ => Urgency::Rest,
+        }
+    }
 }

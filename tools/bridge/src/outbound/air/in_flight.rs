@@ -21,29 +21,35 @@
 //! 8. Once its socket is empty, the radio has no frame any more, and none takes any of its time. Those that it had have
 //!    *left*. If what it told was read since, and a frame wasn't in it, that one is *missing*: it may be out after all.
 //!    The oldest frame is the first that hasn't left.
-//! 9. A frame of which nothing was told for 200 ms is taken out. The radio tells of a frame once; of several of one
-//!    name it tells of the first.
+//! 9. A frame of which nothing was told for 200 ms is taken out, and a missing one once the socket was empty at 16 more
+//!    looks. After two of these the radio has none of it as far as its network's turn goes (`has_any`). The radio tells
+//!    of a frame once; of several of one name it tells of the first.
 //!
 //! Nothing is sent or timed here.
 use std::collections::VecDeque;
 
 use crate::formats::frames::Address;
-use crate::os::clock::{Nanos, MILLISECOND};
+use crate::os::clock::{nanos, Duration, Instant, MILLISECOND};
 use crate::outbound::air::scheduler::Place;
 
 /// How long the radio takes at most for what it has at once, unless that is one frame.
-const MOST_AT_ONCE: Nanos = 8 * MILLISECOND;
+const MOST_AT_ONCE: Duration = Duration::from_millis(8);
 /// A radio that takes longer for what it has is busy.
-const BUSY: Nanos = 2 * MILLISECOND;
+const BUSY: Duration = Duration::from_millis(2);
 /// A frame of which nothing was told for so long is one of which nothing will be.
-pub const MOST_OUT: Nanos = 200 * MILLISECOND;
+pub const MOST_OUT: Duration = Duration::from_millis(200);
+/// At so many looks the socket is empty until a frame that is missing is given up. Outcomes are read between two looks,
+/// though maybe not all that wait, and some come late.
+const MOST_EMPTY_LOOKS: u8 = 16;
+/// The same, until other networks wait no more for what becomes of it.
+const MOST_LOOKS_AWAITED: u8 = 2;
 /// The weight of the last outcome in what is known of the radio's pace, as a part.
-const PACE_PARTS: u64 = 8;
+const PACE_PARTS: u32 = 8;
 const PACE_UNIT: u64 = 1024;
 /// The radio isn't taken for faster than this many times what is reckoned: short preambles and slots are half of it.
 const FASTEST: u64 = 4;
 /// Nor for slower than one that takes so long for a frame: it was away, or the bridge was.
-const MOST_STEP: Nanos = 100 * MILLISECOND;
+const MOST_STEP: Duration = Duration::from_millis(100);
 
 /// A frame by what the radio tells of it.
 #[derive(Debug, Clone, Copy, PartialEq, Eq)]
@@ -62,13 +68,13 @@ struct FrameInFlight<W> {
     name: FrameName,
     what: W,
     /// What of the radio's time it is reckoned to take from now on.
-    reckoned: Nanos,
-    since: Nanos,
+    reckoned: Duration,
+    since: Instant,
     /// When it has been out for twice the time in which the radio was reckoned to be done with it. That time began when
     /// the radio got it, or when one before it that took longer was told of.
-    overdue: Nanos,
+    overdue: Instant,
     /// The same, where what the radio got later for others and let go before it makes that time longer.
-    awaited: Nanos,
+    awaited: Instant,
     state: State,
 }
 
@@ -79,46 +85,55 @@ enum State {
     Out,
     /// It doesn't, by what its socket says; what became of the frame wasn't looked at since.
     Left,
-    /// It was looked at since, and the frame wasn't among those that the radio told of.
-    Missing,
+    /// It was looked at since, and the frame wasn't among those that the radio told of; the socket was empty so often
+    /// since then.
+    Missing { empty_looks: u8 },
 }
 
 impl<W> FrameInFlight<W> {
     /// Whether the radio has it for so long that it must have let newer ones go before it.
-    fn was_overtaken(&self, now: Nanos) -> bool {
+    fn was_overtaken(&self, now: Instant) -> bool {
         self.overdue.max(self.since + 2 * MOST_AT_ONCE) < now
     }
 }
 
 /// How long a radio of this pace takes for what is reckoned to take so long.
-fn at_pace(pace: u64, reckoned: Nanos) -> Nanos {
-    (reckoned / PACE_UNIT).saturating_mul(pace)
+fn at_pace(pace: u64, reckoned: Duration) -> Duration {
+    Duration::from_nanos((nanos(reckoned) / PACE_UNIT).saturating_mul(pace))
 }
 
 /// The frames that the radio has, in the order in which it got them, and how fast it is.
 #[derive(Debug)]
 pub struct InFlight<W> {
     frames: VecDeque<FrameInFlight<W>>,
-    reckoned: Nanos,
+    reckoned: Duration,
     /// When the radio is reckoned to be done with all of them, though nobody has looked yet what became of some.
-    done: Nanos,
+    done: Instant,
     /// The clock's time and the reckoned time of the last outcomes, the latest counting most.
-    spent: Nanos,
-    took: Nanos,
+    spent: Duration,
+    took: Duration,
     /// How many nanoseconds of the clock go by in so many reckoned ones as `PACE_UNIT` has.
     pace: u64,
-    last_told: Nanos,
+    last_told: Instant,
 }
 
 impl<W> InFlight<W> {
     /// The radio has nothing, and is taken to be as fast as is reckoned.
     pub fn new() -> InFlight<W> {
         let took = PACE_PARTS * MILLISECOND;
-        InFlight { frames: VecDeque::new(), reckoned: 0, done: 0, spent: took, took, pace: PACE_UNIT, last_told: 0 }
+        InFlight {
+            frames: VecDeque::new(),
+            reckoned: Duration::ZERO,
+            done: Instant::START,
+            spent: took,
+            took,
+            pace: PACE_UNIT,
+            last_told: Instant::START,
+        }
     }
 
     /// Whether a frame that is reckoned to take so long may be given to it now.
-    pub fn has_room(&self, reckoned: Nanos, now: Nanos) -> bool {
+    pub fn has_room(&self, reckoned: Duration, now: Instant) -> bool {
         match self.oldest() {
             None => true,
             Some(oldest) if oldest.was_overtaken(now) => false,
@@ -137,21 +152,21 @@ impl<W> InFlight<W> {
     }
 
     /// How long the radio takes for what is reckoned to take so long, by its pace.
-    fn by_clock(&self, reckoned: Nanos) -> Nanos {
+    fn by_clock(&self, reckoned: Duration) -> Duration {
         at_pace(self.pace, reckoned)
     }
 
     /// The same of a radio that isn't faster than is reckoned.
-    fn takes(&self, reckoned: Nanos) -> Nanos {
+    fn takes(&self, reckoned: Duration) -> Duration {
         self.by_clock(reckoned).max(reckoned)
     }
 
     /// The radio is given a frame.
-    pub fn give(&mut self, name: FrameName, what: W, reckoned: Nanos, now: Nanos) {
+    pub fn give(&mut self, name: FrameName, what: W, reckoned: Duration, now: Instant) {
         self.reckoned += reckoned;
         let behind_those_before = self.done.max(now) + self.takes(reckoned);
         self.done = behind_those_before.min(now + self.takes(self.reckoned));
-        let overdue = now + 2 * (self.done - now);
+        let overdue = now + 2 * self.done.since(now);
         self.frames.push_back(FrameInFlight {
             name,
             what,
@@ -165,26 +180,26 @@ impl<W> InFlight<W> {
 
     /// The radio told of a frame at this time, which has taken as long as `took` says of it; answers what was given.
     /// `None` of a frame that it doesn't have.
-    pub fn reported(&mut self, name: FrameName, now: Nanos, took: impl FnOnce(&W) -> Nanos) -> Option<W> {
+    pub fn reported(&mut self, name: FrameName, now: Instant, took: impl FnOnce(&W) -> Duration) -> Option<W> {
         let found = self.frames.iter().position(|given| given.name == name)?;
         let FrameInFlight { what, reckoned, since, overdue, .. } = self.frames.remove(found)?;
         self.reckoned -= reckoned;
         if overdue < now {
             self.wait_anew(found, name, now);
         }
-        let step = now.saturating_sub(since.max(self.last_told)).min(MOST_STEP);
+        let step = now.since(since.max(self.last_told)).min(MOST_STEP);
         self.last_told = self.last_told.max(now);
         let took = took(&what);
         self.overtake(found, name, took);
         self.spent = self.spent - self.spent / PACE_PARTS + step;
         self.took = self.took - self.took / PACE_PARTS + took;
-        self.pace = (self.spent * PACE_UNIT / self.took.max(1)).max(PACE_UNIT / FASTEST);
+        self.pace = (nanos(self.spent) * PACE_UNIT / nanos(self.took).max(1)).max(PACE_UNIT / FASTEST);
         Some(what)
     }
 
     /// A frame took longer than was reckoned: those for others that the radio got after it have their time from now on.
-    fn wait_anew(&mut self, from: usize, late: FrameName, now: Nanos) {
-        let (pace, mut reckoned) = (self.pace, 0);
+    fn wait_anew(&mut self, from: usize, late: FrameName, now: Instant) {
+        let (pace, mut reckoned) = (self.pace, Duration::ZERO);
         for given in self.frames.iter_mut().skip(from) {
             reckoned += given.reckoned;
             if (given.name.place, given.name.receiver) != (late.place, late.receiver) {
@@ -196,7 +211,7 @@ impl<W> InFlight<W> {
     }
 
     /// The radio sent a frame before those up to here that it got earlier for others: these are awaited for longer.
-    fn overtake(&mut self, until: usize, sent: FrameName, took: Nanos) {
+    fn overtake(&mut self, until: usize, sent: FrameName, took: Duration) {
         let longer = 2 * self.takes(took);
         for given in self.frames.iter_mut().take(until) {
             if (given.name.place, given.name.receiver) != (sent.place, sent.receiver) {
@@ -205,16 +220,23 @@ impl<W> InFlight<W> {
         }
     }
 
-    /// The radio was never given this frame.
-    pub fn forget(&mut self, name: FrameName) {
-        if let Some(place) = self.frames.iter().rposition(|given| given.name == name) {
-            self.reckoned -= self.frames.remove(place).map_or(0, |given| given.reckoned);
-        }
+    /// The radio was never given this frame; answers what it was.
+    pub fn forget(&mut self, name: FrameName) -> Option<W> {
+        let place = self.frames.iter().rposition(|given| given.name == name)?;
+        let given = self.frames.remove(place)?;
+        self.reckoned -= given.reckoned;
+        Some(given.what)
+    }
+
+    /// The frames for a receiver of which the radio hasn't told, in the order in which it got them.
+    pub fn of(&self, place: Place, receiver: Address) -> impl Iterator<Item = (FrameName, &W)> {
+        let is_meant = move |name: &FrameName| name.receiver == receiver && name.place == place;
+        self.frames.iter().filter(move |given| is_meant(&given.name)).map(|given| (given.name, &given.what))
     }
 
     /// Whether the oldest frame that the radio has is for this receiver, and is out for more than twice its reckoned
     /// time, what overtook it counted. The younger ones may wait for it alone.
-    pub fn is_overdue(&self, place: Place, receiver: Address, now: Nanos) -> bool {
+    pub fn is_overdue(&self, place: Place, receiver: Address, now: Instant) -> bool {
         self.oldest()
             .map_or(false, |given| given.awaited < now && given.name.receiver == receiver && given.name.place == place)
     }
@@ -225,35 +247,81 @@ impl<W> InFlight<W> {
         left.any(|given| given.name.receiver == receiver && given.name.place == place)
     }
 
+    /// Whether the radio has sent a frame, and it isn't known what became of that.
+    pub fn any_unknown(&self) -> bool {
+        self.frames.iter().any(|given| given.state == State::Left)
+    }
+
     /// Whether the radio has a frame for this receiver, or it isn't known what became of one.
     pub fn has(&self, place: Place, receiver: Address) -> bool {
         self.frames.iter().any(|given| given.name.receiver == receiver && given.name.place == place)
     }
 
+    /// How long those frames of a network may take in all that were given and of which nothing was read, where
+    /// `longest` says it of one. One that has left the radio took no longer than it was out.
+    pub fn longest_of(&self, place: Place, now: Instant, longest: impl Fn(&W) -> Duration) -> Duration {
+        let takes = |given: &FrameInFlight<W>| match given.state {
+            State::Out => longest(&given.what),
+            State::Left => longest(&given.what).min(now.since(given.since)),
+            State::Missing { .. } => Duration::ZERO,
+        };
+        self.frames.iter().filter(|given| given.name.place == place).map(takes).sum()
+    }
+
+    /// Whether the radio has a frame of this network, or what became of one that it has sent may be told soon.
+    pub fn has_any(&self, place: Place) -> bool {
+        let is_awaited = |state| match state {
+            State::Out | State::Left => true,
+            State::Missing { empty_looks } => empty_looks < MOST_LOOKS_AWAITED,
+        };
+        self.frames.iter().any(|given| given.name.place == place && is_awaited(given.state))
+    }
+
     /// Whether `settle` has something to do at this time.
-    pub fn is_doubtful(&self, now: Nanos) -> bool {
+    pub fn is_doubtful(&self, now: Instant) -> bool {
         self.oldest().map_or(false, |given| given.state == State::Out && given.overdue < now)
     }
 
     /// The radio's socket says that the radio has sent all that it had: what became of that is still to be looked at.
     pub fn settle(&mut self) {
-        (self.reckoned, self.done) = (0, 0);
+        (self.reckoned, self.done) = (Duration::ZERO, Instant::START);
         for given in &mut self.frames {
-            given.reckoned = 0;
+            given.reckoned = Duration::ZERO;
             if given.state == State::Out {
                 given.state = State::Left;
             }
         }
     }
 
+    /// The socket is empty once more (`settle`): takes out the frames that have been missing for long.
+    pub fn give_up_missing(&mut self) {
+        self.frames.retain_mut(|given| match &mut given.state {
+            State::Missing { empty_looks } => {
+                *empty_looks += 1;
+                *empty_looks < MOST_EMPTY_LOOKS
+            }
+            State::Out | State::Left => true,
+        });
+    }
+
+    /// Whether a frame is missing.
+    pub fn any_missing(&self) -> bool {
+        self.frames.iter().any(|given| matches!(given.state, State::Missing { .. }))
+    }
+
+    /// The names of all frames.
+    pub fn names(&self) -> impl Iterator<Item = FrameName> + '_ {
+        self.frames.iter().map(|given| given.name)
+    }
+
     /// What the radio told was looked at since `settle`: a frame that wasn't in it may be out after all.
     pub fn reports_read(&mut self) {
         let left = self.frames.iter_mut().filter(|given| given.state == State::Left);
-        left.for_each(|given| given.state = State::Missing);
+        left.for_each(|given| given.state = State::Missing { empty_looks: 0 });
     }
 
     /// Takes out the frames of which nothing will be told any more at this time.
-    pub fn expire(&mut self, now: Nanos) -> Vec<FrameName> {
+    pub fn expire(&mut self, now: Instant) -> Vec<FrameName> {
         let mut gone = Vec::new();
         while let Some(given) = self.frames.front().filter(|given| given.since + MOST_OUT <= now) {
             gone.push(given.name);
@@ -265,18 +333,23 @@ impl<W> InFlight<W> {
 
     /// The radio has nothing any more: answers what it had.
     pub fn clear(&mut self) -> Vec<FrameName> {
-        (self.reckoned, self.done) = (0, 0);
+        (self.reckoned, self.done) = (Duration::ZERO, Instant::START);
         self.frames.drain(..).map(|given| given.name).collect()
     }
 
     /// When its first frame is out for more than twice its reckoned time.
-    pub fn overdue(&self) -> Option<Nanos> {
+    pub fn overdue(&self) -> Option<Instant> {
         self.oldest().map(|given| given.overdue)
     }
 
     /// When `expire` has something to do.
-    pub fn due(&self) -> Option<Nanos> {
+    pub fn due(&self) -> Option<Instant> {
         self.frames.front().map(|given| given.since + MOST_OUT)
+    }
+
+    /// How many such frames it has.
+    pub fn count(&self, is_such: impl Fn(&W) -> bool) -> usize {
+        self.frames.iter().filter(|given| is_such(&given.what)).count()
     }
 
     /// How many frames it has.

@@ -8,24 +8,24 @@
 use std::collections::BTreeMap;
 
 use crate::formats::frames::Address;
-use crate::os::clock::{Nanos, MILLISECOND};
+use crate::os::clock::{Duration, Instant};
 use crate::outbound::air::scheduler::Place;
 
 /// For how long units of a station are late before late ones are dropped, and in time before that begins anew.
-const LASTING: Nanos = 300 * MILLISECOND;
+const LASTING: Duration = Duration::from_millis(300);
 
 /// A station whose units were late.
 #[derive(Debug)]
 struct Late {
-    since: Nanos,
-    in_time_since: Option<Nanos>,
-    looked: Nanos,
+    since: Instant,
+    in_time_since: Option<Instant>,
+    looked: Instant,
 }
 
 impl Late {
     /// Whether none was late for so long, or waited, that this is forgotten.
-    fn is_over(&self, now: Nanos) -> bool {
-        now.saturating_sub(self.in_time_since.unwrap_or(self.looked)) >= LASTING
+    fn is_over(&self, now: Instant) -> bool {
+        now >= self.in_time_since.unwrap_or(self.looked) + LASTING
     }
 }
 
@@ -34,20 +34,20 @@ impl Late {
 pub struct Lateness {
     links: BTreeMap<(Place, Address), Late>,
     /// When those were taken out that can be forgotten: seldom enough that a call's work doesn't grow with the others.
-    swept: Nanos,
+    swept: Instant,
 }
 
 impl Lateness {
     /// The first unit that waits for a station is late at this time, or it isn't. Whether it is dropped.
-    pub fn look(&mut self, place: Place, station: Address, is_late: bool, now: Nanos) -> bool {
+    pub fn look(&mut self, place: Place, station: Address, is_late: bool, now: Instant) -> bool {
         match self.links.get_mut(&(place, station)).filter(|late| !late.is_over(now)) {
             Some(late) => {
                 late.looked = now;
                 late.in_time_since = if is_late { None } else { late.in_time_since.or(Some(now)) };
-                is_late && now.saturating_sub(late.since) >= LASTING
+                is_late && now >= late.since + LASTING
             }
             None if is_late => {
-                if now.saturating_sub(self.swept) >= LASTING {
+                if now >= self.swept + LASTING {
                     self.swept = now;
                     self.links.retain(|_, late| !late.is_over(now));
                 }
@@ -62,11 +62,12 @@ impl Lateness {
 #[cfg(test)]
 mod tests {
     use super::*;
-    use crate::testing::samples::{OTHER, STATION};
+    use crate::os::clock::MILLISECOND;
+    use crate::testing::samples::{at, OTHER, STATION};
 
     /// Looks at units of one station at these times, in milliseconds: which were dropped.
-    fn dropped(lateness: &mut Lateness, looks: &[(u64, bool)]) -> Vec<u64> {
-        let mut look = |(at, is_late): &(u64, bool)| lateness.look(0, STATION, *is_late, at * MILLISECOND);
+    fn dropped(lateness: &mut Lateness, looks: &[(u32, bool)]) -> Vec<u32> {
+        let mut look = |(millis, is_late): &(u32, bool)| lateness.look(0, STATION, *is_late, at(*millis * MILLISECOND));
         looks.iter().filter(|seen| look(seen)).map(|(at, _)| *at).collect()
     }
 
@@ -101,11 +102,14 @@ mod tests {
     fn each_station_of_each_network_is_looked_at_by_itself_and_those_in_time_are_forgotten() {
         let mut lateness = Lateness::default();
         for number in 0..100 {
-            lateness.look(0, Address::of([2, 0, 0, 0, 0, number]), true, u64::from(number));
+            lateness.look(0, Address::of([2, 0, 0, 0, 0, number]), true, Instant::from_nanos(u64::from(number)));
         }
         assert_eq!(lateness.links.len(), 100);
-        assert!(!lateness.look(1, STATION, true, LASTING + 99));
-        assert!(!lateness.look(0, STATION, true, LASTING + 99) && !lateness.look(0, OTHER, false, LASTING + 99));
+        assert!(!lateness.look(1, STATION, true, at(LASTING + Duration::from_nanos(99))));
+        assert!(
+            !lateness.look(0, STATION, true, at(LASTING + Duration::from_nanos(99)))
+                && !lateness.look(0, OTHER, false, at(LASTING + Duration::from_nanos(99)))
+        );
         assert_eq!(lateness.links.len(), 2);
     }
 }

@@ -15,26 +15,20 @@ use std::rc::Rc;
 use crate::formats::frames::{Address, AddressMap, Frame, FrameType};
 use crate::formats::radiotap::{Outcome, MOST_RETRIES};
 use crate::network::Network;
-use crate::os::clock::Nanos;
+use crate::os::clock::{Duration, Instant};
 use crate::outbound::air::in_flight::MOST_OUT;
 use crate::outbound::air::rate_control::{Choice, RateControl};
 use crate::outbound::air::reporting::Reporting;
 use crate::outbound::air::scheduler::Place;
+use crate::outbound::air::station_requests::StationRequests;
 
 /// How long the frames for a station wait at most for what became of the one before.
-const MOST_WAIT: Nanos = MOST_OUT;
+const MOST_WAIT: Duration = MOST_OUT;
 /// The most stations of a network that rates are known of: more can't be associated (9.4.1.8).
 const MOST_STATIONS: usize = 2007;
-/// The most stations of a network of which the answer to an association request is awaited, and to a probe request.
-const MOST_JOINING: usize = 256;
-const MOST_ASKING: usize = 64;
 
-const SUPPORTED_RATES: u8 = 1;
-const EXTENDED_RATES: u8 = 50;
-const HEADER_LEN: usize = 24;
 const FLAGS_AT: usize = 1;
 const RETRY: u8 = 0x08;
-const PROBE_REQUEST: u8 = 0x40;
 
 /// What is done with units that nobody acknowledged.
 #[derive(Debug, Clone, Copy, Default, PartialEq, Eq)]
@@ -47,13 +41,15 @@ pub struct Unacknowledged {
 
 /// What is done once the radio has told of a frame.
 #[derive(Debug, Clone, PartialEq, Eq)]
-pub enum Next {
+pub(super) enum Next {
     /// Nothing.
     Nothing,
     /// What comes next for the station waits no more.
     Goes,
     /// This frame is sent before all others for the station: the one that was lost, with Retry set.
     Again(Rc<Vec<u8>>),
+    /// The unit was lost, and isn't sent once more.
+    GivenUp,
 }
 
 /// The frame that was sent to a station last.
@@ -72,11 +68,17 @@ struct Link {
     rates: RateControl,
     last: Option<Last>,
     /// Until when frames for it wait, where they do.
-    waits_until: Option<Nanos>,
+    waits_until: Option<Instant>,
     /// Since when they don't.
-    goes_since: Nanos,
+    goes_since: Instant,
+    /// When the last unit went that the program had kept for it.
+    had_kept: Instant,
+    /// When it acknowledged a frame last.
+    acknowledged: Instant,
     /// Its turn among all, by which the one is found that wasn't sent to for longest.
     used: u64,
+    /// Whether it isn't associated any more.
+    has_left: bool,
 }
 
 /// The stations of one network.
@@ -86,16 +88,14 @@ struct NetworkLinks {
     /// Its lowest basic rate.
     lowest: u8,
     links: AddressMap<Link>,
-    joining: VecDeque<(Address, RateControl)>,
-    /// Who asked for this network alone, by a probe request that isn't answered yet.
-    asking: VecDeque<Address>,
+    requests: StationRequests,
 }
 
 /// The stations of all networks.
 #[derive(Debug)]
-pub struct Links {
+pub(super) struct Links {
     networks: Vec<NetworkLinks>,
-    waits: VecDeque<(Nanos, Place, Address)>,
+    waits: VecDeque<(Instant, Place, Address)>,
     turns: u64,
     reporting: Reporting,
     unacknowledged: Unacknowledged,
@@ -108,8 +108,7 @@ impl Links {
             network: network.clone(),
             lowest: network.lowest_basic_rate(),
             links: AddressMap::default(),
-            joining: VecDeque::new(),
-            asking: VecDeque::new(),
+            requests: StationRequests::default(),
         };
         Links {
             networks: networks.iter().map(members).collect(),
@@ -120,39 +119,21 @@ impl Links {
         }
     }
 
-    /// A frame was heard that is for this network alone: of an association or reassociation request the rates are kept
-    /// until it is answered, and of a probe request who sent it.
+    /// A frame was heard that is for this network alone: what it asks for is kept until it is answered.
     pub fn hear(&mut self, place: Place, frame: Frame<'_>) {
         let members = &mut self.networks[place];
-        let sender = match frame.transmitter() {
-            Some(sender) => sender,
-            None => return,
-        };
-        if frame.octets()[0] == PROBE_REQUEST {
-            members.asking.retain(|asking| *asking != sender);
-            members.asking.truncate(MOST_ASKING - 1);
-            members.asking.push_front(sender);
-        }
-        let found = requested_rates(frame).and_then(|rates| RateControl::common(&rates, &members.network.rates));
-        if let Some(rates) = found {
-            members.joining.retain(|(joining, _)| *joining != sender);
-            members.joining.truncate(MOST_JOINING - 1);
-            members.joining.push_front((sender, rates));
-        }
+        members.requests.hear(frame, &members.network.rates);
     }
 
     /// Whether a station had asked for this network alone; then it is answered.
     pub fn answers(&mut self, place: Place, address: Address) -> bool {
-        let asking = &mut self.networks[place].asking;
-        let found = asking.iter().position(|asking| *asking == address);
-        found.and_then(|found| asking.remove(found)).is_some()
+        self.networks[place].requests.take_probe(address)
     }
 
     /// A network tells a station that it is associated: the rates of its request are its rates.
     pub fn join(&mut self, place: Place, address: Address) {
-        let NetworkLinks { links, joining, .. } = &mut self.networks[place];
-        let found = joining.iter().position(|(joining, _)| *joining == address);
-        if let Some((_, rates)) = found.and_then(|found| joining.remove(found)) {
+        let NetworkLinks { links, requests, .. } = &mut self.networks[place];
+        if let Some(rates) = requests.take_rates(address) {
             if links.len() >= MOST_STATIONS && !links.contains_key(&address) {
                 let oldest = links
                     .iter()
@@ -160,14 +141,35 @@ impl Links {
                     .map(|(address, _)| *address);
                 oldest.map(|address| links.remove(&address));
             }
-            let station = Link { rates, last: None, waits_until: None, goes_since: 0, used: self.turns };
+            let station = Link {
+                rates,
+                last: None,
+                waits_until: None,
+                goes_since: Instant::START,
+                had_kept: Instant::START,
+                acknowledged: Instant::START,
+                used: self.turns,
+                has_left: false,
+            };
             links.insert(address, station);
+        } else if let Some(station) = links.get_mut(&address) {
+            station.has_left = false;
         }
     }
 
-    /// Whether the rates of a station are known, and used.
+    /// A station isn't associated any more: what it was sent last isn't sent once more, and nothing waits for that.
+    pub fn leave(&mut self, place: Place, address: Address, now: Instant) {
+        if let Some(station) = self.networks[place].links.get_mut(&address) {
+            (station.last, station.has_left) = (None, true);
+            if station.go(now) {
+                self.forget_ended_waits();
+            }
+        }
+    }
+
+    /// Whether a station is associated, and its rates are known, and used.
     pub fn knows(&self, place: Place, address: Address) -> bool {
-        self.networks[place].links.contains_key(&address)
+        self.networks[place].links.get(&address).map_or(false, |station| !station.has_left)
     }
 
     /// A network's lowest basic rate.
@@ -176,8 +178,23 @@ impl Links {
     }
 
     /// Since when frames for a station don't wait for what became of one before.
-    pub fn goes_since(&self, place: Place, address: Address) -> Nanos {
-        self.networks[place].links.get(&address).map_or(0, |station| station.goes_since)
+    pub fn goes_since(&self, place: Place, address: Address) -> Instant {
+        self.networks[place].links.get(&address).map_or(Instant::START, |station| station.goes_since)
+    }
+
+    /// When the last unit went to a station that the program had kept for it.
+    pub fn had_kept(&self, place: Place, address: Address) -> Instant {
+        self.networks[place].links.get(&address).map_or(Instant::START, |station| station.had_kept)
+    }
+
+    /// A unit goes to a station that the program had kept for it.
+    pub fn has_kept(&mut self, place: Place, address: Address, now: Instant) {
+        self.networks[place].links.get_mut(&address).into_iter().for_each(|station| station.had_kept = now);
+    }
+
+    /// When a station acknowledged a frame last.
+    pub fn acknowledged(&self, place: Place, address: Address) -> Instant {
+        self.networks[place].links.get(&address).map_or(Instant::START, |station| station.acknowledged)
     }
 
     /// Whether what is sent to a station comes through as good as surely, as far as one knows.
@@ -204,13 +221,13 @@ impl Links {
         address: Address,
         frame: &Rc<Vec<u8>>,
         is_busy: bool,
-        now: Nanos,
+        now: Instant,
     ) -> (Choice, bool) {
         let is_told = self.is_told();
         let NetworkLinks { lowest, links, .. } = &mut self.networks[place];
         let plainly = Choice { rate: *lowest, retries: MOST_RETRIES, is_sample: false };
         self.turns += 1;
-        let station = match links.get_mut(&address).filter(|_| is_told) {
+        let station = match links.get_mut(&address).filter(|station| is_told && !station.has_left) {
             Some(station) => station,
             None => return (plainly, false),
         };
@@ -232,8 +249,17 @@ impl Links {
         (choice, waits)
     }
 
-    /// The radio tells what became of a frame that it was given for a station.
-    pub fn reported(&mut self, place: Place, address: Address, frame: &[u8], outcome: Outcome, now: Nanos) -> Next {
+    /// The radio tells what became of a frame that it was given for a station, which listened for it or may have dozed.
+    /// That a station didn't acknowledge what it couldn't hear tells nothing of its rates.
+    pub fn reported(
+        &mut self,
+        place: Place,
+        address: Address,
+        frame: &[u8],
+        outcome: Outcome,
+        listens: bool,
+        now: Instant,
+    ) -> Next {
         let station = match self.networks[place].links.get_mut(&address) {
             Some(station) => station,
             None => return Next::Nothing,
@@ -243,29 +269,37 @@ impl Links {
         let last = station.last.as_mut().filter(|last| last.number == number);
         let is_sample = last.as_ref().map_or(false, |last| last.choice.is_sample);
         let is_unit = is_unit(frame);
-        if is_unit {
+        if outcome.is_acknowledged {
+            station.acknowledged = now;
+        }
+        if is_unit && (listens || outcome.is_acknowledged) {
             let rate = outcome.rate.or_else(|| last.as_ref().map(|last| last.choice.rate));
             let tries = outcome.retries.saturating_add(1);
             let rates = &mut station.rates;
             rate.into_iter().for_each(|rate| rates.reported(rate, tries, outcome.is_acknowledged, is_sample));
         }
         let is_lost = is_unit && !outcome.is_acknowledged;
+        let is_last = last.is_some();
         let next = match last {
-            Some(last) if is_lost && !last.was_again => {
+            Some(last) if is_lost && listens && !last.was_again => {
                 last.was_again = true;
                 last.frame = Rc::new(again(&last.frame));
                 self.unacknowledged.again += 1;
                 Next::Again(Rc::clone(&last.frame))
             }
-            last => {
-                self.unacknowledged.lost += u64::from(is_lost);
-                last.map_or(Next::Nothing, |_| Next::Goes)
-            }
+            _ if is_lost => Next::GivenUp,
+            Some(_) => Next::Goes,
+            None => Next::Nothing,
         };
-        if next != Next::Nothing && station.go(now) {
+        if is_last && station.go(now) {
             self.forget_ended_waits();
         }
         next
+    }
+
+    /// A unit that nobody acknowledged is sent no more.
+    pub fn count_lost(&mut self) {
+        self.unacknowledged.lost += 1;
     }
 
     /// The first of the waits is one that hasn't ended, or there is none: nobody is woken for one that has.
@@ -285,12 +319,12 @@ impl Links {
     }
 
     /// When `expire` has something to do.
-    pub fn due(&self) -> Option<Nanos> {
+    pub fn due(&self) -> Option<Instant> {
         self.waits.front().map(|(until, ..)| *until)
     }
 
     /// The time is this: a station for which frames have waited long enough, if there is one. They wait no more.
-    pub fn expire(&mut self, now: Nanos) -> Option<(Place, Address)> {
+    pub fn expire(&mut self, now: Instant) -> Option<(Place, Address)> {
         while let Some((until, place, address)) = self.waits.front().copied().filter(|(until, ..)| *until <= now) {
             self.waits.pop_front();
             let station = self.networks[place].links.get_mut(&address);
@@ -316,7 +350,7 @@ impl Links {
 
 impl Link {
     /// What comes next for it waits no more; answers whether it did.
-    fn go(&mut self, now: Nanos) -> bool {
+    fn go(&mut self, now: Instant) -> bool {
         let waited = self.waits_until.take().is_some();
         if waited {
             self.goes_since = now;
@@ -340,32 +374,6 @@ fn again(frame: &[u8]) -> Vec<u8> {
     let mut octets = frame.to_vec();
     octets[FLAGS_AT] |= RETRY;
     octets
-}
-
-/// Whether a network accepts an association or reassociation by this frame (9.3.3.7, 9.3.3.9): its status is 0.
-pub fn accepts(frame: &[u8]) -> bool {
-    const STATUS_AT: usize = HEADER_LEN + 2;
-    matches!(frame.first(), Some(0x10 | 0x30)) && frame.get(STATUS_AT..STATUS_AT + 2) == Some(&[0, 0])
-}
-
-/// The rates that an association or reassociation request names (9.3.3.6, 9.3.3.8), or `None` of another frame.
-fn requested_rates(frame: Frame<'_>) -> Option<Vec<u8>> {
-    let octets = frame.octets();
-    let fixed = match octets[0] {
-        0x00 => 4,
-        0x20 => 10,
-        _ => return None,
-    };
-    let mut rest = octets.get(HEADER_LEN + fixed..)?;
-    let mut rates = Vec::new();
-    while let [kind, length, tail @ ..] = rest {
-        let body = tail.get(..usize::from(*length))?;
-        if matches!(*kind, SUPPORTED_RATES | EXTENDED_RATES) {
-            rates.extend_from_slice(body);
-        }
-        rest = &tail[body.len()..];
-    }
-    Some(rates)
 }
 
 #[cfg(test)]

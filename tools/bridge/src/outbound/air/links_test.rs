@@ -1,4 +1,6 @@
 use super::*;
+use crate::formats::frames::PROBE_REQUEST;
+use crate::outbound::air::station_requests::{requested_rates, MOST_JOINING, MOST_PROBING};
 use crate::testing::samples::network;
 
 const BSSID: [u8; 6] = [2, 0, 0, 0, 1, 1];
@@ -57,7 +59,7 @@ fn no_more_stations_of_a_network_are_known_than_there_is_room_for() {
     (0..=MOST_STATIONS).for_each(|number| {
         join(&mut links, 0, made_up(number));
         let unit = Rc::new(frame(0x08, made_up(number), BSSID, &[]));
-        links.choose(0, Address::of(made_up(number)), &unit, false, 0);
+        links.choose(0, Address::of(made_up(number)), &unit, false, Instant::START);
     });
     assert_eq!(links.networks[0].links.len(), MOST_STATIONS);
     assert!(!links.knows(0, Address::of(made_up(0))) && links.knows(0, Address::of(made_up(1))));
@@ -82,7 +84,7 @@ fn who_asked_for_a_network_alone_is_answered_once() {
     (0..2).for_each(|_| links.hear(0, Frame::of(&probe).unwrap()));
     assert!(!links.answers(1, Address::of(STATION)));
     assert!(links.answers(0, Address::of(STATION)) && !links.answers(0, Address::of(STATION)));
-    (0..=MOST_ASKING).for_each(|number| {
+    (0..=MOST_PROBING).for_each(|number| {
         links.hear(0, Frame::of(&frame(PROBE_REQUEST, BSSID, made_up(number), &[])).unwrap());
     });
     assert!(!links.answers(0, Address::of(made_up(0))) && links.answers(0, Address::of(made_up(1))));
@@ -95,7 +97,10 @@ fn what_is_told_of_strangers_changes_nothing() {
     let outcome = Outcome { is_acknowledged: false, retries: 7, rate: Some(2) };
     let stranger = frame(0x08, [2, 0, 0, 0, 9, 9], BSSID, &[]);
     for cut in 0..=stranger.len() {
-        assert_eq!(links.reported(0, Address::of([2, 0, 0, 0, 9, 9]), &stranger[..cut], outcome, 1), Next::Nothing);
+        assert_eq!(
+            links.reported(0, Address::of([2, 0, 0, 0, 9, 9]), &stranger[..cut], outcome, true, Instant::from_nanos(1)),
+            Next::Nothing
+        );
     }
     assert_eq!((links.unacknowledged(), links.due()), (Unacknowledged::default(), None));
 }

@@ -1,29 +1,36 @@
 //! The radio tells what became of a frame: who waited for that goes on, and the share of its network is corrected.
-use super::{microseconds, Intake, Reports, Transmitter};
+use super::{microseconds, Intake, Reports, Sent, Transmitter};
 use crate::formats::frames::{Address, Frame};
 use crate::formats::radiotap::Outcome;
-use crate::os::clock::Nanos;
+use crate::os::clock::Instant;
+use crate::os::port::AT_A_TIME;
 use crate::outbound::air::dequeue::LOOK_EVERY;
 use crate::outbound::air::frame::{FrameKind, OutboundFrame, Receiver};
 use crate::outbound::air::in_flight::FrameName;
 use crate::outbound::air::links::Next;
 use crate::outbound::air::scheduler::Place;
+use crate::outbound::air::sleeping::Mode;
 use crate::stations::own_frames::is_null_of_network;
+
+/// After how many frames that the radio was given what it tells of them is read, though nothing waits for that.
+const MOST_UNREAD: u64 = AT_A_TIME as u64;
 
 impl Transmitter {
     /// Whether one waits for what the radio tells of frames that it has.
     pub fn awaits_outcomes(&self) -> bool {
-        self.holds_back() || self.links.due().is_some()
+        self.holds_back() || self.links.due().is_some() || self.sleepers.awaits_outcomes()
     }
 
     /// Whether frames wait that may go once it is known what became of those that the radio has.
-    pub(super) fn holds_back(&self) -> bool {
+    fn holds_back(&self) -> bool {
         self.in_flight.len() > 0 && !self.queue.scheduler.is_empty()
     }
 
-    /// Whether what the radio tells of frames that it has is to be looked at now.
-    pub fn wants_outcomes(&self) -> bool {
-        self.holds_back() || self.reports == Reports::Wanted
+    /// Whether what the radio tells of frames that it has is to be read now, if it was given so many since that was read
+    /// last. What became of frames that have left it since then holds others, and so is read in any case.
+    pub fn wants_outcomes(&self, given: u64) -> bool {
+        let are_waited_for = self.holds_back() || self.sleepers.awaits_outcomes() || self.reports == Reports::Wanted;
+        given >= MOST_UNREAD || given > 0 && are_waited_for || self.in_flight.any_unknown()
     }
 
     /// What the radio told so far was looked at.
@@ -33,28 +40,57 @@ impl Transmitter {
     }
 
     /// The radio shows a frame that it sent, with what became of it.
-    pub fn reported(&mut self, place: Place, frame: &[u8], outcome: Outcome, now: Nanos) {
+    pub fn reported(&mut self, place: Place, frame: &[u8], outcome: Outcome, now: Instant) {
         let (address, number) = match Frame::of(frame) {
             Some(found) => (found.receiver(), found.sequence_control()),
             None => return,
         };
         let name = FrameName { place, receiver: address, number };
-        let retries = u32::from(outcome.retries);
-        let found = self.in_flight.reported(name, now, |sent| sent.cost.tries(retries + 1));
+        let tries = |outcome: Outcome| 1 + u32::from(outcome.retries);
+        let found = self.in_flight.reported(name, now, |sent| sent.cost.tries(tries(sent.within_tries(outcome))));
+        let outcome = found.as_ref().map_or(outcome, |sent| sent.within_tries(outcome));
         if let Some(sent) = &found {
-            let more = sent.cost.sending(retries);
+            let took = sent.told_cost(outcome).tries(tries(outcome));
+            let more = took.saturating_sub(sent.cost.tries(1));
             self.resume();
             self.queue.accounts[place].used += more;
             self.queue.scheduler.correct(place, sent.receiver, microseconds(more));
         }
-        let is_own = found.map_or_else(|| is_null_of_network(frame), |sent| sent.is_own);
+        let is_own = found.as_ref().map_or_else(|| is_null_of_network(frame), Sent::is_own);
         if !address.is_group() && !is_own {
-            if let Next::Again(octets) = self.links.reported(place, address, frame, outcome, now) {
-                let again = OutboundFrame { octets, address, kind: FrameKind::Again, since: now };
-                self.queue.push_first(place, Receiver::Station(address), again);
-            }
+            self.take_outcome(name, frame, found, outcome, now);
         }
         self.release(place, address);
+    }
+
+    /// What became of a frame of the program for a station is learned. A unit that was lost is sent once more where its
+    /// station listens, and goes back to the program where that dozes.
+    fn take_outcome(&mut self, name: FrameName, frame: &[u8], sent: Option<Sent>, outcome: Outcome, now: Instant) {
+        let FrameName { place, receiver: address, number } = name;
+        let mode = self.sleepers.mode(place, address);
+        let answers_poll = sent.as_ref().map_or(false, |sent| sent.kind == FrameKind::PollAnswer);
+        let listens = match mode {
+            Mode::Awake | Mode::Wakes => true,
+            Mode::Dozes => answers_poll,
+            Mode::FallsAsleep | Mode::Leaves => false,
+        };
+        let is_awaited = self.sleepers.reported((place, address), number, outcome.is_acknowledged, now);
+        match self.links.reported(place, address, frame, outcome, listens, now) {
+            Next::Again(octets) => {
+                let again = OutboundFrame { octets, address, kind: FrameKind::Again, since: now };
+                self.queue.push_first(place, Receiver::Station(address), again);
+                if mode == Mode::Dozes {
+                    self.queue.scheduler.hurry(place, Receiver::Station(address));
+                }
+            }
+            Next::GivenUp if !is_awaited => {
+                let goes_back = sent.map_or(false, |sent| self.hand_back_late(place, address, &sent.octets, now));
+                if !goes_back {
+                    self.links.count_lost();
+                }
+            }
+            Next::GivenUp | Next::Goes | Next::Nothing => {}
+        }
     }
 
     /// What comes next for a station goes, unless it waits for another frame.
@@ -66,13 +102,17 @@ impl Transmitter {
     }
 
     /// When `expire` has something to do.
-    pub fn due(&self) -> Option<Nanos> {
-        [self.links.due(), self.in_flight.due(), self.look_due].into_iter().flatten().min()
+    pub fn due(&self) -> Option<Instant> {
+        let notices = self.queue.notices.due();
+        let times = [self.links.due(), self.in_flight.due(), self.sleepers.due(), notices, self.look_due];
+        times.into_iter().flatten().min()
     }
 
     /// What has waited long enough for what became of the frame before is sent, and what the radio doesn't have any
     /// more leaves it room.
-    pub fn expire(&mut self, now: Nanos) {
+    pub fn expire(&mut self, now: Instant) {
+        self.sleepers.expire(now);
+        self.queue.notices.expire(now);
         let gone = self.in_flight.expire(now);
         self.left(gone);
         while let Some((place, address)) = self.links.expire(now) {
@@ -81,16 +121,22 @@ impl Transmitter {
     }
 
     /// Whether one looks at the radio's socket at this time.
-    pub fn wants_look(&self, now: Nanos) -> bool {
+    pub fn wants_look(&self, now: Instant) -> bool {
         self.look_due.map_or(false, |due| due <= now)
     }
 
-    /// The radio's socket was looked at, and is empty or isn't.
-    pub fn looked(&mut self, is_empty: bool, now: Nanos) {
-        if is_empty && self.chosen.is_empty() {
+    /// The radio's socket was looked at, and is empty or isn't. What became of the frames that left it may be unread.
+    pub fn looked(&mut self, is_empty: bool, now: Instant) {
+        if is_empty && self.awaiting_room.is_empty() {
             self.look_due = None;
-            let gone = self.in_flight.clear();
-            self.left(gone);
+            let had = self.in_flight.names().collect();
+            if self.links.is_told() {
+                self.in_flight.settle();
+                self.in_flight.give_up_missing();
+            } else {
+                self.in_flight.clear();
+            }
+            self.left(had);
         } else {
             self.look_due = Some(now + LOOK_EVERY);
         }
@@ -100,10 +146,11 @@ impl Transmitter {
     pub(super) fn resume(&mut self) {
         if self.intake == Intake::Closed {
             self.intake = Intake::Bounded;
+            self.look_due = None;
         }
     }
 
-    /// The radio doesn't have these frames any more, and said nothing of them.
+    /// The radio doesn't have these frames any more, and said nothing of them yet.
     pub(super) fn left(&mut self, gone: Vec<FrameName>) {
         if !gone.is_empty() {
             self.resume();

@@ -1,5 +1,6 @@
 //! The networks' debts, and whose turn it is by them: the proved rule of `crates/air_share`, which is linked as a
-//! static library. What is unsafe of it is here alone: the calls of that library, which tests its arguments itself.
+//! static library. What is unsafe of it is here alone: the calls of that library, which tests its arguments itself. That
+//! both lay `NetworkDebt` out alike `build.rs` looks at.
 #![allow(unsafe_code)]
 
 /// The largest weight of a network; the least is 1.

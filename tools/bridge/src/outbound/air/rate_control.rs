@@ -10,13 +10,14 @@
 //! is not expected to be heard where a slower one isn't.
 //!
 //! Nothing is sent, heard or timed here: what to do is asked, and what came of it is told.
+
 use crate::formats::radiotap::MOST_RETRIES;
-use crate::os::clock::{Nanos, MILLISECOND};
+use crate::os::clock::{Duration, Instant};
 
 /// In a rate of an element: stations have to have it (IEEE Std 802.11-2016, 9.4.2.3).
 const BASIC: u8 = 0x80;
 /// The rates of the 2.4 GHz band, in units of 500 kb/s, slowest first.
-const BAND: [u8; 12] = [2, 4, 11, 12, 18, 22, 24, 36, 48, 72, 96, 108];
+pub const BAND: [u8; 12] = [2, 4, 11, 12, 18, 22, 24, 36, 48, 72, 96, 108];
 /// Those of DSSS and HR/DSSS; the others are of OFDM.
 const SPREAD: [u8; 4] = [2, 4, 11, 22];
 /// The length of a unit by which rates are compared, in bits.
@@ -38,7 +39,7 @@ const GONE: u32 = 4;
 /// behind it waiting, and so costs turns where the radio is busy: there it comes less often.
 const UNITS_PER_SAMPLE: u32 = 16;
 const UNITS_PER_SAMPLE_BUSY: u32 = 64;
-const SAMPLE_EVERY: Nanos = 500 * MILLISECOND;
+const SAMPLE_EVERY: Duration = Duration::from_millis(500);
 
 /// How a unit is to be sent.
 #[derive(Debug, Clone, Copy, PartialEq, Eq)]
@@ -133,7 +134,7 @@ pub struct RateControl {
     failures: u32,
     /// Units since the last sample, and when that was.
     since_sample: u32,
-    sampled: Nanos,
+    sampled: Instant,
     /// The rate that was sampled last, of those that all were tried.
     turn: usize,
 }
@@ -146,11 +147,19 @@ impl RateControl {
         let common = BAND.iter().copied().filter(|rate| has(station, *rate) && has(network, *rate));
         let mut rates: Vec<Rate> = common.map(Rate::untried).collect();
         rates.first_mut()?.known = Known::Share(1.0);
-        Some(RateControl { rates, best: 0, of_all: 1.0, failures: 0, since_sample: 0, sampled: 0, turn: 0 })
+        Some(RateControl {
+            rates,
+            best: 0,
+            of_all: 1.0,
+            failures: 0,
+            since_sample: 0,
+            sampled: Instant::START,
+            turn: 0,
+        })
     }
 
     /// How the next unit is to be sent, at this time since any fixed moment, where the radio is busy or isn't.
-    pub fn next(&mut self, now: Nanos, is_busy: bool) -> Choice {
+    pub fn next(&mut self, now: Instant, is_busy: bool) -> Choice {
         match self.sample(now, is_busy) {
             Some(place) => {
                 self.since_sample = 0;
@@ -240,7 +249,7 @@ impl RateControl {
     }
 
     /// The rate to be sampled, where it is time for it.
-    fn sample(&mut self, now: Nanos, is_busy: bool) -> Option<usize> {
+    fn sample(&mut self, now: Instant, is_busy: bool) -> Option<usize> {
         if self.failures > 0 {
             return None;
         }
@@ -253,8 +262,7 @@ impl RateControl {
             number => return untried.nth(number / 2),
         }
         let units = if is_busy { UNITS_PER_SAMPLE_BUSY } else { UNITS_PER_SAMPLE };
-        let is_time =
-            self.since_sample >= units || self.since_sample > 0 && now.saturating_sub(self.sampled) >= SAMPLE_EVERY;
+        let is_time = self.since_sample >= units || self.since_sample > 0 && now >= self.sampled + SAMPLE_EVERY;
         let next = candidates.clone().find(|place| *place > self.turn).or_else(|| candidates.clone().next());
         let next = next.filter(|_| is_time)?;
         self.turn = next;

@@ -1,13 +1,15 @@
 use super::*;
+use crate::os::clock::MILLISECOND;
+use crate::testing::samples::at;
 
 const ALL: [u8; 12] = [0x82, 0x84, 0x8b, 0x96, 12, 18, 24, 36, 48, 72, 96, 108];
 
-fn millis(number: u64) -> Nanos {
-    number * MILLISECOND
+fn millis(number: u32) -> Instant {
+    at(number * MILLISECOND)
 }
 
 /// Sends units, one each ten milliseconds, to a station that hears rates up to one; their choices.
-fn send(rates: &mut RateControl, units: u64, from: u64, most: u8) -> Vec<Choice> {
+fn send(rates: &mut RateControl, units: u32, from: u32, most: u8) -> Vec<Choice> {
     (from..from + units)
         .map(|unit| {
             let choice = rates.next(millis(10 * unit), false);
@@ -94,7 +96,7 @@ fn a_busy_radio_is_given_samples_less_often() {
         let mut rates = RateControl::common(&ALL, &ALL).unwrap();
         send(&mut rates, 50, 0, 12);
         let samples = (0..1000).filter(|unit| {
-            let choice = rates.next(millis(500) + *unit, is_busy);
+            let choice = rates.next(millis(500) + Duration::from_nanos(*unit), is_busy);
             rates.reported(choice.rate, 1, choice.rate <= 12, choice.is_sample);
             choice.is_sample
         });

@@ -1,6 +1,6 @@
 //! Whether the radio reports what becomes of frames, as far as one knows.
 
-/// After so many waits in vain, before anything was reported, the radio is one that reports nothing.
+/// After so many waits in vain, before anything was reported, the radio is taken for one that reports nothing.
 const MOST_VAIN: u32 = 8;
 
 /// Whether the radio reports what becomes of frames.
@@ -10,7 +10,7 @@ pub(super) enum Reporting {
     Unknown { vain: u32 },
     /// It reported something.
     Reports,
-    /// Too many waits were in vain before it reported anything.
+    /// Too many waits were in vain, and it reported nothing since.
     Silent,
 }
 
@@ -24,11 +24,11 @@ impl Reporting {
         }
     }
 
-    /// It reported what became of a frame.
+    /// It reported what became of a frame. One that was silent is believed once it reports more than that.
     pub(super) fn after_outcome(self) -> Reporting {
         match self {
             Reporting::Unknown { .. } | Reporting::Reports => Reporting::Reports,
-            Reporting::Silent => Reporting::Silent,
+            Reporting::Silent => Reporting::Unknown { vain: 0 },
         }
     }
 }
@@ -45,8 +45,15 @@ mod tests {
     fn a_radio_is_silent_after_eight_waits_in_vain_unless_it_reported_something_before() {
         assert_eq!(after_vain_waits(7), Reporting::Unknown { vain: 7 });
         assert_eq!(after_vain_waits(8), Reporting::Silent);
-        assert_eq!(after_vain_waits(8).after_outcome(), Reporting::Silent);
         let reports = after_vain_waits(7).after_outcome();
         assert_eq!((0..9).fold(reports, |reporting, _| reporting.after_vain_wait()), Reporting::Reports);
+    }
+
+    #[test]
+    fn a_silent_radio_is_waited_for_again_once_it_reported_something() {
+        let heard_again = after_vain_waits(8).after_outcome();
+        assert_eq!(heard_again, Reporting::Unknown { vain: 0 });
+        assert_eq!(heard_again.after_outcome(), Reporting::Reports);
+        assert_eq!((0..8).fold(heard_again, |reporting, _| reporting.after_vain_wait()), Reporting::Silent);
     }
 }

@@ -10,17 +10,24 @@
 //!
 //! So for any order of calls:
 //!
-//! 1. While a network has frames waiting, no other one gets more than its share and one frame beyond it.
+//! 1. While a network has frames waiting, no other one gets more than its share and one frame beyond it, unless it is
+//!    passed over (9).
 //! 2. A frame that comes to a network with no debt and nothing waiting goes once each other network has sent one frame.
 //! 3. Idle time earns nothing: a network that was idle owes at least nothing when it comes back.
-//! 4. Frames for one receiver leave in the order in which they came; one that is sent again goes first.
+//! 4. Frames for one receiver leave in the order in which they came; one that is sent again goes first, and who pushes
+//!    one may put it behind the first ones alone.
 //! 5. Each frame that came waits, was served or was dropped: one of them, once.
 //! 6. The work of a call doesn't grow with the frames that wait. It grows with the number of networks, and with the
-//!    logarithm of the number of receivers; `longest` looks at each receiver of its network.
+//!    logarithm of the number of receivers. The first `longest` of a network with many receivers puts them in order by
+//!    how many frames wait. The order is kept until half of the network's frames are gone.
 //! 7. Of receivers for which nothing waits no more than some thousands are known for what they owe. Where more of a
 //!    network owe, all of them are forgotten, and owe nothing.
+//! 8. What waits for a receiver when it is hurried goes before all else of its network, and is charged to the receiver.
+//!    No debt of its network's receivers is lowered for it. Which network goes next isn't changed.
 //!
-//! A receiver may be held: its next frame waits for what becomes of the one before. It isn't waiting for a turn then.
+//! 9. A receiver may be held: its next frame waits for what becomes of the one before. A network whose receivers with
+//!    waiting frames are all held counts as one that waits. If it's its turn, no frame goes, until one of them is
+//!    released, or until it is passed over. From then on it doesn't count, until a frame of it goes.
 use std::collections::{BTreeSet, HashMap, VecDeque};
 use std::hash::Hash;
 
@@ -31,11 +38,13 @@ pub use crate::outbound::air::proved_rule::{Place, MOST_WEIGHT};
 
 /// The most receivers of a network that are known for what they owe alone, and so few that nobody looks.
 const MOST_RESTING: usize = 4096;
-pub const FEW: usize = 64;
+const FEW: usize = 64;
+/// So few receivers of a network are looked at for the one for which most frames wait.
+const FEW_TO_LOOK_AT: usize = 4;
 
 /// The frames that wait, of several networks to several receivers.
 #[derive(Debug)]
-pub struct Scheduler<R, T> {
+pub(super) struct Scheduler<R, T> {
     debts: NetworkDebts,
     networks: Vec<NetworkQueues<R, T>>,
 }
@@ -53,7 +62,7 @@ impl<R: Copy + Ord + Hash, T> Scheduler<R, T> {
     /// Changes what waits for a receiver of a network.
     fn change<A>(&mut self, place: Place, receiver: R, change: impl FnOnce(&mut ReceiverQueue<T>) -> A) -> A {
         let answer = self.networks[place].change(receiver, change);
-        self.debts.set_waits(place, !self.networks[place].ready.is_empty());
+        self.debts.set_waits(place, self.networks[place].waits());
         answer
     }
 
@@ -65,35 +74,77 @@ impl<R: Copy + Ord + Hash, T> Scheduler<R, T> {
         })
     }
 
-    /// A frame is sent again: it waits before all others for its receiver.
-    pub fn push_first(&mut self, place: Place, receiver: R, frame: T) {
-        self.change(place, receiver, |queue| queue.waiting.push_front(frame));
+    /// A frame of a network waits for a receiver, behind the first ones of which this is true; answers how many wait
+    /// with it.
+    pub fn push_behind(&mut self, place: Place, receiver: R, frame: T, go_before: impl Fn(&T) -> bool) -> usize {
+        self.change(place, receiver, |queue| {
+            let behind = queue.waiting.partition_point(go_before);
+            queue.waiting.insert(behind, frame);
+            queue.urgent += usize::from(behind < queue.urgent);
+            queue.waiting.len()
+        })
     }
 
-    /// Whose frame goes next, with the frame; `None` where none waits for a turn.
+    /// A frame is sent again: it waits before all others for its receiver.
+    pub fn push_first(&mut self, place: Place, receiver: R, frame: T) {
+        self.change(place, receiver, |queue| {
+            queue.waiting.push_front(frame);
+            queue.urgent += usize::from(queue.urgent > 0);
+        });
+    }
+
+    /// All that waits for a receiver goes before what waits for others of its network.
+    pub fn hurry(&mut self, place: Place, receiver: R) {
+        self.change(place, receiver, |queue| queue.urgent = queue.waiting.len());
+    }
+
+    /// Whose turn it is, if frames of any network wait.
+    fn turn(&self) -> Option<Place> {
+        self.debts.any_waits().then(|| self.debts.choose()).flatten()
+    }
+
+    /// Whose frame goes next, with the frame; `None` where none may go.
     pub fn first(&self) -> Option<(Place, R, &T)> {
-        if !self.has_ready() {
-            return None;
-        }
-        let place = self.debts.choose()?;
+        let place = self.turn()?;
         let (receiver, frame) = self.networks[place].first()?;
         Some((place, receiver, frame))
     }
 
+    /// The network whose turn it is, where all that waits of it is held: no other one's frame goes before.
+    pub fn held(&self) -> Option<Place> {
+        self.turn().filter(|place| self.networks[*place].ready.is_empty())
+    }
+
+    /// A network of which all that waits is held doesn't count as one that waits, until a frame of it goes.
+    pub fn pass_over(&mut self, place: Place) {
+        self.networks[place].is_passed_over = true;
+        self.debts.set_waits(place, self.networks[place].waits());
+    }
+
     /// The frame of a network that goes next goes, and is reckoned to cost so many microseconds; `None`, and nothing
-    /// changes, where it is another network's turn.
+    /// changes, where it is another network's turn, or all that waits of this one is held.
     pub fn serve(&mut self, place: Place, cost: u32) -> Option<T> {
-        if !self.debts.serve(place, cost) {
+        let has_ready = self.networks.get(place).map_or(false, |network| !network.ready.is_empty());
+        if !has_ready || !self.debts.serve(place, cost) {
             return None;
         }
         let frame = self.networks[place].serve(u64::from(cost));
-        self.debts.set_waits(place, !self.networks[place].ready.is_empty());
+        self.debts.set_waits(place, self.networks[place].waits());
         frame
     }
 
     /// The first frame for a receiver is dropped.
     pub fn drop_first(&mut self, place: Place, receiver: R) -> Option<T> {
-        self.change(place, receiver, |queue| queue.waiting.pop_front())
+        self.change(place, receiver, ReceiverQueue::pop)
+    }
+
+    /// The last frame for a receiver is dropped.
+    pub fn drop_last(&mut self, place: Place, receiver: R) -> Option<T> {
+        self.change(place, receiver, |queue| {
+            let last = queue.waiting.pop_back();
+            queue.urgent = queue.urgent.min(queue.waiting.len());
+            last
+        })
     }
 
     /// A frame of a network for a receiver cost so many microseconds more than was reckoned.
@@ -124,31 +175,42 @@ impl<R: Copy + Ord + Hash, T> Scheduler<R, T> {
         self.networks[place].receivers.get(&receiver).map_or(0, |queue| queue.waiting.len())
     }
 
+    /// How many of the first frames that wait for a receiver are such ones.
+    pub fn count_first(&self, place: Place, receiver: R, are_such: impl Fn(&T) -> bool) -> usize {
+        self.networks[place].receivers.get(&receiver).map_or(0, |queue| queue.waiting.partition_point(are_such))
+    }
+
     /// Takes all frames out that wait for a receiver and of which this is true, in their order.
     pub fn take_all(&mut self, place: Place, receiver: R, mut is_meant: impl FnMut(&T) -> bool) -> Vec<T> {
         let (mut taken, mut kept) = (Vec::new(), VecDeque::new());
         self.change(place, receiver, |queue| {
-            for frame in queue.waiting.drain(..) {
+            let mut urgent = 0;
+            for (number, frame) in queue.waiting.drain(..).enumerate() {
                 if is_meant(&frame) {
                     taken.push(frame);
                 } else {
+                    urgent += usize::from(number < queue.urgent);
                     kept.push_back(frame);
                 }
             }
-            queue.waiting = kept;
+            (queue.waiting, queue.urgent) = (kept, urgent);
         });
         taken
     }
 
-    /// The receiver for which most frames of a network wait.
-    pub fn longest(&self, place: Place) -> Option<R> {
-        let receivers = self.networks[place].receivers.iter().filter(|(_, queue)| !queue.waiting.is_empty());
-        receivers.max_by_key(|(receiver, queue)| (queue.waiting.len(), **receiver)).map(|(receiver, _)| *receiver)
+    /// The receiver for which most frames of a network wait, of several the last in their order.
+    pub fn longest(&mut self, place: Place) -> Option<R> {
+        self.networks[place].longest()
     }
 
-    /// Whether a frame waits for a turn.
+    /// Whether a frame may go.
     pub fn has_ready(&self) -> bool {
-        self.debts.any_waits()
+        self.turn().map_or(false, |place| !self.networks[place].ready.is_empty())
+    }
+
+    /// Whether a frame waits that isn't held.
+    pub fn any_ready(&self) -> bool {
+        self.networks.iter().any(|network| !network.ready.is_empty())
     }
 
     /// Whether no frame waits, for a turn or held.
@@ -162,14 +224,44 @@ impl<R: Copy + Ord + Hash, T> Scheduler<R, T> {
 #[derive(Debug)]
 struct NetworkQueues<R, T> {
     receivers: HashMap<R, ReceiverQueue<T>, Seeds>,
-    /// Those that wait for a turn, by their starts.
-    ready: BTreeSet<(u64, R)>,
+    /// Those that wait for a turn.
+    ready: BTreeSet<(Turn, R)>,
     /// How many frames wait for all of them.
     waiting: usize,
     /// The start of the one that was served last.
     begun: u64,
     /// With how many receivers those are looked for next that owe nothing any more.
     many: usize,
+    /// Whether it doesn't count as waiting by what is held.
+    is_passed_over: bool,
+    by_length: Option<ByLength<R>>,
+}
+
+/// The receivers for which frames wait, in the order of how many do.
+#[derive(Debug)]
+struct ByLength<R> {
+    receivers: BTreeSet<(usize, R)>,
+    /// The order is kept while so many frames of the network wait: it pays where `longest` is asked again and again.
+    least: usize,
+}
+
+impl<R: Copy + Ord> ByLength<R> {
+    /// So many frames wait for a receiver, where others did before.
+    fn change(&mut self, receiver: R, before: usize, waiting: usize) {
+        if before > 0 {
+            self.receivers.remove(&(before, receiver));
+        }
+        if waiting > 0 {
+            self.receivers.insert((waiting, receiver));
+        }
+    }
+}
+
+/// When the first frame for a receiver goes, by its start: before those of others that aren't urgent, or among them.
+#[derive(Debug, Clone, Copy, PartialEq, Eq, PartialOrd, Ord)]
+enum Turn {
+    Urgent(u64),
+    InTurn(u64),
 }
 
 /// The frames that wait for one receiver.
@@ -178,17 +270,63 @@ struct ReceiverQueue<T> {
     waiting: VecDeque<T>,
     start: u64,
     is_held: bool,
+    /// How many of the first ones go before what waits for others.
+    urgent: usize,
 }
 
 impl<T> ReceiverQueue<T> {
-    fn is_ready(&self) -> bool {
-        !self.is_held && !self.waiting.is_empty()
+    /// Its turn, if it waits for one.
+    fn turn(&self) -> Option<Turn> {
+        let turn = if self.urgent > 0 { Turn::Urgent(self.start) } else { Turn::InTurn(self.start) };
+        (!self.is_held && !self.waiting.is_empty()).then_some(turn)
+    }
+
+    fn pop(&mut self) -> Option<T> {
+        self.urgent = self.urgent.saturating_sub(1);
+        self.waiting.pop_front()
     }
 }
 
 impl<R: Copy + Ord + Hash, T> NetworkQueues<R, T> {
     fn new() -> NetworkQueues<R, T> {
-        NetworkQueues { receivers: HashMap::default(), ready: BTreeSet::new(), waiting: 0, begun: 0, many: FEW }
+        NetworkQueues {
+            receivers: HashMap::default(),
+            ready: BTreeSet::new(),
+            waiting: 0,
+            begun: 0,
+            many: FEW,
+            is_passed_over: false,
+            by_length: None,
+        }
+    }
+
+    fn longest(&mut self) -> Option<R> {
+        if self.by_length.is_none() {
+            let waiting = self.receivers.iter().filter(|(_, queue)| !queue.waiting.is_empty());
+            let lengths = waiting.map(|(receiver, queue)| (queue.waiting.len(), *receiver));
+            if self.receivers.len() <= FEW_TO_LOOK_AT {
+                return lengths.max().map(|(_, receiver)| receiver);
+            }
+            self.by_length = Some(ByLength { receivers: lengths.collect(), least: self.waiting / 2 });
+        }
+        let (_, receiver) = self.by_length.as_ref()?.receivers.iter().next_back()?;
+        Some(*receiver)
+    }
+
+    /// So many frames wait for a receiver, where others did before.
+    fn count(&mut self, receiver: R, before: usize, waiting: usize) {
+        self.waiting = self.waiting + waiting - before;
+        if let Some(by_length) = self.by_length.as_mut().filter(|_| waiting != before) {
+            by_length.change(receiver, before, waiting);
+        }
+        if self.by_length.as_ref().map_or(false, |by_length| self.waiting <= by_length.least) {
+            self.by_length = None;
+        }
+    }
+
+    /// Whether it counts as a network that waits.
+    fn waits(&self) -> bool {
+        !self.ready.is_empty() || self.waiting > 0 && !self.is_passed_over
     }
 
     fn first(&self) -> Option<(R, &T)> {
@@ -197,33 +335,36 @@ impl<R: Copy + Ord + Hash, T> NetworkQueues<R, T> {
     }
 
     fn serve(&mut self, cost: u64) -> Option<T> {
-        let (start, receiver) = self.ready.iter().next().copied()?;
-        self.begun = start;
+        let (turn, receiver) = self.ready.iter().next().copied()?;
+        if let Turn::InTurn(start) = turn {
+            self.begun = start;
+        }
+        self.is_passed_over = false;
         self.change(receiver, |queue| {
-            queue.start = start.saturating_add(cost);
-            queue.waiting.pop_front()
+            queue.start = queue.start.saturating_add(cost);
+            queue.pop()
         })
     }
 
     /// Changes what waits for a receiver, and keeps it in the set where it belongs. One that isn't there owes nothing.
     fn change<A>(&mut self, receiver: R, change: impl FnOnce(&mut ReceiverQueue<T>) -> A) -> A {
         let begun = self.begun;
-        let unknown = || ReceiverQueue { waiting: VecDeque::new(), start: begun, is_held: false };
+        let unknown = || ReceiverQueue { waiting: VecDeque::new(), start: begun, is_held: false, urgent: 0 };
         // What is there is found in less time than a place for what isn't.
         let queue = match self.receivers.get_mut(&receiver) {
             Some(queue) => queue,
             None => self.receivers.entry(receiver).or_insert_with(unknown),
         };
-        let (before, was_ready, start) = (queue.waiting.len(), queue.is_ready(), queue.start);
+        let (before, turn) = (queue.waiting.len(), queue.turn());
         queue.start = queue.start.max(begun);
         let answer = change(queue);
-        let (is_ready, new_start) = (queue.is_ready(), queue.start);
-        self.waiting = self.waiting + queue.waiting.len() - before;
-        if was_ready && !(is_ready && start == new_start) {
-            self.ready.remove(&(start, receiver));
-        }
-        if is_ready && !(was_ready && start == new_start) {
-            self.ready.insert((new_start, receiver));
+        let (waiting, new_turn) = (queue.waiting.len(), queue.turn());
+        self.count(receiver, before, waiting);
+        if turn != new_turn {
+            turn.into_iter().for_each(|turn| {
+                self.ready.remove(&(turn, receiver));
+            });
+            self.ready.extend(new_turn.map(|turn| (turn, receiver)));
         }
         if self.receivers.len() > self.many {
             self.forget_rested();

@@ -10,13 +10,15 @@ struct ModelNetwork {
     scale: u128,
     debt: u128,
     receivers: Vec<ModelReceiver>,
+    is_passed_over: bool,
 }
 
 struct ModelReceiver {
     name: u8,
     debt: u128,
     is_held: bool,
-    waiting: Vec<u32>,
+    /// The frames that wait, and of each whether it goes before what waits for others.
+    waiting: Vec<(u32, bool)>,
 }
 
 impl Model {
@@ -25,7 +27,7 @@ impl Model {
             let receivers = 0..RECEIVERS as u8;
             let receivers = receivers.map(|name| ModelReceiver { name, debt: 0, is_held: false, waiting: Vec::new() });
             let scale = 720_720 / u128::from(*weight);
-            ModelNetwork { scale, debt: 0, receivers: receivers.collect() }
+            ModelNetwork { scale, debt: 0, receivers: receivers.collect(), is_passed_over: false }
         });
         Model { networks: networks.collect() }
     }
@@ -34,16 +36,31 @@ impl Model {
         &mut self.networks[place].receivers[usize::from(receiver)]
     }
 
+    /// Rule 9: what is held counts, unless its network is passed over.
     fn waits(&self, place: Place) -> bool {
+        let ModelNetwork { receivers, is_passed_over, .. } = &self.networks[place];
+        let has_held = receivers.iter().any(|receiver| !receiver.waiting.is_empty());
+        self.has_ready(place) || has_held && !is_passed_over
+    }
+
+    fn has_ready(&self, place: Place) -> bool {
         self.networks[place].receivers.iter().any(ModelReceiver::is_ready)
     }
 
-    fn first(&self) -> Option<(Place, u8, u32)> {
+    fn turn(&self) -> Option<Place> {
         let places = (0..self.networks.len()).filter(|place| self.waits(*place));
-        let place = places.min_by_key(|place| (self.networks[*place].debt, *place))?;
+        places.min_by_key(|place| (self.networks[*place].debt, *place))
+    }
+
+    fn held(&self) -> Option<Place> {
+        self.turn().filter(|place| !self.has_ready(*place))
+    }
+
+    fn first(&self) -> Option<(Place, u8, u32)> {
+        let place = self.turn()?;
         let ready = self.networks[place].receivers.iter().filter(|receiver| receiver.is_ready());
-        let receiver = ready.min_by_key(|receiver| (receiver.debt, receiver.name))?;
-        Some((place, receiver.name, receiver.waiting[0]))
+        let receiver = ready.min_by_key(|receiver| (!receiver.waiting[0].1, receiver.debt, receiver.name))?;
+        Some((place, receiver.name, receiver.waiting[0].0))
     }
 
     fn serve(&mut self, cost: u32) -> Option<u32> {
@@ -51,18 +68,21 @@ impl Model {
         let least = self.networks[place].debt;
         self.networks.iter_mut().for_each(|network| network.debt = network.debt.saturating_sub(least));
         self.networks[place].debt = self.networks[place].scale * u128::from(cost);
-        let least = self.of(place, receiver).debt;
-        self.networks[place].receivers.iter_mut().for_each(|one| one.debt = one.debt.saturating_sub(least));
-        self.of(place, receiver).debt = u128::from(cost);
-        self.of(place, receiver).waiting.remove(0);
+        self.networks[place].is_passed_over = false;
+        let (_, is_urgent) = self.of(place, receiver).waiting.remove(0);
+        if !is_urgent {
+            let least = self.of(place, receiver).debt;
+            self.networks[place].receivers.iter_mut().for_each(|one| one.debt = one.debt.saturating_sub(least));
+        }
+        self.of(place, receiver).debt += u128::from(cost);
         Some(frame)
     }
 
     fn take_all(&mut self, place: Place, receiver: u8, every: u32) -> Vec<u32> {
         let waiting = std::mem::take(&mut self.of(place, receiver).waiting);
-        let (taken, kept) = waiting.into_iter().partition(|frame| frame % every == 0);
+        let (taken, kept): (Vec<_>, _) = waiting.into_iter().partition(|(frame, _)| frame % every == 0);
         self.of(place, receiver).waiting = kept;
-        taken
+        taken.into_iter().map(|(frame, _)| frame).collect()
     }
 
     fn longest(&self, place: Place) -> Option<u8> {
@@ -156,7 +176,7 @@ fn next<R: Copy + Ord + Hash, T>(scheduler: &mut Scheduler<R, T>, cost: u32) -> 
 #[test]
 fn any_calls_go_by_the_rule() {
     let mut seeded = Seeded(11);
-    let mut served = 0u64;
+    let (mut served, mut passed_over) = (0u64, 0u64);
     for run in 0..CALLS / CALLS_OF_A_RUN {
         let number = 1 + seeded.below(4);
         let weights: Vec<u8> = (0..number).map(|_| 1 + seeded.below(16) as u8).collect();
@@ -165,7 +185,7 @@ fn any_calls_go_by_the_rule() {
         let (mut pushed, mut gone, pushes) = (0u32, 0u32, 1 + seeded.below(6));
         for _ in 0..CALLS_OF_A_RUN {
             let (place, receiver) = (seeded.below(number), seeded.below(RECEIVERS) as u8);
-            match seeded.below(9 + pushes) {
+            match seeded.below(11 + pushes) {
                 0..=3 => {
                     let cost = 1 + seeded.below(1000) as u32;
                     let first = model.first();
@@ -195,7 +215,7 @@ fn any_calls_go_by_the_rule() {
                 }
                 7 => {
                     let waiting = &mut model.of(place, receiver).waiting;
-                    let dropped = if waiting.is_empty() { None } else { Some(waiting.remove(0)) };
+                    let dropped = if waiting.is_empty() { None } else { Some(waiting.remove(0).0) };
                     assert_eq!(scheduler.drop_first(place, receiver), dropped);
                     gone += u32::from(dropped.is_some());
                 }
@@ -208,16 +228,31 @@ fn any_calls_go_by_the_rule() {
                 8 => {}
                 9 => {
                     scheduler.push_first(place, receiver, pushed);
-                    model.of(place, receiver).waiting.insert(0, pushed);
+                    let waiting = &mut model.of(place, receiver).waiting;
+                    let is_urgent = waiting.first().map_or(false, |(_, is_urgent)| *is_urgent);
+                    waiting.insert(0, (pushed, is_urgent));
                     pushed += 1;
+                }
+                10 => {
+                    scheduler.hurry(place, receiver);
+                    model.of(place, receiver).waiting.iter_mut().for_each(|(_, is_urgent)| *is_urgent = true);
+                }
+                11 => {
+                    if let Some(place) = scheduler.held() {
+                        scheduler.pass_over(place);
+                        model.networks[place].is_passed_over = true;
+                        passed_over += 1;
+                    }
                 }
                 _ => {
                     scheduler.push(place, receiver, pushed);
-                    model.of(place, receiver).waiting.push(pushed);
+                    model.of(place, receiver).waiting.push((pushed, false));
                     pushed += 1;
                 }
             }
             watch.look(&model);
+            assert_eq!((scheduler.held(), scheduler.has_ready()), (model.held(), model.first().is_some()));
+            assert_eq!(scheduler.any_ready(), (0..number).any(|place| model.has_ready(place)));
             assert_eq!(scheduler.waiting(place, receiver), model.of(place, receiver).waiting.len());
             assert_eq!(scheduler.is_held(place, receiver), model.of(place, receiver).is_held);
             assert_eq!(scheduler.longest(place), model.longest(place));
@@ -226,7 +261,7 @@ fn any_calls_go_by_the_rule() {
             model.networks.iter().flat_map(|network| &network.receivers).map(|one| one.waiting.len()).sum();
         assert_eq!((pushed, scheduler.is_empty()), (gone + waiting as u32, waiting == 0), "{run}");
     }
-    assert!(served > CALLS as u64 / 10, "{served}");
+    assert!(served > CALLS as u64 / 10 && passed_over > CALLS as u64 / 200, "{served} {passed_over}");
 }
 
 /// Networks that all want all get what their weights say, whatever their frames cost.
@@ -311,6 +346,47 @@ fn a_held_receiver_waits_and_keeps_its_order() {
     assert!(scheduler.is_empty());
 }
 
+/// Its turn isn't another one's: what that one gets meanwhile is what it would get beside one that waits.
+#[test]
+fn while_it_is_the_turn_of_a_network_that_is_held_no_other_one_goes() {
+    let mut scheduler = Scheduler::new([1, 1]);
+    for _ in 0..9 {
+        scheduler.push(0, 'a', 'a');
+        scheduler.push(1, 'b', 'b');
+    }
+    assert_eq!(next(&mut scheduler, 10), Some('a'));
+    scheduler.hold(0, 'a');
+    assert_eq!([next(&mut scheduler, 10), next(&mut scheduler, 10)], [Some('b'), None]);
+    assert_eq!((scheduler.held(), scheduler.has_ready(), scheduler.any_ready()), (Some(0), false, true));
+    assert_eq!([0, 1].map(|place| scheduler.serve(place, 10)), [None, None]);
+    scheduler.correct(0, 'a', 20);
+    assert_eq!([(); 3].map(|_| next(&mut scheduler, 10)), [Some('b'), Some('b'), None]);
+    scheduler.release(0, 'a');
+    assert_eq!(next(&mut scheduler, 10), Some('a'));
+    scheduler.hold(0, 'a');
+    assert_eq!([next(&mut scheduler, 10), next(&mut scheduler, 10)], [Some('b'), None]);
+    scheduler.pass_over(0);
+    assert_eq!([(); 3].map(|_| next(&mut scheduler, 10)), [Some('b'); 3]);
+    scheduler.push(0, 'c', 'c');
+    assert_eq!([next(&mut scheduler, 10), next(&mut scheduler, 10)], [Some('c'), None]);
+    assert_eq!(scheduler.held(), Some(0));
+}
+
+/// It is charged: who had to wait meanwhile catches up afterwards. Other networks have their turns as ever.
+#[test]
+fn what_is_hurried_goes_before_all_else_of_its_network() {
+    let mut scheduler = Scheduler::new([1, 1]);
+    for _ in 0..4 {
+        scheduler.push(0, 'a', 'a');
+        scheduler.push(0, 'g', 'g');
+        scheduler.push(1, 'o', 'o');
+    }
+    scheduler.hurry(0, 'g');
+    scheduler.push(0, 'g', 'h');
+    let order: String = std::iter::from_fn(|| next(&mut scheduler, 10)).collect();
+    assert_eq!(order, "gogogogoaaaah");
+}
+
 #[test]
 fn frames_are_taken_out_by_what_they_are() {
     let mut scheduler = Scheduler::new([1]);
@@ -321,6 +397,61 @@ fn frames_are_taken_out_by_what_they_are() {
     assert_eq!(scheduler.take_all(0, 'a', |frame| frame % 2 == 0), [0, 2, 4]);
     assert_eq!([(); 4].map(|_| next(&mut scheduler, 1)), [Some(1), Some(3), Some(5), None]);
     assert_eq!((scheduler.take_all(0, 'b', |_| true), scheduler.longest(0)), (vec![], None));
+}
+
+thread_local! {
+    static COMPARED: std::cell::Cell<u64> = std::cell::Cell::new(0);
+}
+
+/// A receiver that counts how often one is compared with another.
+#[derive(Debug, Clone, Copy, PartialEq, Eq, Hash)]
+struct Counted(u32);
+
+impl Ord for Counted {
+    fn cmp(&self, other: &Counted) -> std::cmp::Ordering {
+        COMPARED.with(|compared| compared.set(compared.get() + 1));
+        self.0.cmp(&other.0)
+    }
+}
+
+impl PartialOrd for Counted {
+    fn partial_cmp(&self, other: &Counted) -> Option<std::cmp::Ordering> {
+        Some(self.cmp(other))
+    }
+}
+
+/// As where a network's 2 MB are full: each frame that comes drops one for the receiver for which most wait.
+#[test]
+fn the_longest_queue_of_many_is_found_without_a_look_at_all() {
+    const RECEIVERS: u32 = 2007;
+    const PUSHES: u32 = 10_000;
+    let mut scheduler = Scheduler::new([1]);
+    (0..RECEIVERS).for_each(|receiver| assert_eq!(scheduler.push(0, Counted(receiver), ()), 1));
+    assert_eq!(scheduler.longest(0), Some(Counted(RECEIVERS - 1)));
+    COMPARED.with(|compared| compared.set(0));
+    for number in 0..PUSHES {
+        let receiver = Counted(number % RECEIVERS);
+        scheduler.push(0, receiver, ());
+        assert_eq!(scheduler.longest(0), Some(receiver));
+        assert_eq!(scheduler.drop_first(0, receiver), Some(()));
+    }
+    let compared = COMPARED.with(std::cell::Cell::get) / u64::from(PUSHES);
+    assert!(compared < 200, "{compared} comparisons for a frame");
+}
+
+/// The order is forgotten once it isn't asked for: what comes and goes then costs nothing for it.
+#[test]
+fn the_order_by_length_is_kept_while_many_frames_wait() {
+    let mut scheduler = Scheduler::new([1]);
+    (0..1000u32).for_each(|receiver| assert_eq!(scheduler.push(0, receiver, ()), 1));
+    assert!(scheduler.networks[0].by_length.is_none());
+    scheduler.longest(0);
+    assert!(scheduler.networks[0].by_length.is_some());
+    (0..499).for_each(|_| assert!(next(&mut scheduler, 1).is_some()));
+    assert!(scheduler.networks[0].by_length.is_some());
+    next(&mut scheduler, 1);
+    assert!(scheduler.networks[0].by_length.is_none());
+    assert_eq!(scheduler.longest(0), Some(999));
 }
 
 /// What is kept of receivers doesn't grow with those that were.

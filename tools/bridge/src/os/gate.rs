@@ -1,7 +1,7 @@
 //! An interface by which frames are sent, and whether it has room.
 use std::io::{self, ErrorKind};
 
-use crate::os::sockets::Port;
+use crate::os::port::Port;
 
 /// Whether an interface has room, and whether one waits for that.
 #[derive(Debug, Clone, Copy, PartialEq, Eq)]

@@ -40,12 +40,14 @@ impl fmt::Display for Unknown {
     }
 }
 
+/// What the program answers to a mark, up to the number of its record.
+const MARK_ANSWER: &str = "fault L4 record ";
 const TOLD_LEN: usize = 80;
 const RECORD_HEADER_LEN: usize = 9;
 pub const NOBODY: Address = Address::of([0; 6]);
 
 /// Appends the record of an event: its kind, a BSSID, a length with the low octet first, and so many octets.
-pub fn push_record(event: Event<'_>, to: &mut Vec<u8>) {
+pub(super) fn push_record(event: Event<'_>, to: &mut Vec<u8>) {
     let (kind, bssid, octets): (u8, Address, &[u8]) = match event {
         Event::Air(octets) => (b'A', NOBODY, octets),
         Event::Wire(bssid, octets) => (b'W', bssid, octets),
@@ -57,6 +59,17 @@ pub fn push_record(event: Event<'_>, to: &mut Vec<u8>) {
     to.extend(bssid.octets());
     to.extend(length.to_le_bytes());
     to.extend(octets);
+}
+
+/// Appends the record of a mark: it changes nothing, and its answer names its number among all records. It is a frame of
+/// a wire of a network that there can't be, since a BSSID is no group's.
+pub(super) fn push_mark(to: &mut Vec<u8>) {
+    push_record(Event::Wire(Address::BROADCAST, &[]), to);
+}
+
+/// The number of the mark that a line of the program answers, if it is such a line.
+pub fn answered_mark(line: &str) -> Option<u64> {
+    line.strip_prefix(MARK_ANSWER)?.parse().ok()
 }
 
 /// Reads the answers of the program as they come, however they are cut.
@@ -158,6 +171,18 @@ mod tests {
         let air = [&b"A\0\0\0\0\0\0\x02\x01"[..], &long].concat();
         let rest = b"W\x02\0\0\0\x01\x01\x01\0\x01T\0\0\0\0\0\0\0\0I\0\0\0\0\0\0\0\0";
         assert_eq!(said, [&air[..], rest].concat());
+    }
+
+    /// Only the fault of a frame of a wire that no network has is the answer to a mark.
+    #[test]
+    fn a_mark_is_known_by_its_answer() {
+        let mut said = Vec::new();
+        push_mark(&mut said);
+        assert_eq!(said, b"W\xff\xff\xff\xff\xff\xff\0\0");
+        assert_eq!(answered_mark("fault L4 record 1234567890123"), Some(1_234_567_890_123));
+        for line in ["fault L4 record x", "fault L4 record ", "fault L1 record 7", "fault L4 line 7", "end"] {
+            assert_eq!(answered_mark(line), None, "{line}");
+        }
     }
 
     #[test]

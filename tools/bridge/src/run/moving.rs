@@ -1,0 +1,158 @@
+//! Stations doze, wake, join and leave: what waits for them on the air learns of that. What goes back to the program goes
+//! there right behind the frame that said it (`outbound::air::sleeping`).
+use super::running::Running;
+use crate::apctl::feeder::Feeder;
+use crate::apctl::protocol::Event;
+use crate::formats::ethernet::update;
+use crate::formats::frames::{Address, Frame};
+use crate::inbound::frame::{InboundFrame, Source};
+use crate::inbound::held::Holding;
+use crate::os::clock::Instant;
+use crate::os::port::Port;
+use crate::outbound::air::handing_back::Errand;
+use crate::stations::station::{Member, Move};
+
+/// Marks in the record around units that no wire brought: they go back to the program, which had answered them before, or
+/// ask a station that dozes whether it is there.
+pub(super) const HANDED_BACK_FROM: &str = "handed back: the lines from here on are units of stations that doze";
+pub(super) const HANDED_BACK_TO: &str = "handed back: up to here";
+/// What stands in the record where the bridge tells a wire that a station is here.
+pub(super) const TOLD_WIRE: &str = "told the wire of";
+/// How often a wire is told so in a second at most.
+const MOST_UPDATES: u32 = 100;
+
+const DESTINATION_AT: usize = 16;
+
+/// Whom a frame of a station brings a unit.
+fn unit_to(octets: &[u8]) -> Option<Address> {
+    Frame::of(octets).filter(Frame::is_unit).and_then(|_| Address::at(octets, DESTINATION_AT))
+}
+
+impl<P: Port> Running<P> {
+    /// How modes of stations changed, by what the program was given last or answered.
+    pub(super) fn take_moves(&mut self, feeder: &mut Feeder, time: Instant) {
+        for ((place, station), change) in self.stations.take_moves() {
+            let air = &mut self.outbound.air;
+            match change {
+                Move::Dozes => self.falls_asleep(place, station, feeder, time),
+                Move::Wakes => {
+                    let (units, mark) = (air.kept_at_most(place, station), feeder.mark());
+                    air.wakes(place, station, mark, time);
+                    self.wakes.give((place, station), mark, units, time);
+                }
+                Move::Leaves => air.leaves(place, station, Some(feeder.mark()), time),
+                Move::Left => air.leaves(place, station, None, time),
+                Move::Joins { dozes } => {
+                    if !dozes {
+                        air.joins(place, station, time);
+                    } else if !air.is_asleep(place, station) {
+                        self.falls_asleep(place, station, feeder, time);
+                    }
+                    self.tell_wire(place, station, feeder, time);
+                }
+            }
+        }
+    }
+
+    /// The station that a frame wakes, where the program would answer that for too long before the next beacon interval.
+    pub(super) fn wakes_too_late(&self, frame: &InboundFrame, time: Instant) -> Option<Member> {
+        let may_wait = frame.is_notice() && !self.is_ending;
+        let (place, station) = may_wait.then(|| self.stations.woken_by(&frame.octets)).flatten()?;
+        let units = self.outbound.air.kept_at_most(place, station);
+        let fits = self.wakes.fits((place, station), units, self.timing.interval(time), time);
+        (!fits).then_some((place, station))
+    }
+
+    /// What comes of a station waits until the next beacons have come.
+    pub(super) fn wait_for_beacons(&mut self, station: Member, source: Source, frame: InboundFrame, time: Instant) {
+        self.waiting.hold(station.0, station.1, Holding::Own);
+        self.waiting.keep(source, frame);
+        self.wakes.wait(station, self.timing.interval(time));
+    }
+
+    /// When wakes that wait for beacons are tried again at the latest, where the beacons are due.
+    pub(super) fn next_wakes(&self, time: Instant) -> Option<Instant> {
+        self.timing.awaits_until().filter(|until| *until > time && self.wakes.has_waiting())
+    }
+
+    /// What comes of these stations waits for no beacons any more.
+    pub(super) fn end_waits_for_beacons(&mut self, stations: Vec<Member>) {
+        for (place, station) in stations {
+            self.waiting.release(place, station);
+        }
+    }
+
+    /// No beacon interval begins any more, since all ends: nothing waits for its beacons.
+    pub(super) fn end_intervals(&mut self) {
+        self.is_ending = true;
+        let waiting = self.wakes.take_waiting();
+        self.end_waits_for_beacons(waiting);
+    }
+
+    /// The program was given a frame: where it has a unit for a station that dozes, the program keeps that.
+    pub(super) fn note_kept(&mut self, source: Source, frame: &InboundFrame) {
+        let destination = match source {
+            Source::Wire(place) => Some((place, frame.receiver())),
+            Source::Air(place) => unit_to(&frame.octets).map(|station| (place, station)),
+            Source::AirForAll => None,
+        };
+        destination.into_iter().for_each(|(place, station)| self.outbound.air.was_given(place, station));
+    }
+
+    /// The wire of a network learns that a station is here (`stations::roaming`).
+    fn tell_wire(&mut self, place: usize, station: Address, feeder: &mut Feeder, time: Instant) {
+        let network = &self.networks[place];
+        let may = self.tells_wires && network.wire.is_some() && !self.is_down(place);
+        if may && self.update_paces[place].takes(MOST_UPDATES, time) {
+            self.updates[place] += 1;
+            feeder.remark(&format!("{TOLD_WIRE} {}: {station} is here", network.bssid));
+            self.put_on_wire(place, update(station), time);
+        }
+    }
+
+    fn falls_asleep(&mut self, place: usize, station: Address, feeder: &mut Feeder, time: Instant) {
+        self.waiting.hold(place, station, Holding::OwnAndWired);
+        self.outbound.air.dozes(place, station, feeder.mark(), time);
+    }
+
+    /// Gives the program the next unit that goes back to it, and lets stations go on of which all went; then a unit that
+    /// asks a station. Answers whether there was one.
+    pub(super) fn hand_back(&mut self, feeder: &mut Feeder) -> bool {
+        while let Some(errand) = self.outbound.air.next_errand() {
+            match errand {
+                Errand::GoOn { place, station } => self.waiting.release(place, station),
+                Errand::HandBack { place, frame } => {
+                    self.given.handed_back += 1;
+                    self.feed_unit(place, &frame, feeder);
+                    return true;
+                }
+            }
+        }
+        let question = self.questions.pop_front();
+        for (place, frame) in &question {
+            self.feed_unit(*place, frame, feeder);
+            Address::at(frame, 0).into_iter().for_each(|station| self.outbound.air.was_given(*place, station));
+        }
+        question.is_some()
+    }
+
+    /// Gives the program a unit as what came by the wire of a network.
+    fn feed_unit(&mut self, place: usize, frame: &[u8], feeder: &mut Feeder) {
+        if !std::mem::replace(&mut self.hands_back, true) {
+            feeder.remark(HANDED_BACK_FROM);
+        }
+        feeder.feed(Event::Wire(self.networks[place].bssid, frame));
+    }
+
+    /// What is recorded from now on are no units that go back.
+    pub(super) fn end_handing_back(&mut self, feeder: &mut Feeder) {
+        if std::mem::take(&mut self.hands_back) {
+            feeder.remark(HANDED_BACK_TO);
+        }
+    }
+
+    /// Whether something may be given to the program.
+    pub(super) fn has_to_give(&self) -> bool {
+        !self.waiting.is_empty() || self.outbound.air.has_errands() || !self.questions.is_empty()
+    }
+}

@@ -1,0 +1,185 @@
+//! Which stations have moved to another access point of their site, as the wire of their network shows.
+//!
+//! A frame that a wire brings with the address of an associated station as its source is a *hint* that the station is
+//! elsewhere. An *update* is the frame that an access point puts on its wire for a station that has just joined
+//! (`formats::ethernet`). The rules, of any order of calls:
+//!
+//! 1. By an update a station moves that was associated here for a second, once nothing was heard of it for 100 ms.
+//! 2. By any other frame, and by an update within that second, the station is asked. It moves if nothing is heard of it
+//!    within a second. One that dozes is asked by a unit, and has five seconds.
+//! 3. An echo is no hint (`echoes`), unless it is an update: another access point's looks like one of this.
+//! 4. What is heard of a station meanwhile, its acknowledgement too, shows that it is here.
+//! 5. A station moves at most once in ten seconds. A hint within these is only told of, once.
+//! 6. At most two stations are asked in 100 ms, and of at most 256 is it awaited whether they are here. A hint beyond
+//!    that counts for nothing. Where the radio tells of no acknowledgement, nobody is asked.
+//!
+//! Nothing is sent or timed here.
+use std::collections::{BTreeMap, VecDeque};
+
+use crate::formats::ethernet::is_update;
+use crate::os::clock::{Duration, Instant, SECOND};
+use crate::stations::echoes::Echoes;
+use crate::stations::station::{Member, State, Station};
+use crate::stations::table::StationTable;
+
+/// Since when a station must have been associated before an update moves it unasked.
+const TO_SETTLE: Duration = SECOND;
+/// For how long nothing must have been heard of it then.
+const QUIET: Duration = Duration::from_millis(100);
+/// How long an answer is awaited, and that of a station that dozes.
+const TO_ANSWER: Duration = SECOND;
+const TO_ANSWER_OF_DOZING: Duration = Duration::from_secs(5);
+/// A station moves at most once in this time.
+const BETWEEN_MOVES: Duration = Duration::from_secs(10);
+/// How many stations are asked in how long.
+const MOST_ASKED: u32 = 2;
+const ASKED_IN: Duration = Duration::from_millis(100);
+/// Of how many stations it is awaited at most whether they are here.
+const MOST_AWAITED: usize = 256;
+/// How many moves are remembered at most.
+const MOST_MOVES: usize = 4096;
+
+/// What is to be done of a station.
+#[derive(Debug, Clone, Copy, PartialEq, Eq)]
+pub(super) enum Step {
+    /// It is asked.
+    Ask(Member),
+    /// It dozes, and is asked by a unit.
+    AskByUnit(Member),
+    /// It has moved.
+    Move(Member),
+    /// The wire shows it elsewhere again, so soon that it stays.
+    Stay(Member),
+}
+
+/// A station of which it is awaited whether it is here.
+#[derive(Debug, Clone, Copy)]
+struct Awaited {
+    since: Instant,
+    until: Instant,
+}
+
+/// A station that moved.
+#[derive(Debug)]
+struct Moved {
+    member: Member,
+    at: Instant,
+    /// Whether it was told that the wire showed it elsewhere again.
+    is_told: bool,
+}
+
+/// The stations of all networks.
+#[derive(Debug)]
+pub(super) struct Roaming {
+    /// Of each network's wire.
+    echoes: Vec<Echoes>,
+    awaited: BTreeMap<Member, Awaited>,
+    moved: VecDeque<Moved>,
+    asked: (Instant, u32),
+}
+
+impl Roaming {
+    /// Nothing was put on the wires of so many networks.
+    pub(super) fn new(networks: usize) -> Roaming {
+        Roaming {
+            echoes: (0..networks).map(|_| Echoes::default()).collect(),
+            awaited: BTreeMap::new(),
+            moved: VecDeque::new(),
+            asked: (Instant::START, 0),
+        }
+    }
+
+    /// A frame goes to the wire of the network of this place.
+    pub(super) fn put(&mut self, place: usize, frame: &[u8], now: Instant) {
+        self.echoes[place].put(frame, now);
+    }
+
+    /// A wire brought a frame from the address of a station that is associated; `answers` says whether the radio tells of
+    /// acknowledgements.
+    pub(super) fn hint(
+        &mut self,
+        member: Member,
+        station: &Station,
+        frame: &[u8],
+        answers: bool,
+        now: Instant,
+    ) -> Option<Step> {
+        let is_update = is_update(frame, member.1);
+        let moves = is_update && now >= station.since + TO_SETTLE;
+        let is_known = self.awaited.contains_key(&member) || !is_update && self.echoes[member.0].may_be(frame, now);
+        if !moves && (is_known || !answers) {
+            return None;
+        }
+        if let Some(moved) = self.moved_lately(member, now) {
+            let was_told = std::mem::replace(&mut moved.is_told, true);
+            return (!was_told).then_some(Step::Stay(member));
+        }
+        match (moves, station.dozes) {
+            (true, _) if now >= station.heard + QUIET => Some(self.moves(member, now)),
+            (true, _) => {
+                self.awaits(member, now, station.heard + QUIET);
+                None
+            }
+            (false, true) => self.asks(member, now, TO_ANSWER_OF_DOZING).then_some(Step::AskByUnit(member)),
+            (false, false) => self.asks(member, now, TO_ANSWER).then_some(Step::Ask(member)),
+        }
+    }
+
+    /// What is to be done of those that were awaited for long enough.
+    pub(super) fn look(&mut self, table: &StationTable, now: Instant) -> Vec<Step> {
+        let is_over = |awaited: &Awaited| awaited.until <= now;
+        let over: Vec<(Member, Awaited)> =
+            self.awaited.iter().filter(|(_, awaited)| is_over(awaited)).map(|(member, one)| (*member, *one)).collect();
+        let mut steps = Vec::new();
+        for (member, Awaited { since, .. }) in over {
+            self.awaited.remove(&member);
+            let is_gone = |station: &Station| {
+                let is_associated = matches!(station.state, State::Associated(_)) && !station.is_leaving;
+                is_associated && station.since <= since && station.heard <= since
+            };
+            if table.station(&member).map_or(false, is_gone) {
+                steps.push(self.moves(member, now));
+            }
+        }
+        steps
+    }
+
+    fn moves(&mut self, member: Member, now: Instant) -> Step {
+        self.awaited.remove(&member);
+        if self.moved.len() == MOST_MOVES {
+            self.moved.pop_front();
+        }
+        self.moved.push_back(Moved { member, at: now, is_told: false });
+        Step::Move(member)
+    }
+
+    fn moved_lately(&mut self, member: Member, now: Instant) -> Option<&mut Moved> {
+        while self.moved.front().map_or(false, |moved| moved.at + BETWEEN_MOVES <= now) {
+            self.moved.pop_front();
+        }
+        self.moved.iter_mut().find(|moved| moved.member == member)
+    }
+
+    /// Whether there is room for one more that is awaited, which is from now on.
+    fn awaits(&mut self, member: Member, since: Instant, until: Instant) -> bool {
+        let has_room = self.awaited.len() < MOST_AWAITED || self.awaited.contains_key(&member);
+        if has_room {
+            self.awaited.insert(member, Awaited { since, until });
+        }
+        has_room
+    }
+
+    /// The same of one that is asked, if it may be asked now.
+    fn asks(&mut self, member: Member, now: Instant, to_answer: Duration) -> bool {
+        if now >= self.asked.0 + ASKED_IN {
+            self.asked = (now, 0);
+        }
+        let may = self.asked.1 < MOST_ASKED && self.awaits(member, now, now + to_answer);
+        self.asked.1 += u32::from(may);
+        may
+    }
+}
+
+#[cfg(test)]
+#[path = "roaming_test.rs"]
+mod tests;

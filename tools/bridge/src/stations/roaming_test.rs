@@ -1,0 +1,191 @@
+use super::*;
+use crate::formats::ethernet::update;
+use crate::formats::frames::{Address, Frame};
+use crate::formats::radiotap::Reception;
+use crate::os::clock::MILLISECOND;
+use crate::stations::own_frames::mode_of_station;
+use crate::testing::samples::{at, Unit, OTHER, OURS, STATION, STRANGER};
+
+const MEMBER: Member = (1, STATION);
+/// When the station was associated.
+const JOINED: Duration = SECOND;
+
+/// The stations of two networks, the second of which has one that is associated.
+struct Site {
+    table: StationTable,
+    roaming: Roaming,
+}
+
+impl Site {
+    fn new() -> Site {
+        let mut table = StationTable::new(vec![OTHER, OURS]);
+        table.associate(MEMBER, 1, at(JOINED));
+        Site { table, roaming: Roaming::new(2) }
+    }
+
+    fn with_many(number: u32) -> (Site, Vec<Member>) {
+        let mut site = Site::new();
+        let address = |number: u32| Address::of([2, 0xcc, 0, 0, (number >> 8) as u8, number as u8]);
+        let members: Vec<Member> = (0..number).map(|number| (1, address(number))).collect();
+        members.iter().zip(1..).for_each(|(member, aid)| site.table.associate(*member, aid, at(JOINED)));
+        (site, members)
+    }
+
+    fn hint(&mut self, member: Member, frame: &[u8], now: Instant) -> Option<Step> {
+        let station = self.table.station(&member).unwrap();
+        self.roaming.hint(member, station, frame, true, now)
+    }
+
+    fn look(&mut self, now: Instant) -> Vec<Step> {
+        self.roaming.look(&self.table, now)
+    }
+
+    fn is_heard(&mut self, now: Instant) {
+        let null = mode_of_station(OURS, STATION, false);
+        self.table.heard(Frame::of(&null).unwrap(), Reception::default(), now);
+    }
+}
+
+/// A frame from the station to a host.
+fn frame() -> Vec<u8> {
+    [STRANGER.octets(), STATION.octets(), &[8, 0, 1][..]].concat()
+}
+
+#[test]
+fn by_an_update_a_quiet_station_moves_at_once() {
+    let mut site = Site::new();
+    assert_eq!(site.hint(MEMBER, &update(STATION), at(2 * SECOND)), Some(Step::Move(MEMBER)));
+    assert_eq!(site.look(at(60 * SECOND)), []);
+}
+
+#[test]
+fn one_that_was_just_heard_moves_once_it_was_quiet_and_stays_if_it_is_heard_again() {
+    for is_heard_again in [false, true] {
+        let mut site = Site::new();
+        site.is_heard(at(5 * SECOND));
+        let now = 5 * SECOND + QUIET - MILLISECOND;
+        assert_eq!(site.hint(MEMBER, &update(STATION), at(now)), None);
+        assert_eq!(site.look(at(now)), []);
+        if is_heard_again {
+            site.is_heard(at(now + MILLISECOND));
+        }
+        let wanted = if is_heard_again { vec![] } else { vec![Step::Move(MEMBER)] };
+        assert_eq!(site.look(at(5 * SECOND + QUIET)), wanted);
+        assert_eq!(site.look(at(60 * SECOND)), []);
+    }
+}
+
+/// What is sent by the station that comes here may still be on its way on the wire, or come back.
+#[test]
+fn by_an_update_soon_after_it_joined_it_is_only_asked() {
+    let mut site = Site::new();
+    site.roaming.put(1, &update(STATION), at(JOINED));
+    let now = JOINED + TO_SETTLE - MILLISECOND;
+    assert_eq!(site.hint(MEMBER, &update(STATION), at(now)), Some(Step::Ask(MEMBER)));
+    assert_eq!(site.look(at(now + TO_ANSWER - MILLISECOND)), []);
+    assert_eq!(site.look(at(now + TO_ANSWER)), [Step::Move(MEMBER)]);
+}
+
+#[test]
+fn by_any_other_frame_it_is_asked_once_and_moves_if_it_is_silent() {
+    let mut site = Site::new();
+    let now = 10 * SECOND;
+    assert_eq!(site.hint(MEMBER, &frame(), at(now)), Some(Step::Ask(MEMBER)));
+    assert_eq!(site.hint(MEMBER, &frame(), at(now + MILLISECOND)), None);
+    assert_eq!(site.look(at(now + TO_ANSWER - MILLISECOND)), []);
+    assert_eq!(site.look(at(now + TO_ANSWER)), [Step::Move(MEMBER)]);
+}
+
+#[test]
+fn an_update_says_more_than_the_frame_for_which_it_was_asked() {
+    let mut site = Site::new();
+    assert_eq!(site.hint(MEMBER, &frame(), at(10 * SECOND)), Some(Step::Ask(MEMBER)));
+    assert_eq!(site.hint(MEMBER, &update(STATION), at(10 * SECOND + MILLISECOND)), Some(Step::Move(MEMBER)));
+    assert_eq!(site.look(at(60 * SECOND)), []);
+}
+
+#[test]
+fn one_that_answers_stays_and_may_be_asked_again() {
+    let mut site = Site::new();
+    for second in [10, 20] {
+        assert_eq!(site.hint(MEMBER, &frame(), at(second * SECOND)), Some(Step::Ask(MEMBER)));
+        site.is_heard(at(second * SECOND + MILLISECOND));
+        assert_eq!(site.look(at((second + 1) * SECOND)), []);
+    }
+}
+
+#[test]
+fn one_that_dozes_is_asked_by_a_unit_and_has_longer() {
+    let mut site = Site::new();
+    let dozes = mode_of_station(OURS, STATION, true);
+    site.table.fed(&dozes, at(2 * SECOND));
+    assert_eq!(site.hint(MEMBER, &frame(), at(10 * SECOND)), Some(Step::AskByUnit(MEMBER)));
+    assert_eq!(site.look(at(14 * SECOND)), []);
+    assert_eq!(site.look(at(15 * SECOND)), [Step::Move(MEMBER)]);
+}
+
+#[test]
+fn an_echo_is_no_hint() {
+    let mut site = Site::new();
+    site.roaming.put(1, &frame(), at(10 * SECOND));
+    assert_eq!(site.hint(MEMBER, &frame(), at(11 * SECOND)), None);
+    assert_eq!(site.hint(MEMBER, &frame(), at(11 * SECOND + MILLISECOND)), Some(Step::Ask(MEMBER)));
+    // On the other network's wire it is none.
+    let mut site = Site::new();
+    site.roaming.put(0, &frame(), at(10 * SECOND));
+    assert_eq!(site.hint(MEMBER, &frame(), at(10 * SECOND)), Some(Step::Ask(MEMBER)));
+}
+
+/// A radio that tells of no acknowledgement can't show that a station is here.
+#[test]
+fn where_no_answer_would_be_told_nobody_is_asked() {
+    let mut site = Site::new();
+    let station = site.table.station(&MEMBER).unwrap();
+    assert_eq!(site.roaming.hint(MEMBER, station, &frame(), false, at(10 * SECOND)), None);
+    let step = site.roaming.hint(MEMBER, station, &update(STATION), false, at(10 * SECOND));
+    assert_eq!(step, Some(Step::Move(MEMBER)));
+}
+
+#[test]
+fn one_that_left_or_joined_anew_is_awaited_no_more() {
+    let mut site = Site::new();
+    assert_eq!(site.hint(MEMBER, &frame(), at(10 * SECOND)), Some(Step::Ask(MEMBER)));
+    site.table.associate(MEMBER, 1, at(10 * SECOND + MILLISECOND));
+    assert_eq!(site.look(at(60 * SECOND)), []);
+    assert_eq!(site.hint(MEMBER, &frame(), at(70 * SECOND)), Some(Step::Ask(MEMBER)));
+    site.table.take_out(MEMBER);
+    assert_eq!(site.look(at(80 * SECOND)), []);
+}
+
+#[test]
+fn it_moves_once_in_ten_seconds_and_the_second_time_is_told_once() {
+    let mut site = Site::new();
+    assert_eq!(site.hint(MEMBER, &update(STATION), at(10 * SECOND)), Some(Step::Move(MEMBER)));
+    site.table.associate(MEMBER, 1, at(11 * SECOND));
+    assert_eq!(site.hint(MEMBER, &update(STATION), at(13 * SECOND)), Some(Step::Stay(MEMBER)));
+    assert_eq!(site.hint(MEMBER, &frame(), at(14 * SECOND)), None);
+    assert_eq!(site.look(at(19 * SECOND)), []);
+    assert_eq!(site.hint(MEMBER, &update(STATION), at(20 * SECOND)), Some(Step::Move(MEMBER)));
+}
+
+#[test]
+fn few_are_asked_at_a_time() {
+    let (mut site, members) = Site::with_many(8);
+    let from = |member: &Member| [STRANGER.octets(), member.1.octets(), &[8, 0, 1][..]].concat();
+    let mut asked = |time| members.iter().filter_map(|member| site.hint(*member, &from(member), at(time))).count();
+    let begin = 10 * SECOND;
+    assert_eq!([begin, begin + ASKED_IN - MILLISECOND, begin + ASKED_IN].map(&mut asked), [2, 0, 2]);
+}
+
+#[test]
+fn few_are_awaited_at_a_time() {
+    let (mut site, members) = Site::with_many(2 * MOST_AWAITED as u32);
+    for (_, address) in &members {
+        let null = Unit { control: [0x48, 0x01], transmitter: *address, ..Unit::default() }.octets();
+        site.table.heard(Frame::of(&null).unwrap(), Reception::default(), at(10 * SECOND));
+    }
+    for member in &members {
+        assert_eq!(site.hint(*member, &update(member.1), at(10 * SECOND)), None);
+    }
+    assert_eq!(site.look(at(10 * SECOND + QUIET)).len(), MOST_AWAITED);
+}
