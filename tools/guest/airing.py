@@ -5,7 +5,7 @@ import signal
 import subprocess
 from dataclasses import dataclass
 
-from stage import Net, Start
+from stage import Net, Start, new_folder
 from stations import Failed, Host, Station, run, wait_for
 
 READY, DONE = "ready", "ok"
@@ -23,7 +23,7 @@ ssid={ssid}
 hw_mode=g
 channel=6
 beacon_int=100
-dtim_period=1
+dtim_period={dtim}
 auth_algs=1
 wmm_enabled=0
 basic_rates=10 20
@@ -97,6 +97,14 @@ class Air:
         """From now on a radio queues by a discipline: `unbounded`, `one` or `fair`."""
         self.tell(f"queue {radio} {discipline}")
 
+    def let_sleepers(self, word: str) -> None:
+        """From now on radios that doze `hear` all the same, or are `deaf`."""
+        self.tell(f"sleepers {word}")
+
+    def give(self, radio: int, address: str) -> None:
+        """A radio has this address too, of which the kernel doesn't tell."""
+        self.tell(f"has {radio} {address}")
+
     def airtimes(self) -> list[Airtime]:
         """How long was sent since it began to count."""
         found = (TIMED.fullmatch(line) for line in self.tell("airtime"))
@@ -119,14 +127,29 @@ class Air:
         self.process.wait(20)
 
 
+@dataclass(frozen=True)
+class PowerSave:
+    """How an access point serves those that doze: the DTIM period, and for this access point alone how many units it
+    keeps at most, and whether it keeps none for longer than a station's listen interval."""
+
+    dtim: int = 1
+    quota: int = 200
+    aging: bool = False
+
+
 class Own:
     """This access point: the bridge and the program."""
 
     name = "waltigon"
 
-    def __init__(self, folder: str, bridge: str, program: str, phy: str, bssid: str, ssid: str, host: Host) -> None:
+    def __init__(self, folder: str, bridge: str, program: str, phy: str, bssid: str, ssid: str, host: Host,
+                 power_save: PowerSave = PowerSave(), max_known: int = 128) -> None:
         self.bssid, self.ssid = bssid, ssid
-        self.start = Start(self.name, folder, bridge, program, phy, (Net(bssid, ssid, host.port, rates=RATES),))
+        # Version 2 of the configuration asks for both words.
+        more = f"relay = true\naging = {str(power_save.aging).lower()}\n"
+        net = Net(bssid, ssid, host.port, rates=RATES, dtim=power_save.dtim, quota=power_save.quota, more=more,
+                  max_known=max_known)
+        self.start = Start(self.name, folder, bridge, program, phy, (net,), version=2)
 
     def begin(self) -> None:
         """Begins it."""
@@ -147,9 +170,10 @@ class Hostapd:
 
     name = "hostapd"
 
-    def __init__(self, folder: str, phy: str, bssid: str, ssid: str, host: Host) -> None:
-        self.folder = os.path.join(folder, self.name)
-        os.makedirs(self.folder)
+    def __init__(self, folder: str, phy: str, bssid: str, ssid: str, host: Host,
+                 power_save: PowerSave = PowerSave()) -> None:
+        self.folder = new_folder(folder, self.name)
+        self.power_save = power_save
         self.phy, self.bssid, self.ssid, self.host = phy, bssid, ssid, host
         self.config, self.log = os.path.join(self.folder, "config"), os.path.join(self.folder, "log")
         self.process: subprocess.Popen | None = None
@@ -157,7 +181,8 @@ class Hostapd:
     def begin(self) -> None:
         """Begins it."""
         with open(self.config, "w", encoding="utf-8") as file:
-            file.write(HOSTAPD_TEXT.format(interface=AP, bridge=BRIDGE, folder=self.folder, ssid=self.ssid))
+            file.write(HOSTAPD_TEXT.format(interface=AP, bridge=BRIDGE, folder=self.folder, ssid=self.ssid,
+                                           dtim=self.power_save.dtim))
         run("iw", "phy", self.phy, "interface", "add", AP, "type", "managed", "addr", self.bssid)
         run("ip", "link", "add", BRIDGE, "type", "bridge")
         for name in (self.host.port, BRIDGE):
@@ -200,6 +225,17 @@ class Hostapd:
         run("ip", "link", "del", BRIDGE)
         run("iw", "dev", AP, "del")
         return ""
+
+
+def live_with(folder: str, live: str, bridge: str | None) -> str:
+    """The script tools/live, or one that starts it with another bridge than the built one."""
+    if bridge is None:
+        return live
+    path = os.path.join(folder, "live")
+    with open(path, "w", encoding="utf-8") as file:
+        file.write(f'#!/bin/sh\nexec {live} "$@" --bridge {os.path.realpath(bridge)}\n')
+    os.chmod(path, 0o755)
+    return path
 
 
 def heard_at(station: Station) -> float:

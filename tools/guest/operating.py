@@ -22,6 +22,7 @@ HERE = os.path.dirname(os.path.realpath(__file__))
 TOP = os.path.dirname(os.path.dirname(HERE))
 LIVE = os.path.join(os.path.dirname(HERE), "live")
 GUESTS, OFFICE, DEVICES, LAB = (f"02:00:00:00:01:0{number}" for number in (1, 2, 3, 5))
+TEST_COMMAND = bytes([0, 0, 0xf3])  # IEEE Std 802.2, 5.4.1.2
 IDLE = 8  # seconds of silence after which stations are asked
 FIRST_SILENT, FIRST_FLOOD, FIRST_RELOADED = 81, 85, 91
 FLOOD, ROOM_SECONDS = 5000, 5
@@ -48,6 +49,11 @@ def authentication(station: bytes) -> bytes:
     """A request of a station to authenticate with the guests' network, as it is sent by a monitor interface."""
     header = b"\xb0\0\0\0" + address_of(GUESTS) + station + address_of(GUESTS) + bytes([0x10, 0])
     return NO_FIELDS + header + bytes([0, 0, 1, 0, 0, 0])
+
+
+def is_question(frame: Frame) -> bool:
+    """Whether it may be a question of a network: a Null frame, or the TEST command of LLC."""
+    return frame.type == DATA and (frame.subtype == NULL or frame.subtype == 0 and frame.body == TEST_COMMAND)
 
 
 class Silence(Part):
@@ -118,14 +124,14 @@ class Silence(Part):
             station.ping(self.host.address, 4).whole()
         self.dozing.run("iw", "dev", self.dozing.interface, "set", "power_save", "off")
         if min(asked.values()) < 2 or self.start.told().count(" joins ") != joined:
-            raise Failed(f"Null frames that another radio heard: {asked}")
-        return f"Null frames that another radio heard: {asked}"
+            raise Failed(f"questions that another radio heard: {asked}")
+        return f"questions that another radio heard: {asked}"
 
     def questions(self, station: Station) -> int:
-        """How often a station was asked whether it is there."""
+        """How often a station was asked whether it is there: by a Null frame, or while it dozes by a unit."""
         found = [captured(packet) for packet in self.start.observed.packets_so_far()]
         frames = [Frame(packet.frame) for packet in found if packet]
-        return sum((frame.type, frame.subtype) == (DATA, NULL) and frame.transmitter == address_of(GUESTS)
+        return sum(is_question(frame) and frame.transmitter == address_of(GUESTS)
                    and frame.receiver == address_of(station.hardware_address()) for frame in frames)
 
     def kick(self) -> str:

@@ -8,7 +8,8 @@ import signal
 import struct
 import subprocess
 import time
-from collections import defaultdict
+from collections import Counter, defaultdict
+from collections.abc import Callable
 from contextlib import suppress
 from dataclasses import dataclass, field
 
@@ -54,6 +55,9 @@ KINDS = {b"A": "air", b"W": "wire"}
 BRIDGES_REASONS = (3, 4)  # leaving, and inactivity
 # Between these comments of a record stands what a new program was told of stations that joined before.
 RESTORED_FROM, RESTORED_TO = "# restored: of the lines", "# restored: up to here"
+# And between these units of stations that doze, which went back to the program.
+HANDED_BACK_FROM, HANDED_BACK_TO = "# handed back: the lines", "# handed back: up to here"
+SNAP, LEAST_TYPE = bytes.fromhex("aaaa03000000"), 0x0600
 DURATION, RECEIVER, RETRY, TIMESTAMP = slice(2, 4), slice(4, 10), 0x08, slice(24, 32)
 
 
@@ -67,6 +71,8 @@ class Net:
     dtim: int = 1
     more: str = ""
     rates: str = "82840b16"
+    quota: int = 200
+    max_known: int = 128
 
 
 @dataclass
@@ -181,6 +187,40 @@ def same_on_air(what: str, heard: list[bytes], wrote: list[bytes]) -> None:
         raise Failed(f"{what}: {early} frames for a group went before a beacon that was written before them")
 
 
+def handed_back(lines: list[str]) -> Counter[tuple[str, bytes]]:
+    """The units of a record that went back to the program: their networks, and the frames of a wire that they are."""
+    found: Counter[tuple[str, bytes]] = Counter()
+    is_between = False
+    for line in lines:
+        if line.startswith((HANDED_BACK_FROM, HANDED_BACK_TO)):
+            is_between = line.startswith(HANDED_BACK_FROM)
+        elif is_between and line.startswith("W "):
+            _, bssid, octets = line.split(" ")
+            found[bssid, bytes.fromhex(octets)] += 1
+    return found
+
+
+def wired_form(octets: bytes) -> bytes:
+    """A unit that a network sends to a station, as a frame of Ethernet (docs/PROTOCOL.md, "The wire")."""
+    body = octets[24:]
+    is_typed = body.startswith(SNAP) and number(body[len(SNAP):len(SNAP) + 2][::-1]) >= LEAST_TYPE
+    return octets[RECEIVER] + octets[16:22] + (body[len(SNAP):] if is_typed else struct.pack(">H", len(body)) + body)
+
+
+def without_unsent(bssid: str, wrote: list[bytes], heard: list[bytes],
+                   back: Counter[tuple[str, bytes]]) -> list[bytes]:
+    """What the program wrote for a network, but for units that weren't heard and went back to it."""
+    left, unsent, sent = Counter(heard), Counter(back), []
+    for octets in wrote:
+        if left[octets] > 0:
+            left[octets] -= 1
+        elif unsent[bssid, wired_form(octets)] > 0:
+            unsent[bssid, wired_form(octets)] -= 1
+            continue
+        sent.append(octets)
+    return sent
+
+
 class NotSeen(Failed):
     """A capture lost packets: it shows nothing of what was sent."""
 
@@ -292,8 +332,11 @@ class Start:
         """Writes the configuration of the networks."""
         with open(self.config, "w", encoding="utf-8") as file:
             file.write(RADIO_TEXT.format(version=self.version))
-            file.writelines(NETWORK_TEXT.format(bssid=net.bssid, ssid=net.ssid, rates=net.rates,
-                                                dtim=net.dtim, more=net.more) for net in self.networks)
+            for net in self.networks:
+                text = NETWORK_TEXT.format(bssid=net.bssid, ssid=net.ssid, rates=net.rates, dtim=net.dtim,
+                                           more=net.more)
+                text = text.replace("quota = 200\n", f"quota = {net.quota}\n")
+                file.write(text.replace("max_known = 128\n", f"max_known = {net.max_known}\n"))
 
     def begin(self) -> None:
         """Starts the bridge, with the radio that hears beside it."""
@@ -432,12 +475,16 @@ class Start:
         """What the program wrote for a network on the air and the bridge sent: all but what was swallowed."""
         return read_answers(self.answered())[bssid].air[len(self.swallowed()[bssid].air):]
 
-    def agrees_with_observed(self, earlier: "tuple[Start, ...]" = ()) -> str:
+    def agrees_with_observed(self, earlier: "tuple[Start, ...]" = (),
+                             is_stranger: Callable[[bytes], bool] = lambda receiver: False) -> str:
         """What another radio heard of each network has to be what the program wrote for it, and the earlier ones before
-        it: for each receiver the same frames in the same order, where one that was sent again counts once."""
+        it: for each receiver the same frames in the same order, where one that was sent again counts once. A unit of a
+        station that dozes may have gone back to the program before it was sent. Of answers to strangers some are dropped,
+        and the newest goes first: what was heard of these has to be among what was written."""
         starts = (*earlier, self)
         bssids = {address_of(net.bssid): net for start in starts for net in start.networks}
         heard: dict[str, list[bytes]] = defaultdict(list)
+        answers: dict[str, list[bytes]] = defaultdict(list)
         last: dict[tuple[bytes, bytes], int] = {}
         for packet in self.observed.packets():
             found = captured(packet)
@@ -445,12 +492,18 @@ class Start:
             if frame and frame.transmitter in bssids and not is_bridges_own(frame):
                 way = frame.transmitter, frame.receiver
                 if not frame.retry or last.get(way) != frame.sequence_control:
-                    heard[bssids[frame.transmitter].bssid].append(comparable(frame.octets))
+                    found_in = answers if is_stranger(frame.receiver) else heard
+                    found_in[bssids[frame.transmitter].bssid].append(comparable(frame.octets))
                 last[way] = frame.sequence_control
+        back = sum((handed_back(start.recorded()) for start in starts), Counter())
         for net in bssids.values():
-            wrote = [octets for start in starts for octets in start.sent_on_air(net.bssid)]
+            sent = [bytes.fromhex(octets) for start in starts for octets in start.sent_on_air(net.bssid)]
+            wrote = [comparable(octets) for octets in sent if not is_stranger(octets[RECEIVER])]
+            to_strangers = Counter(comparable(octets) for octets in sent if is_stranger(octets[RECEIVER]))
+            if made_up := Counter(answers[net.bssid]) - to_strangers:
+                raise Failed(f"{self.name}: {made_up.total()} answers to strangers of {net.ssid} that weren't written")
             same_on_air(f"{self.name}: heard of {net.ssid}", heard[net.bssid],
-                        [comparable(bytes.fromhex(octets)) for octets in wrote])
+                        without_unsent(net.bssid, wrote, heard[net.bssid], back))
         return f"{sum(map(len, heard.values()))} frames heard"
 
 

@@ -7,8 +7,18 @@ const RECEIVER: std::ops::Range<usize> = 4..10;
 const TRANSMITTER: std::ops::Range<usize> = 10..16;
 const GROUP: u8 = 1;
 const TYPE_AND_SUBTYPE: u8 = 0xfc;
+const DISTRIBUTION: u8 = 0x03;
+const TO_DISTRIBUTION: u8 = 0x01;
 const RETRY: u8 = 0x08;
+const POWER_MANAGEMENT: u8 = 0x10;
+const MORE_DATA: u8 = 0x20;
 const FLAGS_AT: usize = 1;
+/// The octets of a PS-Poll that have the association identifier, and which bits of them.
+const IDENTIFIER: std::ops::Range<usize> = 2..4;
+const IDENTIFIER_BITS: u16 = 0x3fff;
+
+/// The octets of a header of three addresses.
+pub const HEADER_LEN: usize = 24;
 
 /// An address of 48 bits.
 pub type Address = [u8; 6];
@@ -20,17 +30,20 @@ pub enum Kind {
     Authentication,
     Beacon,
     Data,
+    /// Disassociation and deauthentication.
+    Leaving,
     Null,
     Probe,
     PsPoll,
     Other,
 }
 
-const NAMES: [(Kind, &str); 8] = [
+const NAMES: [(Kind, &str); 9] = [
     (Kind::Association, "association"),
     (Kind::Authentication, "authentication"),
     (Kind::Beacon, "beacon"),
     (Kind::Data, "data"),
+    (Kind::Leaving, "leaving"),
     (Kind::Null, "null"),
     (Kind::Probe, "probe"),
     (Kind::PsPoll, "ps-poll"),
@@ -47,6 +60,7 @@ impl Kind {
             Some(0x80) => Kind::Beacon,
             Some(0x08 | 0x88) => Kind::Data,
             Some(0x48 | 0xc8) => Kind::Null,
+            Some(0xa0 | 0xc0) => Kind::Leaving,
             Some(0xa4) => Kind::PsPoll,
             _ => Kind::Other,
         }
@@ -74,6 +88,14 @@ impl FromStr for Kind {
     }
 }
 
+/// The address that is written as six pairs of digits with `:` between, or None where it isn't.
+pub fn read_address(word: &str) -> Option<Address> {
+    let is_pair = |pair: &&str| pair.len() == 2 && pair.bytes().all(|digit| digit.is_ascii_hexdigit());
+    let read = |pair| Some(pair).filter(is_pair).and_then(|pair| u8::from_str_radix(pair, 16).ok());
+    let octets: Vec<u8> = word.split(':').map(read).collect::<Option<_>>()?;
+    octets.try_into().ok()
+}
+
 /// Whom a frame is for, or None where it is too short to say.
 pub fn receiver(frame: &[u8]) -> Option<Address> {
     frame.get(RECEIVER)?.try_into().ok()
@@ -87,6 +109,27 @@ pub fn transmitter(frame: &[u8]) -> Option<Address> {
 /// Whether an address is that of a group.
 pub fn is_group(address: Address) -> bool {
     address[0] & GROUP != 0
+}
+
+/// Whether a frame of type Data goes from a station to a network.
+pub fn is_to_network(frame: &[u8]) -> bool {
+    frame.get(FLAGS_AT).map_or(false, |flags| flags & DISTRIBUTION == TO_DISTRIBUTION)
+}
+
+/// Whether its sender says that it dozes.
+pub fn has_power_management(frame: &[u8]) -> bool {
+    frame.get(FLAGS_AT).map_or(false, |flags| flags & POWER_MANAGEMENT != 0)
+}
+
+/// Whether its sender says that it keeps more.
+pub fn has_more_data(frame: &[u8]) -> bool {
+    frame.get(FLAGS_AT).map_or(false, |flags| flags & MORE_DATA != 0)
+}
+
+/// The association identifier of a PS-Poll, or None where it is too short to say.
+pub fn identifier(poll: &[u8]) -> Option<u16> {
+    let octets = poll.get(IDENTIFIER)?.try_into().ok()?;
+    Some(u16::from_le_bytes(octets) & IDENTIFIER_BITS)
 }
 
 /// The frame as it is sent again.
@@ -114,7 +157,9 @@ mod tests {
             (0xa4, Kind::PsPoll),
             (0x40, Kind::Probe),
             (0x50, Kind::Probe),
-            (0xc0, Kind::Other),
+            (0xa0, Kind::Leaving),
+            (0xc0, Kind::Leaving),
+            (0xd0, Kind::Other),
         ] {
             assert_eq!(Kind::of(&[octet]), kind);
         }
@@ -136,6 +181,23 @@ mod tests {
         assert_eq!(receiver(&frame), Some([4, 5, 6, 7, 8, 9]));
         assert_eq!(transmitter(&frame), Some([10, 11, 12, 13, 14, 15]));
         assert_eq!(transmitter(&frame[..15]), None);
+    }
+
+    #[test]
+    fn an_address_is_read() {
+        assert_eq!(read_address("02:00:00:0a:FF:10"), Some([2, 0, 0, 10, 255, 16]));
+        for word in ["", "02", "02:00:00:00:00", "02:00:00:00:00:00:00", "02:00:00:00:00:0", "02:00:00:00:00:+1"] {
+            assert_eq!(read_address(word), None, "{word}");
+        }
+    }
+
+    #[test]
+    fn flags_and_the_identifier_of_a_poll_are_read() {
+        assert!(is_to_network(&[0x08, 0x11]) && !is_to_network(&[0x08, 0x02]) && !is_to_network(&[0x08, 0x03]));
+        assert!(has_power_management(&[0x48, 0x11]) && !has_power_management(&[0x48, 0x21]));
+        assert!(has_more_data(&[0x08, 0x22]) && !has_more_data(&[0x08, 0x12]) && !has_more_data(&[0x08]));
+        assert_eq!(identifier(&[0xa4, 0x10, 0x05, 0xc1]), Some(0x105));
+        assert_eq!(identifier(&[0xa4, 0x10, 0x05]), None);
     }
 
     #[test]

@@ -34,6 +34,9 @@ const WAS_ACKNOWLEDGED: u32 = 1 << 2;
 /// The most rates that a frame is tried at.
 const MOST_RATES: usize = 4;
 const UNUSED: i8 = -1;
+/// The kernel takes no frame of fewer octets (`hwsim_cloned_frame_received_nl`). A PS-Poll has 16, and nothing reads
+/// what stands behind them.
+const LEAST_LEN: usize = 24;
 /// What every receiver is told, in dBm.
 const SIGNAL: i32 = -50;
 
@@ -129,11 +132,13 @@ pub fn register(family: u16) -> Message {
     Message::new(family, command::REGISTER)
 }
 
-/// A radio hears a frame.
+/// A radio hears a frame; zeros follow one that is too short for the kernel.
 pub fn delivery(family: u16, to: Radio, frame: &[u8], rate: Rate, frequency: u32) -> Message {
+    let missing = LEAST_LEN.saturating_sub(frame.len());
+    let octets = [frame, &[0; LEAST_LEN][..missing]].concat();
     Message::new(family, command::FRAME)
         .with(attribute::RECEIVER, &address_of(to))
-        .with(attribute::FRAME, frame)
+        .with(attribute::FRAME, &octets)
         .with(attribute::RX_RATE, &u32::from(rate.number()).to_ne_bytes())
         .with(attribute::SIGNAL, &SIGNAL.to_ne_bytes())
         .with(attribute::FREQUENCY, &frequency.to_ne_bytes())
@@ -198,6 +203,22 @@ mod tests {
         assert_eq!(said(message(command::ADD_ADDRESS)), Some(Said::Has(Radio(3), [2, 0, 0, 0, 1, 1])));
         assert_eq!(said(message(command::DEL_ADDRESS)), Some(Said::HasNoMore(Radio(3), [2, 0, 0, 0, 1, 1])));
         assert_eq!(said(message(9)), None);
+    }
+
+    #[test]
+    fn a_frame_that_is_too_short_for_the_kernel_is_made_longer() {
+        for (len, wanted) in [(16, LEAST_LEN), (23, LEAST_LEN), (24, 24), (30, 30)] {
+            let octets = delivery(29, Radio(1), &vec![7; len], "1".parse().unwrap(), 2437).octets();
+            let found = messages(&octets).next();
+            match found {
+                Some(Heard::Generic { command: command::FRAME, attributes }) => {
+                    let found = attributes.get(attribute::FRAME).unwrap();
+                    assert_eq!(found.len(), wanted);
+                    assert!(found.iter().enumerate().all(|(place, octet)| *octet == if place < len { 7 } else { 0 }));
+                }
+                other => panic!("{other:?}"),
+            }
+        }
     }
 
     #[test]

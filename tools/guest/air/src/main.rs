@@ -5,10 +5,10 @@
 //! it was sent, and hands it to those who heard it; all after the time that frame and acknowledgement take on the air.
 //! The module `medium` has how.
 //!
-//! What it leaves to others: which channel a radio is on (the kernel drops a frame of another one) and whether a radio
-//! sleeps or scans (it acknowledges as long as it has an interface with that address, or sends beacons by it: the module
-//! `owners` has why). There are no collisions and no hidden stations. The kernel takes no frame of fewer than 24 octets
-//! back, so a PS-Poll is heard by nobody.
+//! What it leaves to others: which channel a radio is on (the kernel drops a frame of another one). A radio acknowledges
+//! as long as it has an interface with that address, or sends beacons by it: the module `owners` has why. By the word
+//! `sleepers deaf` it doesn't while it dozes, as the module `sleepers` says. There are no collisions and no hidden
+//! stations.
 //!
 //! Usage: `air RADIOS SEED`, as root, once the simulation is loaded and before its interfaces are set up, since the
 //! kernel tells a radio's addresses only then. It writes `ready`; then each line of its standard input is answered by
@@ -19,6 +19,10 @@
 //! clear       lose nothing any more
 //! queue RADIO unbounded|one|fair
 //!             in which order what waits in this radio goes, and what it drops: the module `queues` has which
+//! sleepers hear|deaf
+//!             whether a radio that dozes hears all the same, as at first
+//! has RADIO ADDRESS
+//!             the radio acknowledges for this address too, of which the kernel doesn't tell
 //! report      before `ok`, a line for what was sent from whom to whom, of which kind, at which rate
 //! airtime     before `ok`, a line for how long was sent from which address to which, of which kind
 //! forget      begin to count anew
@@ -38,6 +42,8 @@ mod owners;
 mod queues;
 mod rate;
 mod rules;
+mod sleepers;
+mod tim;
 
 use std::io::{self, BufRead};
 use std::process::ExitCode;
@@ -201,6 +207,12 @@ impl Air {
             ("lose", rule) => self.medium.rules.add(rule.parse()?),
             ("clear", "") => self.medium.rules.clear(),
             ("queue", words) => self.queue_by(words)?,
+            ("sleepers", word) => self.medium.sleepers.set_ears(word.parse()?),
+            ("has", words) => {
+                let (radio, address) = words.split_once(' ').ok_or("a radio and an address are wanted")?;
+                let address = frame::read_address(address).ok_or_else(|| format!("{address} is no address"))?;
+                self.medium.give_address(radio.parse()?, address);
+            }
             ("forget", "") => self.medium.clear_counts(),
             ("report", "") => {
                 for (way, count) in self.medium.counts() {

@@ -5,7 +5,8 @@
 //! slots that is drawn from a window which doubles with each try (IEEE Std 802.11-2016, 10.3.4.3), so there are no
 //! collisions. A try that is heard by the radio that it is for is acknowledged; where the frame or the acknowledgement
 //! is lost it is sent again, with Retry set, at the rates and as often as its sender asked. In which order the frames of
-//! one radio go is the module `queues`; what each used is the module `airtime`.
+//! one radio go is the module `queues`; what each used is the module `airtime`; what a radio that dozes hears is the
+//! module `sleepers`.
 
 use std::collections::hash_map::DefaultHasher;
 use std::collections::{BTreeMap, HashMap};
@@ -22,6 +23,7 @@ use crate::owners::Owners;
 use crate::queues::{Discipline, Queue};
 use crate::rate::Rate;
 use crate::rules::{Lost, Radio, Rules, Try};
+use crate::sleepers::Sleepers;
 
 const LEAST_WINDOW: [u64; 2] = [15, 31];
 const MOST_WINDOW: u64 = 1023;
@@ -93,6 +95,7 @@ struct OnAir {
 #[derive(Debug)]
 pub struct Medium {
     pub rules: Rules,
+    pub sleepers: Sleepers,
     radios: u16,
     draws: Draws,
     /// Who acknowledges what comes to an address.
@@ -109,6 +112,7 @@ impl Medium {
     pub fn new(radios: u16, seed: u64) -> Medium {
         Medium {
             rules: Rules::default(),
+            sleepers: Sleepers::default(),
             radios,
             draws: Draws { seed, drawn: HashMap::new() },
             owners: Owners::default(),
@@ -128,6 +132,7 @@ impl Medium {
     /// It doesn't any more, where this was said as often as that it does.
     pub fn take_address(&mut self, radio: Radio, address: Address) {
         self.owners.take(radio, address);
+        self.sleepers.forget(radio, address);
     }
 
     /// From now on a radio keeps what waits by this discipline; what it drops for that is done with.
@@ -220,6 +225,9 @@ impl Medium {
                 let share = self.rules.share(Lost::Acknowledgements, Try { from, to, rate, kind });
                 !self.draws.happens(share, to, from)
             });
+        if exchange.transmitter.map_or(false, |address| self.owners.of(address, ends) == Some(from)) {
+            self.sleepers.sent(from, &exchange.frame, acknowledged);
+        }
         let count = self.counts.entry(Way { from, to, kind, rate }).or_default();
         count.tries += 1;
         count.heard += u64::from(was_heard);
@@ -247,9 +255,10 @@ impl Medium {
         let mut was_heard = false;
         for radio in (0..self.radios).map(Radio).filter(|radio| *radio != from) {
             let share = self.rules.share(Lost::Frames, Try { from, to: radio, rate, kind: exchange.kind });
-            if self.draws.happens(share, from, radio) {
+            if self.draws.happens(share, from, radio) || !self.sleepers.hears(radio, &exchange.frame) {
                 continue;
             }
+            self.sleepers.heard(radio, &exchange.frame);
             was_heard |= to == Some(radio);
             let (frame, frequency) = (Rc::clone(&exchange.frame), exchange.sent.frequency);
             effects.push(Effect::Delivered { to: radio, frame, rate, frequency });
@@ -522,6 +531,75 @@ mod tests {
             medium.advance(FOREVER);
             assert_eq!(asked(&mut medium, NETWORK, SECOND), (true, Some(Radio(radio))));
         }
+    }
+
+    /// A frame of a station's own for a network, which says whether it dozes.
+    fn says(from: u16, dozes: bool) -> Sent {
+        let mut sent = data(from, [2, 0, 0, 0, 1, 1], &[("54", 1)]);
+        sent.frame[..2].copy_from_slice(&[0x48, if dozes { 0x11 } else { 0x01 }]);
+        sent.frame[10..16].copy_from_slice(&STATION);
+        sent
+    }
+
+    /// A medium with deaf sleepers, on which a radio that has the address of a network carries its beacons.
+    fn sleeping() -> Medium {
+        let mut medium = medium(&[]);
+        medium.give_address(Radio(0), [2, 0, 0, 0, 1, 1]);
+        medium.sleepers.set_ears(crate::sleepers::Ears::Deaf);
+        medium
+    }
+
+    /// How often a frame to the station was tried, and whether the station acknowledged it.
+    fn reaches(medium: &mut Medium) -> (u8, bool) {
+        medium.take(data(0, STATION, &[("54", 4)]), 0);
+        let done = done(&medium.advance(FOREVER));
+        (done[0].0[0].1, done[0].1)
+    }
+
+    #[test]
+    fn a_radio_that_dozes_acknowledges_nothing_until_it_wakes() {
+        let mut medium = sleeping();
+        for (dozes, reached) in [(false, (1, true)), (true, (4, false)), (false, (1, true))] {
+            medium.take(says(2, dozes), 0);
+            medium.advance(FOREVER);
+            assert_eq!(reaches(&mut medium), reached);
+        }
+    }
+
+    #[test]
+    fn a_frame_in_the_name_of_another_lets_neither_radio_doze() {
+        let mut medium = sleeping();
+        medium.take(says(1, true), 0);
+        medium.advance(FOREVER);
+        medium.take(data(0, STATION, &[("54", 4)]), 0);
+        let effects = medium.advance(FOREVER);
+        assert_eq!((heard(&effects, 1), heard(&effects, 2)), (vec![false], vec![false]));
+    }
+
+    #[test]
+    fn a_radio_dozes_by_the_acknowledgement_that_it_hears() {
+        let mut medium = sleeping();
+        medium.rules.add("acknowledgements 100% from 2 to 0".parse().unwrap());
+        medium.take(says(2, true), 0);
+        medium.advance(FOREVER);
+        assert_eq!(reaches(&mut medium), (1, true));
+    }
+
+    #[test]
+    fn a_beacon_that_a_sleeper_loses_changes_nothing_for_it() {
+        let mut medium = sleeping();
+        medium.take(says(2, true), 0);
+        medium.rules.add("frames 100% of beacon to 2".parse().unwrap());
+        let mut with_groups = beacon(0, [2, 0, 0, 0, 1, 1]);
+        with_groups.frame.truncate(36);
+        with_groups.frame.extend_from_slice(&[5, 4, 0, 1, 1, 0]);
+        medium.take(with_groups.clone(), 0);
+        medium.advance(FOREVER);
+        assert_eq!(reaches(&mut medium), (4, false));
+        medium.rules.clear();
+        medium.take(with_groups, 0);
+        medium.advance(FOREVER);
+        assert_eq!(reaches(&mut medium), (1, true));
     }
 
     #[test]
