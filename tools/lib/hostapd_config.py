@@ -5,7 +5,7 @@ from dataclasses import dataclass, field
 
 from explaining.keys import NETWORK_LIMITS, RADIO_LIMITS
 from explaining.values import address_fault
-from hostapd import UNKNOWN, left_out, line_for, megabits_of, rates_of, refused
+from hostapd import ENCRYPTS, UNKNOWN, left_out, line_for, megabits_of, rates_of, refused
 
 MOST_NETWORKS, MOST_NAME = 16, 32
 # What hostapd takes where nothing is said.
@@ -49,9 +49,11 @@ class Section:
 
 @dataclass
 class Config:
-    """What was read: the radio's keys, the sections, and what is told of lines that have no line here."""
+    """What was read: the radio's keys, the sections, and what is told of lines that have no line here. With `is_open`
+    lines that encrypt are left out."""
 
     name: str
+    is_open: bool = False
     radio: dict[str, Said] = field(default_factory=dict)
     sections: list[Section] = field(default_factory=list)
     remarks: list[str] = field(default_factory=list)
@@ -66,10 +68,10 @@ class Config:
         self.findings.append(f"{self.name}:{said.number}: `{said.key}`: {reason}")
 
 
-def convert(name: str, text: str) -> tuple[str, list[str]]:
+def convert(name: str, text: str, is_open: bool = False) -> tuple[str, list[str]]:
     """The configuration for a hostapd.conf of this name, and what is told of lines that it left out. Refused where a
-    line asks for what isn't here."""
-    config = Config(name)
+    line asks for what isn't here; with `is_open` not where it asks to encrypt."""
+    config = Config(name, is_open)
     for said in lines_of(config, text):
         take(config, said)
     if not config.sections:
@@ -102,6 +104,9 @@ def take(config: Config, said: Said) -> None:
     if said.key in ("interface", "bss"):
         config.sections.append(Section(said))
     reason = refused(said.key, said.value)
+    if reason == ENCRYPTS and config.is_open:
+        config.remark(said, f"{ENCRYPTS}, so anyone near may join this one and hear it")
+        return
     if reason:
         config.refuse(said, reason)
         return

@@ -28,6 +28,8 @@ RESPONSES = {ASSOCIATION_REQUEST: ASSOCIATION_RESPONSE, REASSOCIATION_REQUEST: R
 
 # The mark of a line that brought nothing.
 NOTHING = "nothing"
+# The text of a mark of a unit that the bridge handed to the program: it went back, and no wire brought it.
+WENT_BACK = "back"
 # What a network hears, in kinds.
 REQUESTS, DATA_FRAMES, POLLS, FROM_WIRE, UNREAD = "requests", "data", "polls", "from the wire", "unread"
 
@@ -321,6 +323,11 @@ class Story:
         """Forgets what was heard and sent by the lines of these numbers, but for the states that came of it."""
         for name in ("marks", "heard", "frames", "wires"):
             setattr(self, name, [found for found in getattr(self, name) if found[0] not in lines])
+        return self
+
+    def tell_handed_back(self, lines):
+        """Says of what came by the lines of these numbers that the bridge handed it in, and no wire brought it."""
+        self.marks = [mark._replace(text=WENT_BACK) if mark.line in lines else mark for mark in self.marks]
         return self
 
     def note_silence(self, whom, letter):

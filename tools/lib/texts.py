@@ -20,6 +20,8 @@ ORIGIN = re.compile(r"# (?:frame (?P<frame>\d+)(?: of (?P<capture>.+))?|(?P<made
 
 # The remarks of a record around what the access point didn't send.
 RESTORED, RESTORED_TO = "# restored: ", "# restored: up to here"
+# Those around units of stations that doze, which came back to the program and by no wire.
+HANDED_BACK, HANDED_BACK_TO = "# handed back: ", "# handed back: up to here"
 
 
 class TextError(Exception):
@@ -121,14 +123,24 @@ def lines_in(text):
 def read_restored(text):
     """The numbers of the lines by which a new program of an access point came to know stations that had joined before, as
     its record marks them: nobody sent these lines, and what was answered to them wasn't sent."""
+    return lines_between(text, RESTORED, RESTORED_TO)
+
+
+def read_handed_back(text):
+    """The numbers of the lines that are units of stations that doze, as a record marks them: no wire brought them."""
+    return lines_between(text, HANDED_BACK, HANDED_BACK_TO)
+
+
+def lines_between(text, mark, end):
+    """The numbers of the lines of a trace between a remark that begins so and one that ends it."""
     lines = text.split("\n")
     if SEPARATOR in lines:
         lines = lines[lines.index(SEPARATOR) + 1:]
-    found, is_restored = set(), False
+    found, is_between = set(), False
     for number, line in enumerate(lines, 1):
-        if line.startswith(RESTORED):
-            is_restored = not line.startswith(RESTORED_TO)
-        elif is_restored:
+        if line.startswith(mark):
+            is_between = not line.startswith(end)
+        elif is_between:
             found.add(number)
     return found
 

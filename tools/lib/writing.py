@@ -1,19 +1,22 @@
-"""Frames that stations send, written from words: what tools/frame writes for a person (docs/PROTOCOL.md, "Frames")."""
+"""Frames that stations send, and frames that come over a wire, written from words: what tools/frame writes for a person
+(docs/PROTOCOL.md, "Frames" and "The wire")."""
 from dataclasses import dataclass, replace
 
-from fields import fields_on_air
+from fields import fields_on_air, fields_on_wire
 from frames import (ASSOCIATION_REQUEST, AUTHENTICATION, BROADCAST, CONTROL, DATA, DEAUTHENTICATION, DISASSOCIATION,
                     EXTENDED_SUPPORTED_RATES, HEADER_LEN, NULL, PLAIN_DATA, PROBE_REQUEST, PS_POLL,
-                    REASSOCIATION_REQUEST, SSID, SUPPORTED_RATES, Frame, elements, first_of, number)
+                    REASSOCIATION_REQUEST, SSID, SUPPORTED_RATES, Frame, address_text, elements, first_of, number)
 from reading import FIXED_LEN, SNAP, unread_kind
 
 # The words of frames, each with the type and the subtype.
 KINDS = {"probe": (0, PROBE_REQUEST), "auth": (0, AUTHENTICATION), "join": (0, ASSOCIATION_REQUEST),
          "rejoin": (0, REASSOCIATION_REQUEST), "disassoc": (0, DISASSOCIATION), "deauth": (0, DEAUTHENTICATION),
          "data": (DATA, PLAIN_DATA), "null": (DATA, NULL), "poll": (CONTROL, PS_POLL)}
+WIRED = "wired"  # the word of a frame that comes over a wire
 TO_DS, RETRY, POWER_MANAGEMENT, MORE_DATA = 0x01, 0x08, 0x10, 0x20
 ESS, TWO_HIGH_BITS, MOST_IN_ONE = 0x0001, 0xC000, 8
 USUAL_RATES, USUAL_LISTEN, USUAL_PAYLOAD = bytes.fromhex("02040b16"), 10, bytes.fromhex("080001")
+USUAL_HOST = bytes.fromhex("02bb00000001")
 NOBODY = bytes(6)
 LEAVES = 3  # the reason of a station that leaves (9.4.1.7)
 
@@ -42,6 +45,25 @@ class Wanted:
     aid: int = TWO_HIGH_BITS | 1
     payload: bytes = USUAL_PAYLOAD
     rest: bytes | None = None
+
+
+@dataclass(frozen=True)
+class WiredFrame:
+    """A frame that comes over the wire of a network: from a host to a station, with its type and its payload."""
+
+    bssid: bytes
+    destination: bytes
+    source: bytes = USUAL_HOST
+    payload: bytes = USUAL_PAYLOAD
+
+    @property
+    def octets(self) -> bytes:
+        """Its octets."""
+        return self.destination + self.source + self.payload
+
+    def line(self) -> str:
+        """The line of a trace, with spaces between its fields."""
+        return " ".join(["W", address_text(self.bssid), *(field.octets.hex() for field in fields_on_wire(self.octets))])
 
 
 def two(value: int) -> bytes:

@@ -28,9 +28,21 @@ def network(number, ssid, stations=(), **other):
 
 def document(*networks, **other):
     """A status document of these networks."""
-    return {"version": "e4965d3", "since": 12.345, "phy": "phy0", "channel": 6, "reloads": 0, "faults": [],
+    return {"version": "e4965d3", "since": 12.345, "phy": "phy0", "format": 1, "channel": 6, "faults": [],
             "beacons": {"sent": 1234, "late_ms_mean": 0.412, "late_ms_worst": 7.9, "missed": 0}, "drops": {},
             "left_out": {}, "networks": list(networks), **other}
+
+
+def busy(networks, seconds):
+    """So many networks of two stations, whose counts grow evenly with the time."""
+    def stations(place):
+        return [station(16 * place + number, since=seconds, octets_to=1000 * seconds, octets_from=200 * seconds)
+                for number in (1, 2)]
+    return document(*(network(
+        place + 1, f"network {place + 1}".encode(), stations(place),
+        air={"weight": 1, "seconds": 0.02 * (place + 1) * seconds, "waiting": 0, "unsent": {"late": seconds // 5}},
+        counts={"events": 300 * seconds, "clock": 10 * seconds, "unread": 0, "lost": seconds // 5, "kept": 0})
+        for place in range(networks)), since=float(seconds))
 
 
 class FakeBridge:

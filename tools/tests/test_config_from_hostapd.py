@@ -1,8 +1,9 @@
 """Tests of tools/config-from-hostapd: what it writes, what it refuses, and what it says of lines that it leaves out."""
+import os
 import subprocess
 import tomllib
 
-from common import PROGRAM, ToolTest, needs_program, tool
+from common import PROGRAM, TOOLS, ToolTest, needs_program, tool
 
 FILE = """# three networks
 interface=wlan0
@@ -112,7 +113,41 @@ class FromHostapd(ToolTest):
     def test_all_are_named_at_once(self):
         """Not only the first line that is refused."""
         told = converted("".join(f"{line}\n" for line, _ in REFUSED[:14]) + LEAST)[2]
-        self.assertEqual(len(told.splitlines()), 14)
+        self.assertEqual(told.count("standard input:"), 14)
+
+    def test_open_leaves_out_what_encrypts_line_by_line(self):
+        """The configuration is what it is without these lines, each is named, and nothing else is let through."""
+        secret = "wpa=2\nwpa_passphrase=secret12\nwpa_key_mgmt=SAE\nrsn_pairwise=CCMP\nieee80211w=2\nsae_password=secret12\n"
+        status, written, told = converted(LEAST + secret)
+        self.assertEqual((status, written), (1, ""))
+        self.assertTrue(told.endswith("nothing was written; --open leaves out what encrypts, and then anyone near may "
+                                      "join and hear all\n"), told)
+        status, written, told = tool("config-from-hostapd", "--open", "-", program_input=LEAST + secret)
+        self.assertEqual((status, written), (0, converted(LEAST)[1]))
+        for number, line in enumerate(secret.splitlines(), 4):
+            self.assertIn(f"standard input:{number}: `{line.partition('=')[0]}` is left out: these networks don't encrypt, "
+                          "so anyone near may join this one and hear it\n", told)
+        self.assertNotIn("secret12", told + written)
+        for line in ("macaddr_acl=1", "ignore_broadcast_ssid=1", "auth_algs=2"):
+            self.assertEqual(tool("config-from-hostapd", "--open", "-", program_input=f"{LEAST}{line}\n")[0], 1, line)
+
+    def test_no_file_is_left_where_it_refuses(self):
+        """With --out; where the shell made one, that is told."""
+        path = self.path("my.toml")
+        refused = f"{LEAST}wpa=2\n"
+        self.assertEqual(tool("config-from-hostapd", "-", "--out", path, program_input=refused)[0], 1)
+        self.assertFalse(os.path.exists(path))
+        self.assertEqual(tool("config-from-hostapd", "-", "--out", path, program_input=LEAST)[:2], (0, ""))
+        with open(path, encoding="utf-8") as file:
+            before = file.read()
+        self.assertEqual(before, converted(LEAST)[1])
+        self.assertEqual(tool("config-from-hostapd", "-", "--out", path, program_input=refused)[0], 1)
+        with open(path, encoding="utf-8") as file:
+            self.assertEqual(file.read(), before)
+        with open(self.path("other.toml"), "w", encoding="utf-8") as file:
+            done = subprocess.run([os.path.join(TOOLS, "config-from-hostapd"), "-"], input=refused, stdout=file,
+                                  stderr=subprocess.PIPE, text=True, check=False)
+        self.assertIn("the file that standard output leads to is empty now; --out CONFIG writes none", done.stderr)
 
     def test_rates(self):
         """In units of 100 kb/s, basic ones with the high bit; without a list those of the mode."""

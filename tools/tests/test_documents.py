@@ -18,8 +18,8 @@ FILES = {
                         "There are 2 wrong bodies of `wrong/`.\n",
     "crates/part/src/lib.rt": "//! A part: `docs/RULES.md`.\nfn run() {}\npub use law::kept as holds;\n",
     "crates/part/specs/Part.antt": "-- what it is\nabbrev pub alone : Unit\n",
-    "wrong/part/run_does_nothing.edit": "file: src/lib.rt\n",
-    "wrong/part/run_twice.edit": "file: src/lib.rt\n",
+    "wrong/other.toml": "[[run_does_nothing]]\n[[run_does_nothing]]\n",
+    "wrong/part.toml": "[[run_twice]]\n",
     "crates/library_examples/src/shown.rt": "use part::run;\n\nfn shown() {}\n",
 }
 # A text of a file in place of another, and what is found then.
@@ -91,7 +91,7 @@ class Documents(ToolTest):
 
     def test_wrong_bodies_are_counted_anew(self):
         """With --fix the number of wrong bodies is that of the files."""
-        self.write("wrong/part/run_never.edit", "file: src/lib.rt\n")
+        self.write("wrong/part.toml", "[[run_twice]]\n[[run_never]]\n")
         self.assertEqual(self.found()[0], 1)
         self.assertEqual(self.found("--fix")[0], 0)
         with open(self.path("docs/PROMISES.md"), encoding="utf-8") as file:

@@ -42,7 +42,7 @@ aging = true
 ATTIC, CELLAR = "020000000001", "020000000002"
 STATION, OTHER, THIRD, HOST = "02aa00000001", "02aa00000011", "02aa00000003", "02bb00000001"
 ATTICS, CELLARS = "02:00:00:00:00:01", "02:00:00:00:00:02"
-RATES = "010402040b16"
+RATES, SNAP = "010402040b16", "aaaa03000000"
 
 
 def managed(control, body="", station=STATION, network=ATTIC):
@@ -131,7 +131,31 @@ CASES = [
     ([auth(THIRD), managed("a000", "0300", THIRD)], ["02:aa:00:00:00:03 isn't associated: it never asked to"]),
     ([managed("a000", "0300")] * 2, ["my.trace:6:26", "02:aa:00:00:00:01 isn't associated: it left in line 5, by"]),
     ([f"W {ATTICS}{data()[1:]}"], ["my.trace:5:21", "a Data frame of the air (802.11) stands behind `W`", "write `A`"]),
+    ([null("4801") + f" {SNAP} 0800 01"], ["my.trace:5:3", "a unit stands behind a Null", "begins with `0801`"]),
+    ([wire(ATTIC)], ["my.trace:5:21", "02:00:00:00:00:01 is the network's own address", "02:aa:00:00:00:01 is"]),
+    ([wire(CELLAR)], ["02:00:00:00:00:02 is the address of cellar, and no station's"]),
+    ([wire(THIRD), auth(THIRD), join(THIRD)], ["my.trace:5:21", "02:aa:00:00:00:01 is; it associates after that, in "
+                                               "line 7"]),
+    ([probe("a\0t\0t\0i\0c\0")], ["this is `attic` in UTF-16", "write `00056174746963`"]),
+    ([probe("\0a\0t\0t\0i\0c")], ["this is `attic` in UTF-16"]),
+    ([auth(THIRD), join(THIRD).replace("0000", "0010", 1), poll(station=THIRD).replace("01c0", "02c0")],
+     ["my.trace:7:3", "the station is awake: Power Management is 1 in an association request of it, in line 6, and"]),
+    ([null(), wire(), join(), null(), poll()], ["my.trace:9:8", "the last one was dropped in line 7, by an "
+                                                "association"]),
     # lines that no network took or could read
+    ([f"A b000 0000 {STATION} {STATION} {ATTIC} 0000 0000 0100 0000"],
+     ["my.trace:5:13", "Address 1 is 02:aa:00:00:00:01, which is its sender, Address 2, too", f"write `{ATTIC}`"]),
+    ([f"A 4000 0000 ffffffffffff {STATION} ffffffffffff 0000 {ssid('garden')} {ssid('attic')} {RATES}"],
+     ["my.trace:5:57", "`attic` stands in a second SSID element, and the first one counts"]),
+    ([managed("0000", f"0a00 0100 {ssid('attic')} {RATES}")],
+     ["my.trace:5:57", "they may stand in each other's place", "write `0100 0a00`"]),
+    ([f"A a400 01c0 {STATION} {ATTIC}"], ["my.trace:5:13", "stand in each other's place: a PS-Poll has its receiver",
+                                          f"write `{ATTIC} {STATION}`"]),
+    ([probe("attic").replace(STATION, "-").replace("ffffffffffff", STATION, 1).replace("-", "ffffffffffff")],
+     ["my.trace:5:13", "stand in each other's place: a probe request has", f"write `ffffffffffff {STATION}`"]),
+    ([f"A 4000 0000 ffffffffffff {STATION} ffffffffffff 0000 6174746963 {RATES}"],
+     ["my.trace:5:57", "`attic` stands there without its ID and its length", "write `0005` before `6174746963`"]),
+    ([data(control="0841")], ["it is encrypted (Protected Frame is 1)", "these networks have no encryption"]),
     ([f"A 0040 0000 ffffffffffff {STATION} ffffffffffff 0000 0000 {RATES}"],
      ["my.trace:5:3", "attic can't read it (U4), nor "
                                                                                "can 1 more", "write `4000`"]),
@@ -167,7 +191,14 @@ CASES = [
     ([auth(THIRD, body="0000 0200 0000")], ["with status 14", "is 2, and has to be 1: an answer has that"]),
     ([auth(f"02cc000000{number:02x}") for number in range(4)], ["my.trace:8:1", "with status 1, of 02:cc:00:00:00:03",
                                                                 "`max_known = 4` is reached"]),
-    ([join(name="cellar")], ["with status 1, of 02:aa:00:00:00:01: it names `cellar`"]),
+    ([join(name="cellar")], ["with status 1, of 02:aa:00:00:00:01: it names `cellar`",
+                             "write `00056174746963`, since it authenticated to `attic`"]),
+    ([auth(network=CELLAR), join(name="cellar")], ["it names `cellar`", f"write `{CELLAR}` for `{ATTIC}`"]),
+    ([join(rates="010302041650010b")], ["my.trace:5:92", "lacks the basic rate 5.5 Mb/s, and the element 80 has "
+                                             "them", "write `32` for `50`"]),
+    ([join(THIRD), auth(THIRD)], ["my.trace:5:26", "has it authenticate to attic; it authenticates after that, in "
+                                  "line 6"]),
+    ([data(station=THIRD), auth(THIRD), join(THIRD)], ["my.trace:5:26", "it associates after that, in line 7"]),
     ([join(name="")], ["with status 1", "its SSID is empty", "`00056174746963`"]),
     ([join(rates="0103020416")], ["with status 18, of 02:aa:00:00:00:01: it lacks the basic rate 5.5 Mb/s",
                                   "add `0b`"]),
@@ -179,8 +210,10 @@ CASES = [
     ([data(station=HOST, to=STATION)], ["Address 3, 02:aa:00:00:00:01, is one that is associated: the sender",
                                         f"write `{STATION} {HOST}`"]),
     ([join(name="attic\0")], ["with status 1", "the octets 617474696300; `attic` is the same but for blanks or zeros"]),
-    ([join("02cc00000001")], ["reason 6, of 02:cc:00:00:00:01: the station is unknown: it joined before the trace "
-                              "begins"]),
+    ([join("02cc00000001")], ["reason 6, of 02:cc:00:00:00:01: the station is unknown: no line before has it "
+                              "authenticate to attic"]),
+    ([data(station="02cc00000001")], ["reason 7, of 02:cc:00:00:00:01: the station is unknown: it joined before the "
+                                      "trace begins"]),
     ([auth(), data()], ["a disassociation, reason 7, of 02:aa:00:00:00:01: the station isn't associated: it "
                         "authenticated again in line 5"]),
     ([auth(THIRD, body="0000 0001 0000"), join(THIRD)], ["my.trace:6:26", "an authentication of it, in line 5, was "

@@ -11,8 +11,9 @@ from common import CASES, ROOT, ToolTest, heard, input_of, mutated, report_of, t
 from fields import fields_on_air, fields_on_wire
 from framing.networks import Networks
 from framing.reading_out import lines_for
-from framing.words import add_kinds, wanted, words_of
+from framing.words import add_kinds, wanted, wired, words_of
 from frames import address_text
+from reading import wired_unread_kind
 from texts import read_text
 from writing import frame_of, wanted_of
 
@@ -33,7 +34,8 @@ UNREAD = [
     (f"08410000 {OURS} {STATION} {OURS} 0000 0100", ["(U4)", "it is encrypted (Protected Frame is 1)", "`01`"]),
     (f"b0000000 {OURS} {STATION} {OURS} 0100 0000 0100 0000", ["(U4)", "says fragment 1", "number 1 is `1000`"]),
     (f"08010000 {OURS} {STATION} {OURS} 0520 01", ["(U4)", "says fragment 5"]),
-    (f"b0400000 {OURS} {STATION} {OURS} 0000 0000 0100 0000", ["(U4)", "encrypted", "without it the octet is `00`"]),
+    (f"b0400000 {OURS} {STATION} {OURS} 0000 0000 0100 0000", ["(U4)", "encrypted",
+                                                                           "these networks have no encryption"]),
     (f"08000000 {OURS} {STATION} ffffffffffff 0000 01", ["(U5)", "To DS is 0", "write `0801`"]),
     (f"08020000 {OURS} {STATION} ffffffffffff 0000 01", ["(U5)", "an access point sent it", "write `0801`"]),
     (f"b0010000 {OURS} {STATION} {OURS} 0000 0000 0100 0000", ["(U5)", "which has both 0", "write `00`"]),
@@ -97,6 +99,8 @@ WRITTEN = [
     (f"poll 02:aa:00:00:00:01 {LAB} --aid 5", f"A a400 05c0 {OURS} {STATION}"),
     (f"disassoc 02:aa:00:00:00:01 {LAB}", heard("a000 0000", "0300")),
     (f"deauth 02:aa:00:00:00:01 {LAB} --reason 8", heard("c000 0000", "0800")),
+    ("wired 02:aa:00:00:00:01 lab --config my.toml", f"W {LAB} {STATION} 02bb00000001 0800 01"),
+    (f"wired all {LAB} --from 02:cc:00:00:00:01 --payload 0806", f"W {LAB} ffffffffffff 02cc00000001 0806"),
 ]
 # Words that write nothing, and what is said.
 REFUSED = [
@@ -106,6 +110,8 @@ REFUSED = [
     ("data 02:aa:00:00:00:01 all", "a data is to one network"),
     ("poll 02:aa:00:00:00:01 lab --config my.toml --aid 16384", "--aid is at most 16383"),
     ("4000f", "5 digits: each octet has two"), ("xyz", "`x` is no hexadecimal digit"),
+    ("T", "a line `T` has no frame"), ("wired 02:aa:00:00:00:01 all", "comes over the wire of one network"),
+    (f"wire 02:aa:00:00:00:01 {LAB}", "KIND is probe, auth, join"), (f"host {LAB}", "and `wired` for a line `W`"),
     ("auth 02:aa:00:00:00:01 lab --config none.toml", "none.toml: No such file"),
     ("auth 02:aa:00:00:00:01 lab --config my.trace", "my.trace: no configuration with networks"),
 ]
@@ -171,6 +177,19 @@ class Frames(ToolTest):
             self.assertEqual(frame_of(wanted(asked, Networks([]))), octets, words_of(frame))
             kinds.add(frame.kind)
         self.assertEqual(len(kinds), 9)
+
+    def test_wired_frames_are_written_again(self):
+        """Of each frame of a wire that a network reads the words write the same line."""
+        parser, count = argparse_of_kinds(), 0
+        for octets in {line.octets for folder in with_report() for line in input_of(folder)[1] if line.kind == "W"
+                       and line.octets}:
+            by = re.search("written by: tools/frame (.*)", "\n".join(lines_for(["W", LAB, octets.hex()], Networks([]))))
+            self.assertEqual(by is None, wired_unread_kind(octets) is not None)
+            if by:
+                line = wired(parser.parse_args(shlex.split(by[1])), Networks([])).line()
+                self.assertEqual(line.replace(" ", ""), f"W{LAB}{octets.hex()}")
+                count += 1
+        self.assertGreater(count, 20)
 
     def test_what_is_not_read(self):
         """Each frame that isn't taken or read is told with the rule, the reason and what to write."""

@@ -7,10 +7,12 @@ import os
 import sys
 import tempfile
 import unittest
+from unittest import mock
 
 GUEST = os.path.join(os.path.dirname(os.path.dirname(os.path.realpath(__file__))), "guest")
 sys.path.append(GUEST)
 import airing  # noqa: E402
+import crowding  # noqa: E402
 import parts  # noqa: E402
 import points  # noqa: E402
 import profiling  # noqa: E402
@@ -29,6 +31,20 @@ def load(name):
 
 
 cases, compare, share_cases = load("cases"), load("compare"), load("share-cases")
+wrong_bridges = load("wrong-bridges")
+
+
+class WrongBridges(unittest.TestCase):
+    """The edits of bridges that are wrong on purpose."""
+
+    def test_each_edit_applies(self):
+        """What it replaces is in the bridge, once."""
+        names = [name.removesuffix(".edit") for name in os.listdir(wrong_bridges.EDITS)]
+        self.assertGreater(len(names), 8)
+        for name in names:
+            edit = wrong_bridges.read_edit(wrong_bridges.path_of_edit(name))
+            with open(os.path.join(wrong_bridges.BRIDGE, edit["file"]), encoding="utf-8") as file:
+                self.assertEqual(file.read().count(edit["old"]), 1, name)
 
 
 class FakeStart:
@@ -207,6 +223,11 @@ def frame(kind, receiver, number, stamp=0):
     return bytes([kind, 0, 0, 0]) + receiver + BSSID + BSSID + bytes([number << 4, 0]) + stamp.to_bytes(8, "little")
 
 
+def unit_for_station(number, body):
+    """A unit of a network for a station, with this body in hexadecimal."""
+    return bytes([0x08, 2, 0, 0]) + STATION + BSSID + BSSID + bytes([number << 4, 0]) + bytes.fromhex(body)
+
+
 class OnAir(unittest.TestCase):
     """What another radio heard beside what was written."""
 
@@ -241,6 +262,77 @@ class OnAir(unittest.TestCase):
             for kind, is_left_out in ((0x80, leaves_beacons_out), (0x50, True), (0x08, False)):
                 found = [stage.comparable(frame(kind, GROUP, 1, stamp), stamped) for stamp in (7, 8)]
                 self.assertEqual(found[0] == found[1], is_left_out, (release, kind))
+
+
+class HandedBack(unittest.TestCase):
+    """Units that went back to the program, since their station dozed."""
+
+    bssid = BSSID.hex(":")
+    lost, unsent, other = (unit_for_station(number, text) for number, text in
+                           ((1, "aaaa03000000080001"), (2, "aaaa03000000080002"), (3, "424203")))
+    record = ["W 02:00:00:00:01:01 020000000201020000000101080000", "# handed back: the lines from here on are units",
+              "W 02:00:00:00:01:01 020000000201020000000101080001", "W 02:00:00:00:01:01 020000000201020000000101080002",
+              "# handed back: up to here", "T", "W 02:00:00:00:01:01 0200000002010200000001010003424203"]
+
+    def test_the_record_says_which_went_back(self):
+        """Only lines between its comments do."""
+        found = stage.handed_back(self.record)
+        wanted = {(self.bssid, stage.wired_form(octets)): 1 for octets in (self.lost, self.unsent)}
+        self.assertEqual(found, wanted)
+
+    def test_what_went_back_before_it_was_sent_needs_not_be_heard(self):
+        """All else does: what went back after it was lost, and what didn't go back."""
+        again = [unit_for_station(number, octets[24:].hex()) for number, octets in ((4, self.lost), (5, self.unsent))]
+        wrote, heard = [self.lost, self.unsent, *again, self.other], [self.lost, *again, self.other]
+        back = stage.handed_back(self.record)
+        self.assertEqual(stage.without_unsent(self.bssid, wrote, heard, back), heard)
+        for missing in (again[0], self.other):
+            without = [octets for octets in heard if octets != missing]
+            found = stage.without_unsent(self.bssid, wrote, without, back)
+            self.assertEqual(found == without, missing == again[0])
+        self.assertEqual(stage.without_unsent("02:00:00:00:01:02", wrote, heard, back), wrote)
+
+
+class FullNetworks(unittest.TestCase):
+    """Made-up stations that fill networks."""
+
+    def setUp(self):
+        self.networks = [crowding.Network(f"02:00:00:00:01:0{place}", f"full{place}") for place in (1, 2)]
+        self.sent, self.waiting, self.refusing = [], [], set()
+        air = mock.Mock(send=self.send, recv=self.recv)
+        for where, name, value in ((crowding.socket, "socket", lambda *_: air), (crowding, "ANSWER_SECONDS", 0)):
+            patch = mock.patch.object(where, name, value)
+            patch.start()
+            self.addCleanup(patch.stop)
+        self.crowd = crowding.Crowd("obs0", self.networks)
+
+    def send(self, packet):
+        """The access point hears a frame, and answers an association request; the radio shows that it sent that one."""
+        octets = packet[8:]
+        self.sent.append(octets)
+        if octets[0] == 0:
+            status = 17 if octets[10:16] in self.refusing else 0
+            answer = b"\x10\0\0\0" + octets[10:16] + octets[4:10] * 2 + bytes(4) + bytes([status, 0, 1, 0xc0])
+            self.waiting += [bytes([0, 0, 10, 0, 0, 0x80, 0, 0, 0, 0]) + octets,
+                             bytes([0, 0, 8, 0, 0, 0, 0, 0]) + answer]
+
+    def recv(self, *_):
+        """What the monitor interface shows."""
+        if not self.waiting:
+            raise BlockingIOError
+        return self.waiting.pop(0)
+
+    def test_those_that_are_not_associated_ask_again(self):
+        """By what they hear, and no others."""
+        self.refusing = {self.networks[1].station(1)}
+        self.crowd.join(range(3))
+        self.assertEqual(list(self.crowd.joined.values()), [{0, 1, 2}, {0, 2}])
+        self.assertEqual(len(self.sent), 12)
+        self.refusing.clear()
+        self.crowd.join(range(3))
+        self.assertEqual([(octets[0], octets[10:16]) for octets in self.sent[12:]],
+                         [(kind, self.networks[1].station(1)) for kind in (0xb0, 0)])
+        self.assertEqual(list(self.crowd.joined.values()), [{0, 1, 2}] * 2)
 
 
 class Folders(unittest.TestCase):

@@ -18,13 +18,13 @@ SECONDS = 60
 BELL = "\a"
 COMMANDS = {f"waltigon-{name}": name for name in ("capture-from-report", "capture-from-run",
                                                   "config-from-hostapd", "explain", "frame", "live", "live-demo",
-                                                  "picture", "report-to-json", "trace-from-capture")}
+                                                  "picture", "report-to-json", "status", "trace-from-capture")}
 # Words of each that lead to a fault: none of these files is there.
 FAULTS = {"capture-from-report": ["none"], "capture-from-run": ["none", "none", "--out", "made"],
           "config-from-hostapd": ["none"], "explain": ["--program", "none", "check", "none"],
           "frame": ["none"],
           "live": ["none", "--phy", "phy0"], "live-demo": ["--program", "none"], "picture": ["none", "none"],
-          "report-to-json": ["none"], "trace-from-capture": ["none"]}
+          "report-to-json": ["none"], "status": ["9617", "none", "--names", "none"], "trace-from-capture": ["none"]}
 OPTION = re.compile(r"(?<![\w-])--[a-z][a-z-]*")
 
 
@@ -200,6 +200,16 @@ class WhatIsInstalled(SmallRepository):
         os.remove(self.path_of("build/apctl"))
         self.assertIn("'make apctl' proves and builds it", self.refused_package())
 
+    def test_packages_are_named_before_they_are_installed(self):
+        """All that packing takes and isn't there, in one line, before apt-get begins."""
+        for name, script in (("dpkg-query", "exit 1"), ("apt-get", 'echo "apt-get $*"; exit 1'), ("id", "echo 0")):
+            self.write(f"bin/{name}", f"#!/bin/sh\n{script}\n")
+            os.chmod(self.path_of(f"bin/{name}"), 0o755)
+        said = self.refused_package()
+        before = said.partition("apt-get update")[0]
+        self.assertIn("these packages of Debian are missing, and are installed now: debhelper lintian cargo rustc", before)
+        self.assertIn("librust-serde-json-dev", before)
+
     def refused_package(self):
         """Why no package is packed."""
         status, said = self.run_there("share/deb")
@@ -287,7 +297,7 @@ class Pages(ToolTest):
     def test_pages_have_no_warning(self):
         """`man` renders each page without a warning, with all sections that a page of its kind has."""
         pages = glob.glob(os.path.join(ROOT, "share", "man", "man*", "*"))
-        self.assertEqual(len(pages), 12)
+        self.assertEqual(len(pages), 13)
         for page in pages:
             done = self.page(page)
             self.assertEqual((done.returncode, done.stderr), (0, ""), page)
@@ -345,7 +355,8 @@ class CompletionOfTools(ToolTest):
                                                                     "--version"])
         self.assertEqual(sorted(self.completed("waltigon-picture", "")), ["a.trace", "my.toml"])
         self.assertEqual(sorted(self.completed("waltigon-live", "")),
-                         ["a.trace", "check-networks", "check-radio", "kick", "my.toml", "reload", "status"])
+                         ["a.trace", "check-networks", "check-radio", "events", "kick", "my.toml", "reload",
+                          "status"])
         self.assertEqual(self.completed("waltigon-live", "ki"), ["kick"])
         self.assertEqual(sorted(self.completed("waltigon-explain", "my.toml", "")), ["a.trace", "my.toml"])
         self.assertEqual(self.completed("waltigon-trace-from-capture", "--fcs", "a"), ["auto"])
@@ -356,14 +367,14 @@ class CompletionOfTools(ToolTest):
         self.assertEqual(self.completed("waltigon-live", "my.toml", "--by", "a"), ["active-monitors", "access-points"])
 
     def test_words_without_files_are_offered_none(self):
-        """Behind `kick`, `reload` and `status` no file is offered, and the options are theirs."""
+        """Behind `kick`, `reload`, `status` and `events` no file is offered, and the options are theirs."""
         for name in ("my.toml", "a.trace"):
             with open(self.path(name), "w", encoding="ascii"):
                 pass
         radios = sorted(os.listdir("/sys/class/ieee80211")) if os.path.isdir("/sys/class/ieee80211") else []
         self.assertEqual(sorted(self.completed("waltigon-live", "check-radio", "")), radios)
         self.assertEqual(self.completed("waltigon-live", "check-radio", "--"), ["--by", "--help", "--version"])
-        for words in (["kick"], ["kick", "02:00:00:00:01:01"], ["reload"], ["status"]):
+        for words in (["kick"], ["kick", "02:00:00:00:01:01"], ["reload"], ["status"], ["events"]):
             self.assertEqual(self.completed("waltigon-live", *words, ""), [], words)
         self.assertEqual(self.completed("waltigon-live", "kick", "--"), ["--phy", "--help", "--version"])
         self.assertEqual(self.completed("waltigon-live", "status", "--"),
@@ -408,7 +419,8 @@ class Completion(ToolTest):
             with open(self.path(name), "w", encoding="ascii"):
                 pass
         self.completed("waltigon-report-to-json --w", "waltigon-report-to-json --without-frames")
-        self.completed("waltigon-live ", "kick", "reload", "status", "check-networks", "check-radio", "my.toml")
+        self.completed("waltigon-live ", "kick", "reload", "status", "events", "check-networks", "check-radio",
+                       "my.toml")
         for typed in ("kick ", "kick 02:00:00:00:01:01 ", "reload ", "status "):
             self.assertNotIn("my.toml", self.completed(f"waltigon-live {typed}", BELL), typed)
         self.completed("waltigon-live check-networks ", "my.toml")

@@ -6,6 +6,7 @@ import io
 import json
 import os
 import pwd
+import re
 import shutil
 import signal
 import socket
@@ -16,7 +17,7 @@ import tempfile
 import threading
 import time
 import unittest
-from contextlib import ExitStack
+from contextlib import ExitStack, suppress
 from dataclasses import replace
 from unittest import mock
 
@@ -24,10 +25,11 @@ from configurations import ONE_NETWORK
 from frames import address_of, address_text
 from live import (asking, changes, checks, machine, recording, rights, running, serving, setting_up, showing,
                   state_files, telling, wires)
-from live.bridge import Bridge, Signals
+from live import page as page_of
+from live.bridge import Bridge, FaultCode, Signals, words_of
 from live.changes import Change, Changes
-from live.checks import (Plan, Wanted, check_bridge, check_config, check_left, check_names, check_port,
-                         check_program, check_record, check_wires, read_wires, set_country)
+from live.checks import (Plan, Wanted, check_bridge, check_config, check_left, check_names, check_program,
+                         check_record, check_wires, read_wires, set_country)
 from live.faults import Fault
 from live.machine import Interface
 from live.recording import make_record
@@ -36,6 +38,7 @@ from live.service import Service
 from live.settings import Network, Settings, read_settings
 from live.ways import Way
 from machines import OTHER, OURS, OnMachine
+from status import asking as asking_of_status
 from statuses import document, network, only_known, station
 
 TOOLS = os.path.dirname(os.path.dirname(os.path.realpath(__file__)))
@@ -598,6 +601,26 @@ class FilesAndPrograms(WithFiles):
             check_record(wanted, read_settings(longest))
         self.assertEqual(told.getvalue(), "")
 
+    def test_record_limit(self):
+        """The bridge is told it, where there is one; without a record it is refused before all else."""
+        plan = Plan(read_settings(self.config), ())
+        for limit, said in ((None, []), (5000, ["--record-limit", "5000"])):
+            wanted = replace(self.wanted("apctl"), record="a.trace", record_limit=limit)
+            words = words_of(wanted, plan, 5, (6, "a.trace"), False, None)
+            place = words.index("6:a.trace") + 1
+            self.assertEqual(words[place:words.index("--network")], said)
+        done = subprocess.run([os.path.join(TOOLS, "live"), self.config, "--phy", "phy0", "--record-limit", "5M"], capture_output=True, text=True,
+                              check=False)
+        self.assertEqual(done.returncode, 2)
+        self.assertIn("--record-limit says when a record ends: give --record too", done.stderr)
+
+    def test_updates_of_wires(self):
+        """The bridge is told where wires aren't to learn which stations join."""
+        plan = Plan(read_settings(self.config), ())
+        for tells, found in ((True, False), (False, True)):
+            words = words_of(replace(self.wanted("apctl"), tells_wires=tells), plan, 5, None, False, None)
+            self.assertEqual("--no-update" in words, found)
+
     def test_record_is_for_its_owner_alone(self):
         """Also where the mask would let others read it; where its name is there, whatever stands behind it, it is left
         alone, and the next number is taken."""
@@ -625,6 +648,14 @@ class FilesAndPrograms(WithFiles):
         with mock.patch.object(recording, "MOST_RECORDS", 1), self.assertRaisesRegex(Fault, "1 files of this name"):
             make_record(path)
 
+    def test_sizes(self):
+        """Of octets, or of the units K, M and G."""
+        for text, size in (("1", 1), ("500M", 500 << 20), ("20G", 20 << 30), ("7K", 7168)):
+            self.assertEqual(recording.size_of(text), size)
+        for text in ("", "0", "0M", "-1", "1T", "M", "1 M", "1.5G", "1m", "9" * 16, "9" * 15 + "G", "٣"):
+            with self.assertRaises(ValueError, msg=text):
+                recording.size_of(text)
+
     def test_wires_of_a_file(self):
         """A line each; what stands behind `#` is skipped, and what is no wire is told."""
         path = self.write("wires", "# wires\n\n02:00:00:00:01:01=eth1 # lab\n 02:00:00:00:01:02=eth2\n")
@@ -635,15 +666,6 @@ class FilesAndPrograms(WithFiles):
                 read_wires(self.write("wires", text))
         with self.assertRaisesRegex(Fault, "No such file"):
             read_wires(os.path.join(self.folder, "nothing"))
-
-    def test_port_that_is_taken(self):
-        """It is told before anything is changed."""
-        with socket.socket() as taken:
-            taken.bind(("127.0.0.1", 0))
-            taken.listen()
-            with self.assertRaisesRegex(Fault, "Address already in use"):
-                check_port(taken.getsockname()[1])
-        check_port(None)
 
     def test_faults_of_wires(self):
         """A BSSID that isn't there, a network or an interface given twice, an interface that isn't one for this."""
@@ -716,7 +738,8 @@ class Asked(WithFiles):
         asked = []
 
         def take():
-            with listening.accept()[0] as client, client.makefile("rw") as file:
+            with suppress(BrokenPipeError, ConnectionResetError), listening.accept()[0] as client, \
+                    client.makefile("rw") as file:
                 asked.append(file.readline())
                 file.write(text)
                 file.flush()
@@ -738,6 +761,18 @@ class Asked(WithFiles):
             asking.ask("phy2", "status")
         with self.assertRaisesRegex(Fault, "bridges run for phy0, phy1, phy2: say which by --phy"):
             asking.ask(None, "status")
+
+    def test_what_a_bridge_never_answers(self):
+        """What has no end isn't read on and on, what is no object is a fault, and no text reaches a terminal as it is."""
+        self.answer("phy0", "x" * 3_000_000)
+        with mock.patch.object(asking_of_status, "MOST_ANSWER", 1 << 20), self.assertRaisesRegex(Fault, "no bridge answers"):
+            asking.ask("phy0", "status")
+        self.answer("phy1", "[]\n")
+        with self.assertRaisesRegex(Fault, "its answer is no object"):
+            asking.ask("phy1", "status")
+        self.answer("phy2", json.dumps({"error": "\x1b]0;x\x07no"}) + "\n")
+        with self.assertRaisesRegex(Fault, r"^\\x1b\]0;x\\x07no$"):
+            asking.ask("phy2", "status")
 
     def test_none_runs(self):
         """It is told; a socket that was left is made anew, and only root and the group that was given may ask."""
@@ -884,7 +919,7 @@ class Told(WithFiles):
 # A bridge in place of the compiled one: it tells what a test wants, and writes what it was asked. Where the file `fails`
 # is there, it doesn't begin.
 BRIDGE = """#!/bin/bash
-[ ! -e {folder}/fails ] || {{ echo "fault it doesn't begin"; exit 1; }}
+[ ! -e {folder}/fails ] || {{ echo "fault 3 it doesn't begin"; exit 1; }}
 echo "$*" > {folder}/words
 echo ready
 while read -r request; do
@@ -979,6 +1014,16 @@ class Reloaded(WithFiles):
         with self.assertRaisesRegex(Fault, "all stays as it is: phy0: this radio allows 2 interfaces"):
             running.reload_running("phy0")
 
+    def test_another_process_has_its_number(self):
+        """It is sent no signal."""
+        told = self.run_with()
+        with open(told.path, encoding="utf-8") as file:
+            found = json.load(file)
+        self.write("phy0.run", json.dumps({**found, "started": found["started"] - 1}))
+        with self.assertRaisesRegex(Fault, "phy0: no access point runs"):
+            running.reload_running("phy0")
+        self.assertEqual(self.asked, [])
+
     def test_none_runs(self):
         """There is no file, it isn't whole, or its process has ended."""
         ended = subprocess.Popen(["true"])
@@ -1012,6 +1057,18 @@ class Shown(unittest.TestCase):
         self.assertEqual(lines[8], "02:00:00:00:01:02 (no name): 0 stations, wire none, down for 0:01:05")
         self.assertEqual(lines[10], "1:02:05 ago: fault memory line 7 network 02:00:00:00:01:02")
 
+    def test_stations_that_are_not_listed(self):
+        """They are counted."""
+        told = document(network(1, b"guests", [station(1)], known=2007, associated=2007, dozing=0))
+        self.assertIn("guests: 2007 stations, 1 of them listed, wire wire1", showing.text_of(told))
+
+    def test_who_holds_most_of_a_quota(self):
+        """From half of it on."""
+        for kept, said in ((249, ""), (250, ", 250 of its quota of 500 kept for 02:aa:00:00:00:01")):
+            holder = {"address": "02:aa:00:00:00:01", "kept": kept, "listen": 65535}
+            told = document(network(1, b"guests", quota=500, holder=holder))
+            self.assertEqual(showing.text_of(told).splitlines()[2].partition("unread")[2], said)
+
     def test_radio(self):
         """By which interfaces it acknowledges, and what keeps stations from all networks."""
         told = {**self.DOCUMENT, "by": "active-monitors",
@@ -1021,6 +1078,21 @@ class Shown(unittest.TestCase):
         self.assertEqual(lines[1:3], ["the radio has told no beacon as sent for 0:00:07", "the radio is on 2412 MHz"])
         told["radio"] = {"down": 61, "unsent": None, "elsewhere": None, "heard_elsewhere": 0}
         self.assertEqual(showing.text_of(told).splitlines()[1:3], ["the monitor interface is down for 0:01:01", ""])
+
+    def test_record(self):
+        """Why it has ended."""
+        for record, wanted in ((None, ""), ({"octets": 7, "fault": None}, ""),
+                               ({"octets": 7, "fault": "the limit of 7 octets is reached"},
+                                "the record ended: the limit of 7 octets is reached")):
+            self.assertEqual(showing.text_of({**self.DOCUMENT, "record": record}).splitlines()[1], wanted)
+
+    def test_terminal(self):
+        """What a bridge tells moves nothing there, whatever it is."""
+        told = document(network(1, b"guests", [station(1, address="\x1b[2J\u202e")], wire="\x9b1m"),
+                        version="\x1b]52;c;eA==\x07", faults=[{"seconds": 1, "text": "a\nb\r\x1b[A"}])
+        text = showing.text_of(told)
+        self.assertTrue(all(line.isprintable() for line in text.split("\n")))
+        self.assertIn("0:00:01 ago: a\\x0ab\\x0d\\x1b[A", text)
 
     def test_watched(self):
         """Each second until Ctrl-C, also while nobody answers."""
@@ -1108,7 +1180,7 @@ class Running(WithFiles):
         self.run_bridge(later)
         self.assertRegex(self.read("words"),
                          "^--name live --phy phy0 --channel 6 --monitor mon0 --interval 100 --by active-monitors --idle 300 --socket [0-9]+ "
-                         f"--record [0-9]+:{self.path('a.trace')} --bounds [0-9]+ --network 02:00:00:00:01:01/6c6162/82840b16/8/16/1/wire1 apctl {self.config}\n$")
+                         f"--record [0-9]+:{self.path('a.trace')} --bounds [0-9]+ --network 02:00:00:00:01:01/6c6162/82840b16/8/16/8/1/wire1 apctl {self.config}\n$")
         self.assertEqual(self.read("asked"), "state\nopen\ntables\n")
         self.assertRegex(self.told.getvalue(), "^live: 1 networks are on channel 6, by active monitor interfaces; Ctrl-C ends it, .*\nlive: the program "
                                                "ended with status 0; taking down what was set up\n$")
@@ -1133,7 +1205,7 @@ class Running(WithFiles):
         self.write("phy0.stay", "")
         with self.assertRaisesRegex(Fault, "it broke"):
             self.run_bridge(lambda: self.write("phy0.stay", ""), does="[ $request != open ] || { sleep 1; break; }",
-                            after="echo 'fault it broke'; exit 1")
+                            after="echo 'fault 1 it broke'; exit 1")
         self.assertEqual(self.read("phy0.stay"), "")
         self.assertNotIn("phy0.state.0", os.listdir(self.folder))
 
@@ -1162,6 +1234,24 @@ class Running(WithFiles):
         self.run_bridge(later)
         self.assertEqual(self.read("asked"), "state\nopen\nstate\nopen\n")
         self.assertEqual(self.outcomes, [None])
+        self.assertIn(" --sends ", self.read("words"))
+
+    def test_reloads_leave_no_descriptors(self):
+        """However often the configuration is read again, as many are open as before."""
+        opened = []
+
+        def later():
+            for turn in range(4):
+                time.sleep(0.2)
+                opened.append(len(os.listdir("/proc/self/fd")))
+                os.kill(os.getpid(), signal.SIGHUP)
+                until = time.monotonic() + 20
+                while len(self.outcomes) <= turn and time.monotonic() < until:
+                    time.sleep(0.05)
+            self.end()
+        self.run_bridge(later)
+        self.assertEqual(self.outcomes, [None] * 4)
+        self.assertEqual(opened, opened[:1] * 4)
 
     def test_begins_anew(self):
         """A bridge that is killed, or whose program ends, is followed by another one; what it left is handed on."""
@@ -1170,7 +1260,7 @@ class Running(WithFiles):
                  "the bridge ended by itself, by the signal SIGKILL; it begins anew"),
                 (f"[ -e {self.folder}/second ] || {{ touch {self.folder}/second; break; }}",
                  f"[ -e {self.folder}/third ] || {{ touch {self.folder}/third; "
-                 "echo 'fault the program ended by itself'; exit 1; }",
+                 "echo 'fault 4 the program ended by itself'; exit 1; }",
                  "the program ended by itself, with status 0; it begins anew")):
             does = f"[ \"$request\" != open ] || {{ {does}; echo sending; }}"
             self.run_bridge(lambda: self.end_once_told("networks are on channel"), does=does, after=after)
@@ -1196,7 +1286,7 @@ class Running(WithFiles):
         self.write("words", "")
         nothing = "this radio does not send beside its interfaces: no beacon was seen as sent within 1 second"
         does = f"[ \"$request\" != open ] || {{ [ -e {self.folder}/second ] || {{ touch {self.folder}/second; break; }}; echo sending; }}"
-        after = f"[ -e {self.folder}/third ] || {{ touch {self.folder}/third; echo 'fault {nothing}'; exit 1; }}"
+        after = f"[ -e {self.folder}/third ] || {{ touch {self.folder}/third; echo 'fault 8 {nothing}'; exit 1; }}"
         self.run_bridge(lambda: self.end_once_told("networks are on channel"), does=does, after=after,
                         ways=(Way.MANAGED, Way.ACCESS_POINTS))
         self.assertEqual([plan.way for plan in self.followed], [Way.MANAGED, Way.ACCESS_POINTS])
@@ -1237,7 +1327,7 @@ class Running(WithFiles):
             self.run_bridge(does="[ $request != open ] || kill -SYS $$")
         with self.assertRaisesRegex(Fault, "the program ended by itself"):
             self.run_bridge(does="[ $request != open ] || break", status=128 + signal.SIGSYS,
-                            after="echo 'fault the program ended by itself'; exit 1")
+                            after="echo 'fault 4 the program ended by itself'; exit 1")
         self.assertNotIn("it begins anew", self.told.getvalue())
 
     def test_reload_with_a_fault(self):
@@ -1264,23 +1354,83 @@ class Running(WithFiles):
         self.assertEqual(self.read("asked"), "state\nopen\n")
         self.assertIn("all stays as it is: it doesn't begin", self.told.getvalue())
 
+    def test_files_are_only_its_own_to_change(self):
+        """Also where it was started with a mask that keeps nobody out, or its own group."""
+        for mask in (0, 0o077):
+            before = os.umask(mask)
+            self.addCleanup(os.umask, before)
+            modes = {}
+
+            def later(modes=modes):
+                for name in os.listdir(self.folder):
+                    if name.startswith("phy0.") and not name.endswith(".sock"):
+                        modes[name] = os.stat(self.path(name)).st_mode & 0o777
+                self.end()
+            self.run_bridge(later)
+            self.assertLessEqual({"phy0.lock", "phy0.run", "phy0.state.0"}, set(modes))
+            self.assertEqual({name: mode for name, mode in modes.items() if mode & 0o022}, {}, oct(mask))
+            os.umask(before)
+
     def test_page(self):
         """The page is told where to ask, and is ended; where it ends by itself that is told."""
         page = self.write("page", f"#!/bin/sh\necho $* > {self.folder}/page-words\n"
                                   "sleep 60 & trap 'kill $!; exit 0' TERM; wait\n", 0o755)
-        with mock.patch.object(serving, "STATUS_PROGRAM", page):
+        with mock.patch.object(page_of, "PROGRAM", page):
             self.run_bridge(lambda: self.end_once(lambda: os.path.exists(self.path("page-words"))), port=9617)
         self.assertEqual(self.read("page-words"), f"9617 {self.folder}/phy0.sock\n")
         self.assertIn(" --alive ", self.read("words"))
+        self.assertNotIn(" --sends ", self.read("words"))
         self.assertIn("--name live --phy ", self.read("words"))
         self.write("page", "#!/bin/sh\nexit 3\n", 0o755)
         does = SENDS + "; [ $request = open ] && (sleep 0.3; echo alive)"
-        with mock.patch.object(serving, "STATUS_PROGRAM", page):
+        with mock.patch.object(page_of, "PROGRAM", page):
             self.run_bridge(lambda: self.end_once_told("the page ended"), does=does, port=9617)
         self.assertIn("--status 9617: the page ended with status 3", self.told.getvalue())
-        with mock.patch.object(serving, "STATUS_PROGRAM", f"{page}-is-nowhere"):
+        with mock.patch.object(page_of, "PROGRAM", f"{page}-is-nowhere"):
             with self.assertRaisesRegex(Fault, "page-is-nowhere: .*No such file"):
                 self.run_bridge(self.end, port=9617)
+
+    def test_page_that_ignores_its_end(self):
+        """It is killed some time later, so that all ends."""
+        page = self.write("page", f"#!/bin/sh\ntrap '' TERM\necho $$ > {self.folder}/page-number\n"
+                                  "while :; do sleep 0.1; done\n", 0o755)
+        with mock.patch.object(page_of, "PROGRAM", page), mock.patch.object(page_of, "SECONDS_TO_END", 0.3):
+            self.run_bridge(lambda: self.end_once(lambda: os.path.exists(self.path("page-number"))), port=9617)
+        self.assertFalse(os.path.exists(f"/proc/{self.read('page-number').strip()}"))
+
+    def test_page_whose_port_is_taken(self):
+        """The access point runs without it; it is begun once the port is free."""
+        page = self.write("page", f"#!/bin/sh\n> {self.folder}/page-begins\nsleep 60 & trap 'kill $!; exit 0' TERM; wait\n",
+                          0o755)
+        does = SENDS + "; [ $request = open ] && (while sleep 0.1; do echo alive; done) & "
+        with socket.socket() as taken:
+            taken.bind(("127.0.0.1", 0))
+            taken.listen()
+            port = taken.getsockname()[1]
+
+            def later():
+                until = time.monotonic() + 20
+                while "there is no page" not in self.told.getvalue() and time.monotonic() < until:
+                    time.sleep(0.05)
+                self.begun_while_taken = os.path.exists(self.path("page-begins"))
+                taken.close()
+                self.end_once(lambda: os.path.exists(self.path("page-begins")))
+            with mock.patch.object(page_of, "PROGRAM", page), mock.patch.object(page_of, "AGAIN_SECONDS", 0.2):
+                self.run_bridge(later, does=does, after="kill $!", port=port)
+        self.assertFalse(self.begun_while_taken)
+        self.assertTrue(os.path.exists(self.path("page-begins")))
+        self.assertEqual(self.told.getvalue().count(
+            f"--status {port}: Address already in use: there is no page until this port is free; all else goes on"), 1)
+        self.assertIn("1 networks are on channel", self.told.getvalue())
+
+    def test_what_a_bridge_never_tells(self):
+        """A number that is none, and a line without an end, are faults by their names."""
+        for told, says in (("elsewhere 24x2", "'elsewhere 24x2'"), ("down -1", "'down -1'"), ("down 16", "'down 16'"), ("status 1e3", "'status 1e3'"),
+                           ("fault x y", "'fault x y'"), ("down " + 5000 * "9", "'down 999")):
+            with self.assertRaisesRegex(Fault, f"^the bridge told what it never tells: {says}"):
+                self.run_bridge(does=f"echo {told}")
+        with self.assertRaisesRegex(Fault, "^the bridge told a line of more than 4096 octets$"):
+            self.run_bridge(does="head -c 1000000 /dev/zero | tr '\\\\0' x")
 
     def test_tables_by_the_clock(self):
         """--tables asks by itself, again and again."""
@@ -1290,8 +1440,18 @@ class Running(WithFiles):
     def test_fault(self):
         """What the bridge can't go on with is this program's fault, whatever comes after it."""
         with self.assertRaisesRegex(Fault, "^mon0: Network is down: was it taken down[?]$"):
-            self.run_bridge(does="break", after="echo 'fault mon0: Network is down: was it taken down?'; exit 1")
+            self.run_bridge(does="break", after="echo 'fault 9 mon0: Network is down: was it taken down?'; exit 1")
         self.assertIn("the program ended with status 0", self.told.getvalue())
+
+    def test_fault_codes(self):
+        """By the number alone it is decided what comes next, and the bridge has the same numbers."""
+        with self.assertRaisesRegex(Fault, "the program ended by itself"):
+            self.run_bridge(does="break", after="echo 'fault 3 the program ended by itself'; exit 1")
+        self.assertNotIn("it begins anew", self.told.getvalue())
+        with open(os.path.join(TOOLS, "bridge/src/control/faults.rs"), encoding="utf-8") as file:
+            numbers = dict(re.findall(r"Fault::(\w+)(?:\(_\)| \{ \.\. \})? => (\d+),", file.read()))
+        for code in FaultCode:
+            self.assertEqual(numbers[code.name.title().replace("_", "")], str(code.value))
 
     def test_killed(self):
         """A bridge that ends as it shouldn't is told."""

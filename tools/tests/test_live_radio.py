@@ -8,7 +8,7 @@ import unittest
 from contextlib import ExitStack
 from unittest import mock
 
-from live import drivers, machine, radio_report, setting_up, watching
+from live import changes, drivers, machine, other_programs, radio_report, setting_up, watching
 from live.checks import Plan, check_channel
 from live.faults import Fault
 from live.links import Link, Links, links_of
@@ -120,6 +120,7 @@ class Reported(OnMachine):
             file.write("02:00:00:00:00:00\n")
         for where, name, value in (
                 (machine, "RADIOS", self.radios), (machine, "interfaces", lambda: self.others),
+                (changes, "RUN", self.folder), (other_programs, "PROCESSES", self.radios),
                 (machine, "country", lambda: "DE"), (radio_report, "this_kernel", lambda: (6, 12))):
             patch = mock.patch.object(where, name, value)
             patch.start()

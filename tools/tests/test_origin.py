@@ -250,7 +250,7 @@ class Installed(SmallRepository):
         second = self.commit()
         self.assertNotIn("warning", self.install())
         names = [os.path.relpath(path, self.path("usr")) for path in glob.glob(self.path("usr/*bin/waltigon-*"))]
-        self.assertEqual(len(names), 10)
+        self.assertEqual(len(names), 11)
         for name in names:
             self.assertRegex(self.installed(name, "--version"),
                              rf"\Awaltigon {VERSION}\napctl of commit {first}, proved .*\nwith {TOOLCHAIN}\n"

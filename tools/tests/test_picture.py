@@ -487,6 +487,20 @@ class Choices(PictureTest):
         self.assertEqual(len(self.shapes(*words, "--station", "02:aa:00:00:00:01", "--to", "8").of(what="associated")),
                          1)
 
+    def test_a_unit_that_went_back_is_told(self):
+        """It is drawn once for each line that stands between the remarks, and of no other unit that is told."""
+        folder = os.path.join(ROOT, "examples/group_units_at_the_dtim")
+        text = read_text(os.path.join(folder, "input"))
+        line = next(line for line in text.split("\n") if line.startswith("W ") and line.endswith(" 06"))
+        told = ["# handed back: the lines from here on are units", line, "# handed back: up to here"]
+        with open(self.path("input"), "w", encoding="ascii") as file:
+            file.write(text.replace(line, "\n".join(told)))
+        shapes = self.shapes(self.path("input"), os.path.join(folder, "stdout"))
+        titles = [group.findtext("{*}title") for group in shapes.marks()]
+        for words in ("a unit that went back to the program for the group is kept", "a unit from the wire for the group"):
+            self.assertEqual(sum(words in title for title in titles), 1)
+        self.assertEqual(sum("went back" in title for title in titles), 1)
+
     def test_times(self):
         """Times are those of the beacon clock, or the capture's own where the trace tells them."""
         words = self.of_three().words()

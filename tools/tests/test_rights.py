@@ -4,17 +4,21 @@ built program; the bridge's own tests try each call of the system without these.
 import json
 import os
 import platform
+import shutil
 import subprocess
 import sys
 import unittest
 
 from common import PROGRAM, ROOT, TOOLS, ToolTest
+from live.machine import PACKAGES
 
 BRIDGE = os.path.join(ROOT, "build", "bridge", "release", "bridge")
 SCRIPT = os.path.join(TOOLS, "tests", "confined.py")
 NONE = "0000000000000000"
 REFUSED = -13  # EACCES
 USER = 930
+MISSING = [f"{name} (package {package})" for name, package in PACKAGES.items() if shutil.which(name) is None]
+NEEDS_COMMANDS = unittest.skipIf(MISSING, f"not on this machine: {', '.join(MISSING)}")
 
 
 def can_try():
@@ -27,6 +31,7 @@ def can_try():
 @unittest.skipUnless(os.path.exists(BRIDGE), "the bridge isn't there (make bridge builds it)")
 @unittest.skipUnless(os.path.exists(PROGRAM), "build/apctl isn't there (make apctl builds it)")
 @unittest.skipUnless(platform.machine() == "x86_64", "calls are made as on x86-64")
+@NEEDS_COMMANDS
 class Confined(ToolTest):
     """An access point whose parts are attacked."""
 

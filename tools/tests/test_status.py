@@ -20,6 +20,7 @@ from status import asking, server
 from status.asking import status_of
 from status.document import NO_NAME, NOT_YET, Untold, complete, name_of
 from status.metrics import Family, Kind, metrics_of
+from status.page import page_text
 from status.server import MOST_CONNECTIONS, MOST_HEAD, policy_of, serve
 from statuses import FakeBridge, document, line_of, network, only_known, station
 
@@ -32,6 +33,7 @@ THREE = document(
     drops={'the air: "late"\nframes': 3}, left_out={"the air: sent again": 12},
     faults=[{"seconds": 3.2, "text": "fault L2 line 3"}])
 SAMPLE = re.compile(r"([a-z_]+)(?:\{(.*)\})? (\S+)")
+NEVER = 3600.0  # so many seconds lie between points of the history where a test adds none
 LABEL = re.compile(r'([a-z_]+)="((?:[^"\\\n]|\\["\\n])*)"(?:,|$)')
 
 
@@ -129,8 +131,21 @@ class Metrics(unittest.TestCase):
         self.assertEqual(samples(self.families, "network_wire_up"), [1, 0], "one has no wire")
         self.assertEqual(samples(self.families, "network_events_total", ssid=MARKUP.decode()), [], "not known yet")
         self.assertEqual(samples(self.families, "network_stations", ssid=MARKUP.decode()), [0, 0])
-        crowded = parse(metrics_of(complete(document(network(1, b"x", [station(1), only_known(2)], known=5000)), 0)))
-        self.assertEqual(samples(crowded, "network_stations", state="authenticated"), [4999], "not all are listed")
+
+    def test_stations_that_are_not_listed_are_counted(self):
+        listed = [station(number, dozes=number < 300) for number in range(1000)]
+        crowded = network(1, b"x", listed, known=5000, associated=2007, dozing=700)
+        families = parse(metrics_of(complete(document(crowded), 0)))
+        self.assertEqual(samples(families, "network_stations", state="associated"), [2007])
+        self.assertEqual(samples(families, "network_stations", state="authenticated"), [2993])
+
+    def test_who_holds_a_quota(self):
+        holder = {"address": "02:aa:00:00:00:01", "kept": 450, "listen": 65535}
+        told = document(network(1, b"x", quota=500, holder=holder), network(2, b"y", quota=7, holder=None),
+                        network(3, b"z", counts=None, quota=7, holder=None))
+        families = parse(metrics_of(complete(told, 0)))
+        self.assertEqual(samples(families, "network_quota_units"), [500, 7, 7])
+        self.assertEqual(samples(families, "network_held_units"), [450, 0], "not known yet of the third")
 
     def test_the_numbers_of_stations(self):
         first, second = ({"bssid": "02:00:00:00:01:01", "station": f"02:aa:00:00:00:0{number}"} for number in (1, 2))
@@ -172,7 +187,7 @@ class Serving(unittest.TestCase):
     def setUp(self):
         self.told = THREE
         self.asked = 0
-        self.server = serve(0, self.ask)
+        self.server = serve(0, self.ask, each=NEVER)
         self.addCleanup(self.server.close)
         self.port = self.server.server_address[1]
 
@@ -477,8 +492,7 @@ class Page(unittest.TestCase):
     """The page's file."""
 
     def setUp(self):
-        with open(server.PAGE, encoding="utf-8") as file:
-            self.text = file.read()
+        self.text = page_text()
 
     def test_nothing_comes_from_elsewhere(self):
         self.assertNotRegex(self.text, r"(?i)https?:|//[a-z]|@import|url\(|<img|<iframe|<object|\bsrc\b")

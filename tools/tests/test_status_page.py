@@ -1,13 +1,16 @@
 """Tests of the status page in a real browser, as a telephone and a desk show it. Where STATUS_PICTURES names a folder,
 its pictures are put there."""
 import os
+import tempfile
+import time
 import unittest
 
 from browser import Browser, needs_chromium
 from status.demo import demo_of
-from status.document import Untold
+from status.document import Untold, complete
+from status.names import Names
 from status.server import serve
-from statuses import document, network, only_known, station
+from statuses import busy, document, network, only_known, station
 
 TELEPHONE, DESK = (390, 844), (1280, 800)
 MARKUP = b'<img src=x onerror="x=1"></h2>&amp;'
@@ -15,6 +18,7 @@ PICTURES = os.environ.get("STATUS_PICTURES")
 IS_WIDER = "document.documentElement.scrollWidth > document.documentElement.clientWidth"
 TEXT = "document.body.innerText"
 YEAR, DAYS = 365 * 86400.0, 86400.0
+NEVER = 3600.0  # so many seconds lie between points of the history: a test adds them itself
 WIDTHS = (360, 390, 600, 768, 1024, 1238, 1240, 1280, 1920, 2560)
 # Where a text leaves the box that it belongs to or the window, or covers another text of its row; and where cells of a
 # row cover each other or leave it.
@@ -113,7 +117,7 @@ class Shown(unittest.TestCase):
 
     def serve(self, port):
         """Serves what is told."""
-        server = serve(port, self.ask)
+        server = serve(port, self.ask, each=NEVER)
         self.addCleanup(server.close)
         return server
 
@@ -134,9 +138,13 @@ class Shown(unittest.TestCase):
             for is_dark in (False, True):
                 self.browser.size(*size, is_dark)
                 self.assertFalse(self.browser.value(IS_WIDER), f"{name} is wider than a {kind}")
-                if PICTURES:
-                    with open(os.path.join(PICTURES, f"{name}_{kind}{'_dark' * is_dark}.png"), "wb") as file:
-                        file.write(self.browser.picture())
+                self.keep(f"{name}_{kind}{'_dark' * is_dark}")
+
+    def keep(self, name):
+        """Keeps a picture, where they are wanted."""
+        if PICTURES:
+            with open(os.path.join(PICTURES, f"{name}.png"), "wb") as file:
+                file.write(self.browser.picture())
 
     def test_twenty_stations(self):
         self.open()
@@ -182,7 +190,7 @@ class Shown(unittest.TestCase):
         self.assertEqual(set(self.browser.value(addresses)), {last})
         self.choose("search", "zz")
         self.assertEqual(self.browser.value(addresses), [])
-        self.assertIn("No station here has such an address.", self.browser.value(TEXT))
+        self.assertIn("No station here has such an address or name.", self.browser.value(TEXT))
         self.choose("search", "")
         self.choose("sort", "most sent to it")
         first = [max(one["stations"], key=lambda told: (told["octets_to"], [-ord(it) for it in told["address"]]))["address"]
@@ -211,6 +219,84 @@ class Shown(unittest.TestCase):
         self.browser.wait(f"{TEXT}.includes('1 h 11 min')")
         self.assertNotEqual(self.browser.value(TEXT), before)
         self.assertEqual(self.browser.faults, [])
+
+    def remember(self, moments):
+        """Gives the server a history: a point each five seconds until now, where `moments` tells of each the document."""
+        now = time.monotonic()
+        for place, told in enumerate(moments):
+            age = 5.0 * (len(moments) - 1 - place)
+            self.server.history.take(told and complete(told, 0), now - age)
+
+    def graphs(self, of):
+        """What the graphs below an element say, and how many pieces each line has."""
+        return [tuple(each) for each in self.browser.value(
+            f"[...document.querySelectorAll('{of} .graph')].map(graph => [graph.innerText.replace(/\\n+/g, '|'), "
+            "(graph.querySelector('.line').getAttribute('d').match(/M/g) || []).length])")]
+
+    def test_ten_minutes_of_sixteen_networks_are_lines(self):
+        """Each network has a line of its share of the air, of what goes to its stations and comes from them, of its
+        stations and its losses; each is cut where the access point told nothing. A station has lines where it is opened."""
+        moments = [busy(16, 1000 + 5 * place) for place in range(121)]
+        moments[60] = moments[61] = None
+        self.remember(moments)
+        self.told = busy(16, 1600)
+        self.open()
+        self.browser.wait("document.querySelectorAll('.graph .line')[79]?.getAttribute('d')")
+        found = self.graphs("#networks section:nth-child(2)")
+        self.assertEqual([text for text, _ in found],
+                         ["share of the air|4.0 %|at most 4.0 %", "to stations|16.0 kb/s|at most 16.0 kb/s",
+                          "from stations|3.2 kb/s|at most 3.2 kb/s", "stations|2|at most 2", "lost|0.4/s|at most 0.4/s"])
+        self.assertEqual([count for _, count in found], [2] * 5)
+        for width in (390, 1280, 2560):
+            for is_dark in (False, True):
+                self.browser.size(width, 900, is_dark)
+                self.assertEqual(self.browser.value(OVERFLOWS), [], f"{width} pixels")
+                self.assertFalse(self.browser.value(IS_WIDER), f"{width} pixels")
+                self.keep(f"sixteen_{width}{'_dark' * is_dark}")
+        self.browser.value("document.querySelector('td.address button').click()")
+        self.browser.wait("document.querySelector('td.opened .line')?.getAttribute('d')")
+        self.assertEqual([text for text, _ in self.graphs("td.opened")],
+                         ["to it|8.0 kb/s|at most 8.0 kb/s", "from it|1.6 kb/s|at most 1.6 kb/s",
+                          "signal|−30 dBm|−30 dBm to −30 dBm", "units kept|0|at most 0"])
+        self.browser.value("document.querySelector('td.address button').click()")
+        self.assertEqual(self.graphs("td.opened"), [])
+        self.assertEqual(self.browser.faults, [])
+
+    def test_rates_of_now_stand_beside_counts(self):
+        """By two answers: how fast counts grow, and how much of the air is used. It is unused only where nobody sends."""
+        self.told = busy(2, 100)
+        self.open()
+        self.assertNotIn("air\nunused", self.browser.value(TEXT))
+        self.assertIn("share of the air not known yet", self.browser.value(TEXT))
+        self.told = busy(2, 110)
+        self.browser.wait(f"{TEXT}.includes('% used')")
+        text = self.browser.value(TEXT)
+        for words in ("6.0 % used", "2.0 % of the air", "4.0 % of the air", "33,000 events (300/s)", "22 units lost (0.2/s)",
+                      "8.0 kb/s"):
+            self.assertIn(words, text)
+        quiet = busy(2, 120)
+        for one, before in zip(quiet["networks"], self.told["networks"]):
+            one["air"] = before["air"]
+        self.told = quiet
+        self.browser.wait(f"{TEXT}.includes('unused')")
+        self.assertEqual(self.browser.value(TEXT).count("nothing sent but beacons"), 2)
+
+    def test_names_that_the_operator_gave(self):
+        """They stand below the addresses, as text, and stations are found by them."""
+        path = os.path.join(self.enterContext(tempfile.TemporaryDirectory()), "names")
+        with open(path, "w", encoding="utf-8") as file:
+            file.write("02:aa:00:00:00:01 Küche <b>printer</b>\n")
+        self.server.status.names = Names(path)
+        self.open()
+        cell = "document.querySelector('td.address').innerText"
+        self.assertEqual(self.browser.value(cell), "02:aa:00:00:00:01\nKüche <b>printer</b>")
+        self.choose("search", "küche")
+        self.assertEqual(self.browser.value("document.querySelectorAll('td.address').length"), 1)
+        with open(path, "w", encoding="utf-8") as file:
+            file.write("02:aa:00:00:00:01 scanner\n")
+        self.browser.wait("document.querySelectorAll('td.address').length === 0")
+        self.choose("search", "")
+        self.browser.wait(f"{cell}.endsWith('scanner')")
 
     def test_those_that_only_authenticated_unfold_and_stay_so(self):
         self.open()
@@ -299,6 +385,24 @@ class Shown(unittest.TestCase):
         self.assertEqual(self.browser.value(
             "[...document.querySelectorAll('#networks table:not(.only) td.address')].map(cell => cell.textContent)"),
             [told["address"] for one in self.told["networks"] for told in one["stations"] if told["aid"] is not None])
+
+    def test_stations_that_are_not_listed_are_counted(self):
+        crowded = network(1, b"guests", map(station, range(1, 1001)), known=3000, associated=2007, dozing=7)
+        self.told = document(crowded, network(2, b"office", [station(1, dozes=True)]))
+        self.open()
+        text = self.browser.value(TEXT)
+        self.assertIn("2,008 (8 doze)", text)
+        self.assertIn("993 stations that only authenticated", text)
+        self.assertIn("and 2,500 stations more", text)
+
+    def test_who_holds_most_of_a_quota(self):
+        holder = {"address": "02:aa:00:00:00:01", "kept": 450, "listen": 65535}
+        self.told = document(network(1, b"guests", [station(1)], quota=500, holder=holder),
+                             network(2, b"office", [station(2)], quota=1000, holder=holder))
+        self.open()
+        text = self.browser.value(TEXT)
+        self.assertIn("1 unit kept, 450 of the quota of 500 for 02:aa:00:00:00:01", text)
+        self.assertEqual(text.count("of the quota"), 1)
 
     def test_ten_thousand_strangers_are_counted(self):
         self.told = document(network(1, b"guests", [station(1), *map(only_known, range(2, 1001))], known=10001))

@@ -8,7 +8,7 @@ import sys
 import unittest
 
 from common import PROGRAM, TOOLS, ToolTest
-from test_rights import BRIDGE, can_try
+from test_rights import BRIDGE, NEEDS_COMMANDS, can_try
 
 SCRIPT = os.path.join(TOOLS, "tests", "staying.py")
 OURS, OTHER = "02:00:00:00:01:01", "02:00:00:00:01:02"
@@ -21,6 +21,7 @@ ALL = "ff:ff:ff:ff:ff:ff"
 @unittest.skipUnless(os.geteuid() == 0 and can_try(), "it takes root, and namespaces")
 @unittest.skipUnless(os.path.exists(BRIDGE), "the bridge isn't there (make bridge builds it)")
 @unittest.skipUnless(os.path.exists(PROGRAM), "build/apctl isn't there (make apctl builds it)")
+@NEEDS_COMMANDS
 class Staying(ToolTest):
     """Stations of two networks, with a gap among the identifiers and one that dozes."""
 

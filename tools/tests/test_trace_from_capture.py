@@ -267,6 +267,21 @@ class Examples(ToolTest):
         sent = [len(list(read_air(f"{place}/air.pcapng"))) for place in (folder, self.captured(THREE, "whole"))]
         self.assertLess(sent[0], sent[1] - count)
 
+    def test_what_came_back_to_the_program_came_by_no_wire(self):
+        """A record marks it: the captures of wires don't have it."""
+        text, lines = input_of(THREE)
+        config, _, trace = text.partition("\n---\n")
+        marked, told = self.path("input"), []
+        for line in trace.split("\n"):
+            is_wired = line.startswith("W ")
+            told += ["# handed back: the lines from here on are units"] * is_wired + [line]
+            told += ["# handed back: up to here"] * is_wired
+        with open(marked, "w", encoding="utf-8") as file:
+            file.write(f"{config}\n---\n" + "\n".join(told))
+        self.assertGreater(sum(line.kind == "W" for line in lines), 1)
+        wanted = [line for line in lines if not is_left_out(line) and line.kind != "W"]
+        self.assertEqual(essence(self.there_and_back(THREE, text, marked)), essence(wanted))
+
     def captured(self, folder, name):
         """The captures of an example, in a folder of this name."""
         out = self.path(name)

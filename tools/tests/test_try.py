@@ -1,5 +1,7 @@
 """Tests of `.ci/try`, with a toolchain that compiles nothing: what it says while one waits, and of long reports."""
 import os
+import shutil
+from unittest import mock
 
 from small import SmallRepository
 
@@ -40,6 +42,18 @@ class Try(SmallRepository):
         self.assertTrue(said.startswith("lines 5\nCompiling the program without any proof"), said)
         self.assertIn(" s: compiling or running\n", said)
         self.assertTrue(said.endswith('Nothing was proved. "make run" proves the program first.\n'), said)
+
+    def test_without_the_toolchain_it_says_what_to_ask_for(self):
+        """By the sum of the logic that `make apctl` wants, and without a word of another target."""
+        os.remove(self.path_of("bin/rt"))
+        bare = {"PATH": "/usr/bin:/bin"}
+        if shutil.which("rt", path=bare["PATH"]):
+            self.skipTest("rt is in /usr/bin")
+        with mock.patch.dict(os.environ, bare):
+            status, said = self.tried(CONFIG + "T\n")
+        self.assertEqual(status, 1)
+        self.assertRegex(said, r"(?s)^The command rt isn't on the path, .*Ask whoever gave you.*`logic [0-9a-f]{16}`")
+        self.assertNotIn("make run", said)
 
     def test_the_beginning_of_a_long_report_is_shown(self):
         """Where the report is too long, so many lines run that theirs surely isn't."""

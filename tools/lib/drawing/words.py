@@ -1,7 +1,7 @@
 """What a mark of a picture says, in words, for who points at it."""
 from drawing.columns import BEACON_KINDS, OTHERS
 from fields import REASONS, STATUSES
-from story import GROUP, NOTHING, WIRE
+from story import GROUP, NOTHING, WENT_BACK, WIRE
 
 ASKS = {"P": "asks which networks are there", "A": "authenticates", "J": "asks to associate",
         "R": "asks to reassociate",
@@ -29,9 +29,11 @@ def words_of(item):
         return "a frame that can't be read"
     if item.what in UNITS:
         sender = f" from {who(item.sender)}" if item.sender is not None else ""
+        sender = " that went back to the program" if item.text == WENT_BACK else sender
         whom = "" if item.what == "wired" or item.row == WIRE else f" for {who(item.row)}"
         return f"a unit{sender}{whom} {UNITS[item.what]}"
-    asks = f"{who(item.row)} {ASKS[item.letter]}" if item.letter else "a frame from the wire"
+    frame = "a unit that went back to the program" if item.text == WENT_BACK else "a frame from the wire"
+    asks = f"{who(item.row)} {ASKS[item.letter]}" if item.letter else frame
     endings = {"answered": f", and is answered{': ' + item.text.replace('aid', 'identifier') if item.text else ''}",
                "refused": f", and is refused: status {code(item.text, STATUSES)}",
                "turned away": f", and isn't associated: reason {code(item.text, REASONS)}",

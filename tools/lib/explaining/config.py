@@ -147,7 +147,7 @@ def number_findings(config: Config, entries: dict[str, Entry], key: str, limits:
     hint = {"channel": values.channel_hint, "interval": values.interval_hint}.get(key)
     if number is None:
         digits = str(value.worth).strip() if value.kind in ("text", "number") else ""
-        digits = digits.removesuffix(".0")
+        digits = values.without_dots(config.source.text[value.begin:value.end]) or digits.removesuffix(".0")
         if key == "channel" and digits.lower() in ("auto", "acs", "acs_survey"):
             return [Finding("no channel is chosen by itself: `channel` is a number of 1 to 14", config.place(value),
                             "`iw dev wlan0 scan` shows which are in use; write one of 1, 6 or 11, as `channel = 6`")]
@@ -307,10 +307,12 @@ def bssid_findings(config: Config, network: NetworkTable) -> list[Finding]:
     if isinstance(found, Finding):
         return [found]
     value, bssid = found
-    fault = values.address_fault(bssid)
+    name = network.entries.get("ssid")
+    fault = values.bssid_fault(bssid, name.value.text if name else None)
     if fault:
         text, span, mended = fault
-        return [Finding(text, config.within(value, span), f"write `bssid = \"{mended or '02:00:00:00:00:01'}\"`")]
+        return [Finding(text, config.within(value, span), f"write `bssid = \"{mended}\"`" if mended else
+                        "write all six, as `bssid = \"02:00:00:00:00:01\"`")]
     if int(bssid[:2], 16) & 1:
         return [Finding(f"this is a group address, since its first octet, {bssid[:2]}, is odd; a network's is of one "
                         "receiver", config.within(value, (0, 2)),
@@ -329,7 +331,8 @@ def ssid_findings(config: Config, network: NetworkTable) -> list[Finding]:
     entry = network.entries.get("ssid")
     if entry and entry.value.kind in ("integer", "truth", "number"):
         written = config.source.text[entry.value.begin:entry.value.end]
-        return [wrong_kind(config, entry, "ssid", "a text, which stands in quotes", f'"{written}"')]
+        return [wrong_kind(config, entry, "ssid", "a text, which stands in quotes",
+                           f'"{values.letters_of(written) or written}"')]
     found = text_of(config, network, "ssid")
     if isinstance(found, Finding):
         return [found]
@@ -392,8 +395,6 @@ def option_findings(config: Config, network: NetworkTable) -> list[Finding]:
         if entry is None:
             findings.append(missing(config, network.entries, key, in_network(config, network), config.place(network)))
         elif entry.value.kind != "truth":
-            is_true = str(entry.value.worth).lower() in ("1", "true", "yes", "on")
-            is_false = str(entry.value.worth).lower() in ("0", "false", "no", "off")
-            write = "true" if is_true else "false" if is_false else SAMPLES[key]
+            write = values.truth_of(str(entry.value.worth)) or SAMPLES[key]
             findings.append(wrong_kind(config, entry, key, "`true` or `false`, without quotes", write))
     return findings

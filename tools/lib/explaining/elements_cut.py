@@ -1,9 +1,11 @@
 """Which element of a body has the wrong length, where they don't fill the body to its last octet."""
 from explaining.check_sequences import FCS_LEN
 from explaining.reason import Reason
+from explaining.source import quoted
 from fields import ELEMENT_NAMES
-from frames import elements
+from frames import SSID, elements
 
+MOST_NAME = 32
 KNOWN = {*ELEMENT_NAMES, 59, 70, 107, 114}
 
 
@@ -15,10 +17,23 @@ def wrong_length(octets: bytes, begin: int) -> Reason:
     if is_followed(octets[begin:-FCS_LEN]):
         return Reason("four octets are too many at the end: a frame stands in a trace without its frame check sequence",
                       (len(octets) - FCS_LEN, len(octets)), "leave them out")
+    bare = bare_name(octets, begin)
+    if bare:
+        return Reason(f"{quoted(bare.decode())} stands there without its ID and its length, with which each element "
+                      "begins",
+                      (begin, begin + len(bare)), f"write `{bytes([SSID, len(bare)]).hex()}` before `{bare.hex()}`")
     if len(octets) - places[-1] == 1 and octets[-1] in KNOWN:
         return told(octets, places[-1], None)
     _, _, place, meant = min(fits, default=(True, 0, places[-1], None))
     return told(octets, place, meant)
+
+
+def bare_name(octets: bytes, begin: int) -> bytes | None:
+    """A name in letters where elements should begin, before elements that are known."""
+    names = (octets[begin:end] for end in range(begin + 1, min(begin + MOST_NAME, len(octets) - 1) + 1)
+             if is_followed(octets[end:]))
+    name = next(names, b"")
+    return name if name and name.isascii() and name.decode().isprintable() else None
 
 
 def starts(octets: bytes, begin: int) -> list[int]:
@@ -49,7 +64,7 @@ def told(octets: bytes, place: int, meant: int | None) -> Reason:
     if place + 2 > len(octets):
         return Reason(f"an element begins with its ID and its length, and here `{octets[place:].hex()}` stands alone",
                       (place, len(octets)), "leave it out, or write the element's length and its octets")
-    name, length, there = ELEMENT_NAMES.get(octets[place], f"element {octets[place]}"), octets[place + 1], \
+    name, length, there = ELEMENT_NAMES.get(octets[place], str(octets[place])), octets[place + 1], \
         len(octets) - place - 2
     if meant is None or meant == there:
         return Reason(f"the element {name} says that it has {length} octets, and {there} follow",

@@ -25,7 +25,7 @@ def shown(texts: Texts) -> Iterator[str]:
     if trace is None:
         raise TextError("--lines reads a trace twice, and this one can be read once")
     lines = read_trace(trace.text)
-    outcomes = Outcomes(trace, networks_of(texts.config))
+    outcomes = Outcomes(trace, networks_of(texts.config), lines)
     count = 0
     for count, step in enumerate(steps(texts.program, texts.config.octets, lines), 1):
         yield from of_step(trace, step, list(outcomes.of_step(step)))

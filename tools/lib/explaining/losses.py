@@ -48,7 +48,8 @@ def of_age(looked: Looked) -> Reason:
 def of_form(unit: Unit, octets: bytes) -> Reason:
     """A unit that no frame on the wire has."""
     length, span = len(unit.body), (HEADER_LEN, max(HEADER_LEN + 1, len(octets)))
-    what = f"{octets_text(length)} that don't begin with LLC and SNAP, `{SNAP.hex()}`, and a type"
+    verb = "doesn't" if length == 1 else "don't"
+    what = f"{octets_text(length)} that {verb} begin with LLC and SNAP, `{SNAP.hex()}`, and a type"
     if unit.body.startswith(SNAP):
         what = f"{octets_text(length)} with LLC and SNAP, and no type of at least 0600 behind them"
     return Reason(f"the unit to {address_word(unit.destination)} has no wired form: {what}", span,

@@ -220,9 +220,10 @@ def of_copied(place: Place, text: str, name: str) -> Finding | None:
 
 
 def is_yaml(source: Source, number: int) -> bool:
-    """Whether a line is a name and `:` alone, and what follows it is indented or begins with `-`."""
-    line, behind = source.line(number).rstrip(), source.line(number + 1)
-    return bool(re.fullmatch(r"\s*[\w-]+:", line) and re.match(r"\s+\S|- ", behind))
+    """Whether a line is one of YAML: `---` aside, a name and `:`, where some name and `:` stand alone before lines that
+    are indented or begin with `-`."""
+    return bool(re.match(r"\s*(?:- +)?[\w-]+:(?: |$)", source.line(number).rstrip()) and
+                re.search(r"^\s*[\w-]+:[ \r]*\n(?:[ \t]+\S|- )", source.text, re.M))
 
 
 def of_value(place: Place, line: str, fault: NoToml, source: Source) -> Finding:

@@ -1,4 +1,6 @@
 """What is odd in a configuration that has no fault."""
+from collections.abc import Collection
+
 from explaining import values
 from explaining.config import Config, NetworkTable, number_of
 from explaining.source import Finding, Source, quoted
@@ -10,13 +12,15 @@ JAPANESE_CHANNEL = 14
 LEAST_INTERVAL, MOST_INTERVAL = 15, 1000  # hostapd has none below 15
 
 
-def odd(source: Source | None) -> list[Finding]:
-    """What is odd in a configuration: networks that stations can't tell apart, and networks without a basic rate."""
+def odd(source: Source | None, asked: Collection[bytes] = ()) -> list[Finding]:
+    """What is odd in a configuration: networks that stations can't tell apart, and networks without a basic rate.
+    `asked` are names that stations ask for, of which it is told where they do."""
     try:
         config = Config(source) if source else None
     except (NoToml, RecursionError):
         return []
-    return [*of_radio(config), *of_addresses(config), *of_names(config), *of_blanks(config), *of_rates(config)] \
+    return [*of_radio(config), *of_addresses(config), *of_names(config), *of_blanks(config, asked),
+            *of_rates(config)] \
         if config else []
 
 
@@ -36,12 +40,14 @@ def of_radio(config: Config) -> list[Finding]:
     return findings
 
 
-def of_blanks(config: Config) -> list[Finding]:
-    """Names with a blank at an end, which nobody sees."""
+def of_blanks(config: Config, asked: Collection[bytes]) -> list[Finding]:
+    """Names with a blank at an end, which nobody sees, but for those that stations ask for without it."""
     return [Finding(f"the SSID of the network {place} {'begins' if name[0].isspace() else 'ends'} with a blank, which "
                     f"is a part of it: a station that asks for {quoted(name.strip())} isn't answered",
-                    config.place(network.entries["ssid"].value), f'write `ssid = "{name.strip()}"`')
-            for place, network, name in texts_of(config, "ssid") if name != name.strip()]
+                    config.place(network.entries["ssid"].value),
+                    f'where the blank isn\'t meant write `ssid = "{name.strip()}"`')
+            for place, network, name in texts_of(config, "ssid")
+            if name != name.strip() and name.strip().encode() not in asked]
 
 
 def texts_of(config: Config, key: str) -> list[tuple[int, NetworkTable, str]]:

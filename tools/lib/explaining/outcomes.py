@@ -1,27 +1,31 @@
 """What is said of the lines of a run that ended well, one by one: those that no network took or read, those that
 changed nothing, those that were refused, and those that lost something. Whether a line did something is told by the
 program, by way of `live`; the reason is looked for beside that."""
-from collections.abc import Iterator
-from dataclasses import dataclass, field
+from collections.abc import Iterable, Iterator
+from dataclasses import dataclass, field, replace
 from enum import Enum
 
 from explaining.changes import has_effect
 from explaining.config import NetworkTable
 from explaining.line_by_line import Step
 from explaining.losses import losses
+from explaining.meant import doubtful
 from explaining.nothing import Looked, nothing
+from explaining.notices import notice
 from explaining.past import Past
 from explaining.reason import Reason
-from explaining.refused import Refusal, limit, refusal_of, refused
+from explaining.refused import limit, refusal_of, refused
 from explaining.source import Finding, Place, Source
 from explaining.spans import place_of_octets
 from explaining.unheard import unheard
 from explaining.unread import unread, wired_unread
-from frames import DATA, DEAUTHENTICATION, Frame, address_text
+from explaining.written import Known, misfit, preamble
+from frames import Frame, address_text
 from reading import unread_kind, wired_unread_kind
 from texts import Line
 
 MOST_GROUPS, MOST_ALSO = 6, 5
+DOUBT = "it may not say what is meant"
 
 
 class What(Enum):
@@ -32,6 +36,7 @@ class What(Enum):
     NOTHING = "it changes nothing"
     REFUSED = "it is refused"
     LOST = "a unit is lost"
+    DOUBTFUL = "it does something that may not be meant"
 
 
 @dataclass
@@ -56,9 +61,9 @@ class Said:
 class Outcomes:
     """The groups, in the order of their first lines."""
 
-    def __init__(self, trace: Source, tables: dict[bytes, NetworkTable]) -> None:
+    def __init__(self, trace: Source, tables: dict[bytes, NetworkTable], lines: Iterable[Line] = ()) -> None:
         self.trace, self.tables = trace, tables
-        self.past = Past(lambda number: trace.first + number - 1)
+        self.past = Past(lambda number: trace.first + number - 1, lines)
         self.groups: dict[tuple[What, str, str], Group] = {}
         self.left_out: list[Line] = []
 
@@ -70,7 +75,19 @@ class Outcomes:
         self.past.note(step)
 
     def of_step(self, step: Step, full: frozenset[bytes] = frozenset()) -> Iterator[Said]:
-        """What is said of a line."""
+        """What is said of a line; where it isn't written as a frame is, that is the reason of all that came of it."""
+        slip = preamble(step.line) or \
+            misfit(self.trace.line(step.line.number).rstrip(), step.line, Known(step.before, self.past.seen))
+        told = False
+        for said in self.of_effects(step, full, slip is not None):
+            told = True
+            yield replace(said, reason=slip or said.reason)
+        if slip and not told and not full:
+            yield Said(What.DOUBTFUL, DOUBT, slip) if step.after is not step.before else \
+                Said(What.UNTAKEN, "no network takes it", slip)
+
+    def of_effects(self, step: Step, full: frozenset[bytes], is_slip: bool) -> Iterator[Said]:
+        """What is said of what a line brought; where it is a slip it is no frame of those that are told in sum."""
         taking = [bssid for bssid, after in step.after.items()
                   if after.events != step.before[bssid].events and bssid not in full]
         if not taking:
@@ -79,19 +96,32 @@ class Outcomes:
                 if reason:
                     yield Said(What.UNTAKEN, "no network takes it", reason)
             return
+        told = False
         for bssid in taking:
-            yield from self.of_answers(step, Looked(step, bssid, self.past))
+            for said in self.of_answers(step, Looked(step, bssid, self.past)):
+                told = True
+                yield said
         does = [bssid for bssid in taking if has_effect(step.before[bssid], step.after[bssid])]
         if not does and not step.sent and step.line.kind != "T":
-            yield from merged([self.of_silence(Looked(step, bssid, self.past)) for bssid in taking])
+            yield from merged([self.of_silence(Looked(step, bssid, self.past), is_slip) for bssid in taking])
+        elif not told and step.line.kind != "T":
+            yield from self.of_doubt(Looked(step, taking[0], self.past))
 
-    def of_silence(self, looked: Looked) -> Said | None:
+    def of_doubt(self, looked: Looked) -> Iterator[Said]:
+        """What may not be meant of a frame that did something."""
+        line = looked.step.line
+        rule = wired_unread_kind(line.octets) if line.kind == "W" else unread_kind(looked.bssid, line.octets)
+        reason = doubtful(looked, self.relays(looked)) if rule is None else None
+        if reason:
+            yield Said(What.DOUBTFUL, DOUBT, reason)
+
+    def of_silence(self, looked: Looked, is_slip: bool) -> Said | None:
         """Why a network that took a line did nothing."""
         line, network = looked.step.line, network_text(looked)
         if looked.step.after[looked.bssid].unread > looked.section.unread:
             rule, reason = (wired_unread_kind(line.octets), wired_unread(looked.bssid, line.octets)) \
                 if line.kind == "W" else (unread_kind(looked.bssid, line.octets), unread(looked.bssid, line.octets))
-            is_summed = line.kind == "A" and is_told_in_sum(looked.bssid, line.octets, rule)
+            is_summed = line.kind == "A" and not is_slip and is_told_in_sum(looked.bssid, line.octets, rule)
             return Said(What.UNREAD, f"{network} can't read it ({rule})", reason) if reason and not is_summed else None
         reason = nothing(looked)
         return Said(What.NOTHING, f"it changes nothing in {network}", reason) if reason else None
@@ -103,15 +133,19 @@ class Outcomes:
             refusal = None if sent.is_wired or sent.bssid != looked.bssid else refusal_of(sent.octets)
             if refusal and step.line.kind == "A":
                 station = Frame(step.line.octets).transmitter
-                reason = refused(refusal, step.line.octets, table, looked.names(), looked.bssid) if refusal.is_status \
-                    else notice(refusal, looked, station)
+                reason = refused(refusal, step.line.octets, table, looked.names(), looked.bssid,
+                                 looked.homes(station)) if refusal.is_status else notice(refusal, looked, station)
                 if reason:
                     yield Said(What.REFUSED, f"{network_text(looked)}: {refusal.what()}, of {address_text(station)}",
                                reason)
-        relay = table.entries.get("relay") if table else None
-        relays = relay is None or relay.value.worth is not False
-        for reason in losses(looked, relays, limit(table, "quota")):
+        for reason in losses(looked, self.relays(looked), limit(table, "quota")):
             yield Said(What.LOST, f"{network_text(looked)} loses a unit", reason)
+
+    def relays(self, looked: Looked) -> bool:
+        """Whether a network relays between its stations."""
+        table = self.tables.get(looked.bssid)
+        relay = table.entries.get("relay") if table else None
+        return relay is None or relay.value.worth is not False
 
     def numbers_told(self, what: What) -> set[int]:
         """The numbers of the lines of which this is said."""
@@ -135,7 +169,9 @@ class Outcomes:
     def finding(self, group: Group) -> Finding:
         """What is said of one group."""
         also = f"; so in {self.numbers(group.lines[1:])}" if len(group.lines) > 1 else ""
-        return Finding(f"{group.head}: {group.reason.text}{also}", self.place(group), group.reason.advice)
+        lacks = group.reason.lacks
+        later = self.past.comes_later(lacks, group.lines[0].number) if lacks else ""
+        return Finding(f"{group.head}: {group.reason.text}{later}{also}", self.place(group), group.reason.advice)
 
     def place(self, group: Group) -> Place:
         """Where the first line of a group has what is said of it."""
@@ -171,14 +207,3 @@ def merged(said: list[Said | None]) -> list[Said]:
         f"{first.head}, nor can {len(found) - 1} more"
     return [Said(first.what, head, first.reason)]
 
-
-def notice(refusal: Refusal, looked: Looked, station: bytes) -> Reason:
-    """Why a request is of a class that its station's state doesn't allow."""
-    state = "unknown" if refusal.kind == DEAUTHENTICATION else "authenticated"
-    said = "the station is unknown" if state == "unknown" else "the station isn't associated"
-    what = "it has to authenticate and associate before" if state == "unknown" else "it has to associate before"
-    frame = Frame(looked.step.line.octets)
-    if frame.type == DATA and frame.third in looked.associated():
-        return Reason(f"{said}; Address 3, {address_text(frame.third)}, is one that is associated: the sender comes "
-                      "first, then the destination", (10, 22), f"write `{frame.third.hex()} {station.hex()}`")
-    return Reason(f"{said}: {looked.why_not_there(station, state)}", (10, 16), what)

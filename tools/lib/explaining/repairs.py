@@ -4,13 +4,15 @@ from collections.abc import Iterator
 
 from explaining.check_sequences import FCS_LEN, LEAST_LEN, ends_with_fcs
 from explaining.reason import Reason
+from fields import ELEMENT_NAMES
 from frames import (ASSOCIATION_REQUEST, AUTHENTICATION, CONTROL, DATA, DEAUTHENTICATION, DISASSOCIATION, HEADER_LEN,
-                    MANAGEMENT, REASSOCIATION_REQUEST, Frame, number)
+                    MANAGEMENT, PROBE_REQUEST, PS_POLL, REASSOCIATION_REQUEST, Frame, is_group,
+                    number)
 from in_words import kind_text
-from reading import SNAP, hears, unread_kind
+from reading import FIXED_LEN, SNAP, hears, unread_kind
 
 DURATION, SEQUENCE, FRAGMENT = bytes(2), bytes(2), 0xF
-USUAL_CAPABILITY, USUAL_FLAGS, TWO_HIGH_BITS = b"\1\0", 0x18, 0xC000
+USUAL_CAPABILITY, USUAL_FIXED, USUAL_FLAGS, TWO_HIGH_BITS = b"\1\0", b"\1\0\x0a\0", 0x18, 0xC000
 RADIOTAP_MOST, MOST_STEPS = 64, 4
 
 
@@ -34,6 +36,16 @@ def is_usual(frame: Frame) -> bool:
             DEAUTHENTICATION: any(frame.body[:2]), ASSOCIATION_REQUEST: frame.body[:1] and frame.body[0] & 1,
             REASSOCIATION_REQUEST: frame.body[:1] and frame.body[0] & 1}
     return bool(said.get(frame.subtype, True)) and frame.octets[1] & ~USUAL_FLAGS == 0
+
+
+def is_of_station(frame: Frame) -> bool:
+    """Whether stations alone send such a frame: requests to probe, to authenticate and to associate, data with To DS,
+    and polls."""
+    if frame.type != MANAGEMENT:
+        return frame.type == CONTROL and frame.subtype == PS_POLL or \
+            frame.type == DATA and frame.to_ds and not frame.from_ds
+    is_first = frame.subtype == AUTHENTICATION and number(frame.body[2:4]) == 1
+    return is_first or frame.subtype in (PROBE_REQUEST, ASSOCIATION_REQUEST, REASSOCIATION_REQUEST)
 
 
 def changes(bssid: bytes, octets: bytes) -> Iterator[tuple[bytes, Reason]]:
@@ -69,7 +81,12 @@ def of_control(octets: bytes) -> Iterator[tuple[bytes, Reason]]:
 
 
 def of_addresses(bssid: bytes, octets: bytes) -> Iterator[tuple[bytes, Reason]]:
-    """An address with an octet too few or too many."""
+    """Address 1 and Address 2 in the other's place, in a frame that no network sends; or an address with an octet too
+    few or too many."""
+    if is_of_station(Frame(octets)):
+        yield octets[:4] + octets[10:16] + octets[4:10] + octets[16:], Reason(
+            f"Address 1 and Address 2 stand in each other's place: {kind_text(octets)} has its receiver first, then "
+            "its sender", (4, 16), f"write `{octets[10:16].hex()} {octets[4:10].hex()}`")
     for length in (5, 7):
         short, long = sorted((bssid, octets[4:4 + length]), key=len)
         is_one_off = len(long) - len(short) == 1 and any(long[:at] + long[at + 1:] == short for at in range(len(long)))
@@ -89,10 +106,22 @@ def of_fields(bssid: bytes, octets: bytes) -> Iterator[tuple[bytes, Reason]]:
         yield octets[:28] + bssid + octets[28:], Reason(
             "the body of a reassociation request has Capability 2, Listen Interval 2 and Current AP Address 6 before "
             "its elements, and here the address is missing", (28, 29), f"write `{bssid.hex()}` there")
+    address = octets[28:34]
+    if frame.is_management(ASSOCIATION_REQUEST) and (address == bssid or address[:1] > b"\0" and not is_group(address)
+                                                     and address[0] not in ELEMENT_NAMES):
+        yield octets[:28] + octets[34:], Reason(
+            "an address stands before the elements, as in a reassociation request, and an association request has "
+            "Capability 2 and Listen Interval 2 there alone", (28, 34),
+            f"leave `{address.hex()}` out, or write `2000` for `0000`")
     if frame.is_management(ASSOCIATION_REQUEST) or frame.is_management(REASSOCIATION_REQUEST):
         yield octets[:24] + USUAL_CAPABILITY + octets[24:], Reason(
             "two octets are missing before the elements, where Capability Information 2 and Listen Interval 2 stand",
             (24, 26), "write both, as `0100 0a00`")
+        fixed = FIXED_LEN[frame.subtype]
+        yield octets[:24] + (USUAL_FIXED + bssid)[:fixed] + octets[24:], Reason(
+            f"the {fixed} octets before the elements are missing: Capability Information 2, Listen Interval 2" +
+            (", Current AP Address 6" if frame.is_management(REASSOCIATION_REQUEST) else ""), (24, 26),
+            f"write `{(USUAL_FIXED + bssid)[:fixed].hex()}` there")
 
 
 def of_sequence(octets: bytes) -> Iterator[tuple[bytes, Reason]]:

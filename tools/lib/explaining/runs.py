@@ -8,24 +8,27 @@ import called
 from explaining import odd_config
 from explaining.check_sequences import FCS_LEN, LEAST_LEN, ends_with_fcs, octets_too_many
 from explaining.config import NetworkTable, networks_of, number_of
+from explaining.joined import of_joined_frames
+from explaining.kept import of_kept
 from explaining.line_by_line import steps
 from explaining.outcomes import Outcomes, What
-from explaining.source import Finding, Source, quoted
+from explaining.source import Finding, Source, in_order, quoted
+from explaining.spans import place_of
+from explaining.wired_types import TYPES, of_wired_types
 from frames import (ASSOCIATION_REQUEST, ASSOCIATION_RESPONSE, AUTHENTICATION, BROADCAST, DATA, DEAUTHENTICATION,
-                    DISASSOCIATION, HEADER_LEN, MANAGEMENT, REASSOCIATION_REQUEST, REASSOCIATION_RESPONSE, SSID,
-                    Frame, address_text, elements, first_of, is_group, number)
+                    DISASSOCIATION, HEADER_LEN, MANAGEMENT, PROBE_REQUEST, REASSOCIATION_REQUEST,
+                    REASSOCIATION_RESPONSE, SSID, Frame, address_text, elements, first_of, is_group, number)
 from progress import Progress
-from reading import SNAP, hears, unread_kind, wired_unread_kind
+from reading import hears, unread_kind, wired_unread_kind
 from texts import Line, Section, frames_text, read_report, trace_line
 
 MOST_NAMED = 3
 MAKES_TRACES = called.fellow("trace-from-capture")
-TYPES = {bytes.fromhex(digits) for digits in ("0800", "0806", "86dd", "888e")}
 # What has its frame check sequence on, by the word of a line: where it was, and what to do.
 WITH_SEQUENCES = {"A": ("the air", f"{MAKES_TRACES} takes it off; a probe or an association request with it "
                         "is unread, and a unit is passed on with it"),
                   "W": ("a wire", "leave it out: it is passed on as a part of the unit")}
-FIXED_BEFORE_ELEMENTS = {ASSOCIATION_REQUEST: 4, REASSOCIATION_REQUEST: 10}
+FIXED_BEFORE_ELEMENTS = {PROBE_REQUEST: 0, ASSOCIATION_REQUEST: 4, REASSOCIATION_REQUEST: 10}
 KINDS = {"U1": "shorter than a header", "U2": "of another version of the protocol",
          "U3": "of a kind that isn't read (beacons, control and action frames)",
          "U4": "encrypted, fragments, or with an HT Control field",
@@ -79,8 +82,8 @@ class Hearing:
 
 def odd(config: Source, traces: list[Source], output: str, has_separator: bool,
         program: str | None = None) -> list[Finding]:
-    """What is odd, the weightiest first; nothing where all is as it should be. TextError where a text can't be
-    read. Where there is a program, and one trace, it is asked line by line."""
+    """What is odd, in the order of the texts' lines; nothing where all is as it should be. TextError where a text can't
+    be read. Where there is a program, and one trace, it is asked line by line."""
     with Progress(sum(len(trace.lines) for trace in traces)) as progress:
         progress.say("reading the report")
         tables = networks_of(config)
@@ -100,12 +103,13 @@ def odd(config: Source, traces: list[Source], output: str, has_separator: bool,
         for hearing in hearings:
             findings += of_network(hearing, traces, outcomes)
         findings += outcomes.findings() if outcomes else []
-        return findings + of_roaming(hearings) + odd_config.odd(config)
+        asked = {name for name in map(name_asked_for, lines) if name} - {hearing.section.ssid for hearing in hearings}
+        return in_order([*odd_config.odd(config, asked), *findings, *of_roaming(hearings)], config)
 
 
 def outcomes_of(config: Source, trace: Source, lines: list[Line], hearings: list[Hearing], program: str) -> Outcomes:
     """What became of single lines, by what the program answers to each."""
-    outcomes = Outcomes(trace, {hearing.section.bssid: hearing.table for hearing in hearings if hearing.table})
+    outcomes = Outcomes(trace, {hearing.section.bssid: hearing.table for hearing in hearings if hearing.table}, lines)
     first_left = {hearing.section.bssid: hearing.past_history[0].number for hearing in hearings if hearing.past_history}
     count = 0
     for count, step in enumerate(steps(program, config.octets, lines), 1):
@@ -123,13 +127,6 @@ def lines_of(trace: Source, progress: Progress) -> Iterator[Line]:
             yield trace_line(place, line)
 
 
-def place_of(traces: list[Source], line: Line):
-    """Where a line stands, where there is one trace."""
-    if len(traces) != 1:
-        return None
-    return traces[0].place(line.number, 1, len(traces[0].line(line.number).rstrip()))
-
-
 def of_trace(lines: list[Line], hearings: list[Hearing], has_separator: bool, traces: list[Source],
              told: set[int]) -> list[Finding]:
     """What is odd in the trace as a whole; of the lines of these numbers it is told why no network took them."""
@@ -145,6 +142,7 @@ def of_trace(lines: list[Line], hearings: list[Hearing], has_separator: bool, tr
                                 "without it", place_of(traces, front), f"{MAKES_TRACES} takes it off"))
     else:
         findings += of_receivers(frames, hearings, traces, told) + of_ethernet(frames, hearings, traces)
+    findings += of_joined_frames(lines, (hearing.section.bssid for hearing in hearings), traces)
     findings += of_check_sequences(lines, traces) + of_wired_types(lines, traces)
     if not any(line.kind == "T" for line in lines):
         findings.append(Finding("no line `T` begins a beacon interval: no beacon is sent, and units for the group that "
@@ -154,7 +152,7 @@ def of_trace(lines: list[Line], hearings: list[Hearing], has_separator: bool, tr
 
 def of_receivers(frames: list[Line], hearings: list[Hearing], traces: list[Source], told: set[int]) -> list[Finding]:
     """No frame is to any of these networks, or none to some of them; frames that none of them took."""
-    to_one = [line for line in frames if not is_group(line.octets[4:10])]
+    to_one = [line for line in frames if not is_group(line.octets[4:10]) and line.number not in told]
     alone = [hearing for hearing in hearings if not hearing.has_frames_of_its_own()]
     if len(alone) == len(hearings) and to_one:
         return [of_other_networks(to_one, hearings, traces)]
@@ -212,25 +210,6 @@ def of_ethernet(frames: list[Line], hearings: list[Hearing], traces: list[Source
                     f"a frame that came over the wire of a network stands behind `W` and its BSSID, as `W {bssid}`")]
 
 
-def of_wired_types(lines: list[Line], traces: list[Source]) -> list[Finding]:
-    """Frames of a wire with something else where their type stands, which are passed on all the same."""
-    parts = ((lambda octets: octets[12:18] == SNAP, "LLC and SNAP (`aaaa03000000`) stand",
-              "on a wire the type follows the "
-              "addresses at once: leave them out"),
-             (lambda octets: octets[13:11:-1] in TYPES and octets[12:14] not in TYPES,
-              "a type with its octets the wrong way "
-              "round stands", "IPv4 is `0800`, and ARP `0806`"),
-             (lambda octets: octets[12:14] == b"\x45\0", "an IPv4 packet (`4500`) stands",
-              "write the type `0800` before it"))
-    findings = []
-    for is_it, what, advice in parts:
-        found = [line for line in lines if line.kind == "W" and is_it(line.octets)]
-        if found:
-            findings.append(Finding(f"{what} where the type does in {frames_text(len(found))} of a wire: these octets "
-                                    "are passed on as a type", place_of(traces, found[0]), advice))
-    return findings
-
-
 def of_check_sequences(lines: list[Line], traces: list[Source]) -> list[Finding]:
     """Frame check sequences that were left on."""
     findings = []
@@ -284,12 +263,13 @@ def of_network(hearing: Hearing, traces: list[Source], outcomes: Outcomes | None
         quota = hearing.limit("quota")
         findings.append(Finding(f"{hearing.name}: units lost: {section.lost} (above `quota = {quota}`, too old where "
                                 "units age, or without a wired form)"))
-    again = repeated(hearing.heard)
+    unread = {id(line) for lines in hearing.unread.values() for line in lines}
+    again = repeated([line for line in hearing.heard if id(line) not in unread])
     if again:
         findings.append(Finding(f"{hearing.name}: frames sent again: {len(again)} (with Retry 1 and the sequence "
                                 "number that came before: they are taken a second time)", place_of(traces, again[0]),
                                 f"{MAKES_TRACES} leaves them out"))
-    return findings
+    return findings + of_kept(hearing.name, section, hearing.heard, hearing.limit("dtim"))
 
 
 def of_unread(hearing: Hearing, traces: list[Source], outcomes: Outcomes | None) -> list[Finding]:
@@ -298,20 +278,20 @@ def of_unread(hearing: Hearing, traces: list[Source], outcomes: Outcomes | None)
     if not count or count != hearing.section.unread:
         return []
     findings = []
-    frames = [line for line in hearing.heard if line.kind == "A"]
-    data = [line for line in frames if Frame(line.octets).type == DATA]
-    qos = [line for line in hearing.unread.get("U3", []) if line.kind == "A" and Frame(line.octets).is_qos]
+    single = outcomes.numbers_told(What.UNREAD) if outcomes else set()
+    data = [line for line in hearing.heard if line.kind == "A" and Frame(line.octets).type == DATA]
+    summed = {kind: [line for line in lines if line.kind == "A" and line.number not in single]
+              for kind, lines in hearing.unread.items()}
+    qos = [line for line in summed.get("U3", []) if Frame(line.octets).is_qos]
     if qos:
         all_data = "all" if len(qos) == len(data) else f"{len(qos)} of {len(data)}"
         findings.append(Finding(f"{hearing.name}: data frames of QoS (WMM), unread (U3): {all_data}",
                                 place_of(traces, qos[0]), "the program has no QoS: let the stations do without it"))
-    own = [line for line in hearing.unread.get("U6", []) if line.kind == "A"
-           and Frame(line.octets).transmitter == hearing.section.bssid]
+    own = [line for line in summed.get("U6", []) if Frame(line.octets).transmitter == hearing.section.bssid]
     if own:
         findings.append(Finding(f"{hearing.name}: frames that it sent itself, unread (U6): {len(own)}",
                                 place_of(traces, own[0]), "a trace has what the access point heard alone"))
     told = {id(line) for line in (*qos, *own)}
-    single = outcomes.numbers_told(What.UNREAD) if outcomes else set()
     rest = {kind: [line for line in lines if id(line) not in told] for kind, lines in hearing.unread.items()}
     for kind, lines in sorted(rest.items()):
         if len(lines) > 1 or lines and lines[0].number not in single:
@@ -341,8 +321,8 @@ def of_statuses(hearing: Hearing) -> list[Finding]:
         if sent[answer]:
             findings.append(Finding(f"{hearing.name}: {what}: {sent[answer]} ({reason})"))
     if sent[ASSOCIATION_RESPONSE, 1]:
-        names = Counter(name for name in map(name_asked_for, hearing.heard)
-                        if name is not None and name != section.ssid)
+        names = Counter(name for line in hearing.heard if (name := name_asked_for(line)) is not None
+                        and name != section.ssid and not Frame(line.octets).is_management(PROBE_REQUEST))
         asked = ", ".join(quoted(name.decode("utf-8", "replace")) for name, _ in names.most_common(MOST_NAMED))
         findings.append(Finding(f"{hearing.name}: associations refused with status 1: {sent[ASSOCIATION_RESPONSE, 1]} "
                                 f"(they named another SSID{f', {asked},' if asked else ''} than "
@@ -375,9 +355,10 @@ def answer_of(octets: bytes) -> tuple[int, int] | None:
 
 
 def name_asked_for(line: Line) -> bytes | None:
-    """The SSID that an association request names."""
+    """The SSID that a probe or an association request names."""
     frame = Frame(line.octets)
-    if line.kind != "A" or frame.type != MANAGEMENT or frame.subtype not in FIXED_BEFORE_ELEMENTS:
+    if line.kind != "A" or len(line.octets) < HEADER_LEN or frame.type != MANAGEMENT or \
+            frame.subtype not in FIXED_BEFORE_ELEMENTS:
         return None
     listed = elements(frame.body[FIXED_BEFORE_ELEMENTS[frame.subtype]:])
     return first_of(listed, SSID) if listed else None

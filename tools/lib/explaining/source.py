@@ -122,3 +122,11 @@ class Finding:
         """The lines that a person reads."""
         lines = [f"{self.place.name()}: {self.text}", *self.place.shown()] if self.place else [self.text]
         return lines + [f"  {self.advice}"] * (self.advice is not None)
+
+
+def in_order(findings: list[Finding], config: Source) -> list[Finding]:
+    """What is said of the configuration, then of the traces' lines one after the other, then of no line."""
+    def key(finding: Finding) -> tuple[int, int]:
+        place = finding.place
+        return (2, 0) if place is None else (int(place.source is not config), place.line)
+    return sorted(findings, key=key)

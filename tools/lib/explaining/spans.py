@@ -7,6 +7,13 @@ from texts import Line
 BEFORE_DIGITS = re.compile(r"A ?|W +[^ ]+ *")
 
 
+def place_of(traces: list[Source], line: Line):
+    """Where a line stands, where there is one trace."""
+    if len(traces) != 1:
+        return None
+    return traces[0].place(line.number, 1, len(traces[0].line(line.number).rstrip()))
+
+
 def place_of_octets(trace: Source, line: Line, span: tuple[int, int] | None) -> Place:
     """The place of these octets, from one up to another; the whole line where none are named."""
     text = trace.line(line.number).rstrip()

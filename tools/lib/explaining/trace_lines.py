@@ -5,24 +5,28 @@ import re
 import called
 from explaining import values
 from explaining.answers import Fault
+from explaining.joined import of_remark, of_second_line, of_several_intervals, of_table
 from explaining.no_toml import MAGICS, REPORT_LINE, UTF_16
-from explaining.pasted import foreign, foreign_to_trace
+from explaining.pasted import foreign, foreign_to_trace, of_base64, of_python, unfilled
 from explaining.source import Finding, Place, Source, odd_blank, plain_letter, quoted
+from explaining.unheard import is_slip
 
 MOST_OCTETS, MOST_LINES, MOST_NAMED = 4096, 1_000_000, 4
-BETWEEN_DIGITS, MOST_AROUND = ":-,.;|", 20
+BETWEEN_DIGITS, MOST_AROUND = ":-,.;|_", 20
 DIGITS = re.compile("[0-9A-Fa-f]{12,}")
 OTHER_WORDS = {"A": "A", "AIR": "A", "RX": "A", "HEARD": "A", "W": "W", "WIRE": "W", "ETH": "W", "T": "T", "TICK": "T",
                "TBTT": "T", "BEACON": "T"}
-BEFORE_WORD = re.compile(r"((?:(?:->|=>|[>+$|-]) ?|[\d.,:TZ/-]*\d[\d.,:TZ/-]*[:,]? +))(?=[AW] +[0-9A-Fa-f]|T$)")
+BEFORE_WORD = re.compile(r"((?:(?:\d+ *[|:.)] ?|->|=>|[>+$|*\u2022-]) ?|[\d.,:TZ/-]*\d[\d.,:TZ/-]*[:,]? +))"
+                         r"(?=[AW] +[0-9A-Fa-f]|T$)")
 ARRAY = re.compile(r"\s*\{?\s*(?:0x[0-9A-Fa-f]{1,2}\s*,?\s*)+\}?;?|(?:\\x[0-9A-Fa-f]{2})+")
+SAMPLE, MOST_SHOWN = "02:00:00:00:00:01", 60
 NO_QUOTES = str.maketrans("", "", "\"'`")
 BEFORE_FRAME = re.compile("A +([0-9A-Fa-f]{2}(?::[0-9A-Fa-f]{2}){5}) +(?=[0-9A-Fa-f])")
 
 
-def explain(source: Source, fault: Fault, bssids: list[str], is_live: bool = False) -> list[Finding]:
-    """The reason for a fault of a line; none where nothing was found. `bssids` are the networks' addresses as the
-    configuration has them, `is_live` where lines are answered as they come."""
+def explain(source: Source, fault: Fault, names: dict[str, str], is_live: bool = False) -> list[Finding]:
+    """The reason for a fault of a line; none where nothing was found. `names` are the networks' SSIDs by their
+    addresses, as the configuration has them, `is_live` where lines are answered as they come."""
     number = fault.line or 0
     finding = other_file(source)
     if finding:
@@ -40,6 +44,10 @@ def explain(source: Source, fault: Fault, bssids: list[str], is_live: bool = Fal
     odd = odd_blank(source, number)
     if odd and fault.code in ("L1", "L2", "L3", "L4"):
         return [odd]
+    bssids = list(names)
+    named = of_name(source, number, line, names) if fault.code == "L3" else None
+    if named:
+        return [named]
     parts = {"L1": of_word, "L2": of_digits, "L3": of_address, "L4": of_network, "L5": of_length}
     finding = parts[fault.code](source, number, line, bssids) if fault.code in parts else None
     return [finding] if finding else []
@@ -71,10 +79,16 @@ def of_word(source: Source, number: int, line: str, bssids: list[str]) -> Findin
     if line[:1] in " \t":
         return Finding("a line begins with its word, and not with a blank", source.place(number, 1, len(line) -
                        len(line.lstrip())), f"write {quoted(line.strip())}")
+    several = of_several_intervals(line, whole)
+    if several:
+        return several
     if first.rstrip("\r") == "T" or re.fullmatch("T[\r\t].*", line):
         return of_tick(source, number, line)
     if "\r" in line:
         return with_returns(source, number, line)
+    table = of_table(source, number, line)
+    if table:
+        return table
     if "\t" in first:
         return Finding("words are separated by spaces, and this is a TAB", source.place(number, line.index("\t") + 1),
                        "write spaces instead")
@@ -84,6 +98,10 @@ def of_word(source: Source, number: int, line: str, bssids: list[str]) -> Findin
                        source.place(number, 1, len(behind[1].rstrip())), f"write {quoted(line[behind.end(1):])}; a "
                        "remark has a line of its own, before")
     word = OTHER_WORDS.get(first.rstrip(":,").upper())
+    if word == "W" and word != first.upper() and DIGITS.match(rest):
+        return Finding(f"{quoted(first)} is no word of a trace; for a frame on a wire it is `W`, and then the BSSID of "
+                       "the network whose wire it is", place,
+                       f"write {quoted(f'W {bssids[0] if bssids else SAMPLE} {rest}', MOST_SHOWN)}; {having(bssids)}")
     if word and word != first.upper() and not REPORT_LINE.fullmatch(line):
         return Finding(f"{quoted(first)} is no word of a trace; `{word}` is: `A` for a frame on the air, `W` for one "
                        "on a wire, `T` for a beacon "
@@ -132,11 +150,12 @@ def of_other_text(source: Source, number: int, line: str) -> Finding | None:
                        f"write {quoted('# ' + line.strip(';/-!% '))}")
     if ARRAY.fullmatch(line):
         return of_array(source, number, line)
+    shown = of_python(source, number, line, 0)
+    if shown:
+        return shown
     if line.lstrip().startswith(("{", "[")):
         return Finding("this is JSON, and a trace has a line of its own for each frame", place,
                        "write `A` and its digits")
-    if re.match(r"```|~~~", line):
-        return Finding("this marks a piece of code in Markdown, and belongs to no trace", place, "leave the line out")
     if REPORT_LINE.fullmatch(line) or re.match(r"station [0-9a-f:]{17} |end$", line):
         return Finding("this is a line of a report, and no trace", place)
     if re.match(r"[a-z_]+ *= *\S|\[\[?network", line):
@@ -161,8 +180,17 @@ def of_digits(source: Source, number: int, line: str, bssids: list[str]) -> Find
     begin = octets_from(line)
     digits = line[begin:]
     stray = re.search("[^0-9A-Fa-f ]", digits)
+    second = of_second_line(source, number, line)
+    if second:
+        return second
+    if stray and ARRAY.fullmatch(digits):
+        return of_array(source, number, line)
     if stray is None:
         return of_odd_digits(source, number, line, begin)
+    shown = of_python(source, number, line, begin) or of_base64(source, number, line, begin) or \
+        unfilled(source, number, line, begin + stray.start())
+    if shown:
+        return shown
     named = BEFORE_FRAME.match(line)
     if named:
         return Finding("behind `A` the frame follows at once: an address stands there in what `live` answers, and "
@@ -175,6 +203,9 @@ def of_digits(source: Source, number: int, line: str, bssids: list[str]) -> Find
         return Finding("`...` stands for octets that were left out, and a line has all octets of its frame",
                        source.place(
             number, at + 1, 3 if letter == "." else 1), "write them there")
+    remark = of_remark(source, number, line, at)
+    if remark:
+        return remark
     if letter in "hH" and digits[stray.start() - 1:stray.start()].isalnum():
         return Finding(f"digits stand without `{letter}` behind them", place, f"leave each `{letter}` out")
     if letter in "\"'`":
@@ -184,6 +215,14 @@ def of_digits(source: Source, number: int, line: str, bssids: list[str]) -> Find
             number, at + 1, len(line) - at), "move it to a line before this one")
     if letter in "xX" and digits[:stray.start()].endswith("0"):
         return Finding("digits stand without `0x`", source.place(number, at, 2), "leave `0x` out")
+    if letter == "%" and re.search("%[0-9A-Fa-f]{2}%", digits):
+        return Finding("octets are written as in an address of a page (URL), each with `%` before it", place,
+                       f"write {quoted(line.replace('%', ''))}")
+    kinds = re.match("(probe|auth|join|assoc|data|null|poll|leave|deauth|beacon)", digits)
+    if kinds:
+        return Finding(f"behind `A` the frame's octets stand, and {quoted(digits.split(' ')[0])} is a word for it",
+                       source.place(number, begin + 1, len(digits)),
+                       f"{called.fellow('frame')} writes the line of such a frame")
     if letter in BETWEEN_DIGITS:
         word = word_around(digits, stray.start())
         mended = "".join(digit for digit in word if digit not in BETWEEN_DIGITS)
@@ -193,8 +232,12 @@ def of_digits(source: Source, number: int, line: str, bssids: list[str]) -> Find
         return Finding("a TAB among the digits; spaces alone may stand there", place, "write a space")
     if letter == "\r":
         return of_return(source, number, line, place)
+    if letter == "\\" and digits[stray.end():].strip() == "":
+        return Finding("a frame is one line, and a backslash doesn't join it with the next one", place,
+                       "write the next line's digits here")
     like = {"O": "0", "o": "0", "l": "1", "I": "1"}.get(letter) or plain_letter(letter)
-    return Finding(f"{quoted(letter)} is no hexadecimal digit", place, f"write {like}" if like else None)
+    return Finding(f"{quoted(letter)} is no hexadecimal digit", place, f"write {like}" if like else
+                   "a frame is digits of 0 to 9 and a to f, with spaces where you like")
 
 
 def of_return(source: Source, number: int, line: str, place: Place) -> Finding:
@@ -228,6 +271,18 @@ def of_odd_digits(source: Source, number: int, line: str, begin: int) -> Finding
                    f"this group has {len(group[0])}: a digit is missing, or one too many")
 
 
+def of_name(source: Source, number: int, line: str, names: dict[str, str]) -> Finding | None:
+    """A network's SSID behind `W`, with or without quotes."""
+    match = re.match("W +([^ ]+)", line)
+    word = match[1].strip("\"'`") if match else ""
+    owners = [bssid for bssid, name in names.items() if name.lower() == word.lower()]
+    if not match or not owners:
+        return None
+    return Finding(f"after `W` a network is named by its address, and {quoted(word)} is the SSID of "
+                   f"{' and '.join(owners)}",
+                   source.place(number, match.start(1) + 1, len(match[1])), f"write `W {owners[0]}`")
+
+
 def of_address(source: Source, number: int, line: str, bssids: list[str]) -> Finding | None:
     """L3: the address after `W`."""
     match = re.match(r"W +([^ ]*)", line)
@@ -238,6 +293,9 @@ def of_address(source: Source, number: int, line: str, bssids: list[str]) -> Fin
     fault = values.address_fault(word)
     if not fault:
         return None
+    empty = unfilled(source, number, line, match.start(1), having(bssids) if bssids else None)
+    if empty:
+        return empty
     if not re.search("[:.-]", word) and re.search("[^0-9A-Fa-f]", word):
         return Finding(f"after `W` a network is named by its address, and {quoted(word)} is none",
                        source.place(number, match.start(1) + 1, len(word)), having(bssids) if bssids else None)
@@ -261,7 +319,8 @@ def of_network(source: Source, number: int, line: str, bssids: list[str]) -> Fin
     match = re.match(r"W +([^ ]+)", line)
     if not match or match[1].lower() in (bssid.lower() for bssid in bssids):
         return None
-    close = difflib.get_close_matches(match[1].lower(), [bssid.lower() for bssid in bssids], 1, 0.8)
+    word, listed = match[1].lower(), [bssid.lower() for bssid in bssids]
+    close = [bssid for bssid in listed if is_slip(word, bssid)] or difflib.get_close_matches(word, listed, 1, 0.8)
     has = having(bssids)
     return Finding(f"no network of the configuration has the address {match[1]}",
                    source.place(number, match.start(1) + 1, len(match[1])),

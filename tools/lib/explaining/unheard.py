@@ -24,12 +24,17 @@ def unheard(octets: bytes, networks: dict[bytes, str]) -> Reason | None:
         return Reason(f"it is to {address_word(frame.receiver)} and from {networks[frame.transmitter]}: a network "
                       "sends this, and a trace has what networks hear", (4, 10),
                       "a station's frame has the BSSID as Address 1 and the station as Address 2")
+    if frame.receiver == frame.transmitter:
+        bssid = next((bssid for bssid in networks if bssid == frame.third), next(iter(networks)))
+        return Reason(f"Address 1 is {address_text(frame.receiver)}, which is its sender, Address 2, too: the "
+                      "network's BSSID stands there", (4, 10), f"write `{bssid.hex()}`")
     like = nearest(frame.receiver, networks)
     if like is None:
         return None
-    return Reason(f"Address 1 is {address_text(frame.receiver)}, and {networks[like]} has {address_text(like)}",
-                  (4, 10),
-                  f"write `{like.hex()}`")
+    turned = ": its octets stand the wrong way round, and so may those of the other addresses" * \
+        (frame.receiver == like[::-1])
+    return Reason(f"Address 1 is {address_text(frame.receiver)}, and {networks[like]} has {address_text(like)}{turned}",
+                  (4, 10), f"write `{like.hex()}`")
 
 
 def nearest(address: bytes, others: Iterable[bytes]) -> bytes | None:

@@ -58,8 +58,10 @@ def flags(_: bytes, octets: bytes) -> Reason:
     """U4."""
     wrong = [FLAGS[bit] for bit in (2, 6, 7) if octets[1] >> bit & 1]
     if wrong:
-        said = "it is encrypted (Protected Frame is 1)" if "Protected Frame" in wrong else f"{' and '.join(wrong)} is 1"
-        return Reason(said, (1, 2), f"without it the octet is `{octets[1] & 0x3B:02x}`")
+        if "Protected Frame" in wrong:
+            return Reason("it is encrypted (Protected Frame is 1)", (1, 2), "these networks have no encryption: what a "
+                          f"station sends without it has `{octets[1] & 0x3B:02x}` there, and another body")
+        return Reason(f"{' and '.join(wrong)} is 1", (1, 2), f"without it the octet is `{octets[1] & 0x3B:02x}`")
     return Reason(f"Sequence Control `{octets[22:24].hex()}` says fragment {octets[22] & 0xF}, and fragments aren't "
                   "read",
                   (22, 24))

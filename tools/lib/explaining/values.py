@@ -10,6 +10,7 @@ MEGABITS = (1, 2, 5.5, 6, 9, 11, 12, 18, 22, 24, 33, 36, 48, 54)
 DSSS, DSSS_BASIC, OFDM_BASIC = (1, 2, 5.5, 11), (1, 2), (6, 12, 24)
 FIRST_MHZ, LAST_MHZ, JAPANESE_MHZ = 2412, 2472, 2484
 NUMBER = re.compile(r"\d+(?:\.\d+)?")
+THOUSANDS = re.compile(r"[1-9]\d{0,2}(?:\.\d{3})+")
 
 
 def address_fault(text: str) -> tuple[str, tuple[int, int], str | None] | None:
@@ -44,6 +45,35 @@ def address_fault(text: str) -> tuple[str, tuple[int, int], str | None] | None:
     if mended:
         return "an address has its six pairs with `:` between", whole, mended
     return f"an address has six pairs of hexadecimal digits, and this has {len(digits)} digits", whole, None
+
+
+def bssid_fault(bssid: str, ssid: str | None) -> tuple[str, tuple[int, int], str | None] | None:
+    """What is wrong with the form of a network's address, as `address_fault` says it, or that its name stands there."""
+    fault = address_fault(bssid)
+    if fault is None or ssid is None or address_fault(ssid) is not None:
+        return fault
+    return (f"{quoted(bssid)} is no address, and `ssid` is one: each of the two has the other's value", (0, len(bssid)),
+            ssid)
+
+
+def truth_of(text: str) -> str | None:
+    """The truth value that a text or a number is meant as; None where it is none."""
+    is_true, is_false = text.lower() in ("1", "true", "yes", "on"), text.lower() in ("0", "false", "no", "off")
+    return "true" if is_true else "false" if is_false else None
+
+
+def letters_of(number: str) -> str | None:
+    """The letters whose octets a hexadecimal number has; None where it is none, or has others."""
+    digits = number[2:] if number[:2].lower() == "0x" else ""
+    if not digits or len(digits) % 2 or re.search("[^0-9A-Fa-f]", digits):
+        return None
+    octets = bytes.fromhex(digits)
+    return octets.decode() if octets.isascii() and octets.decode().isprintable() and b'"' not in octets else None
+
+
+def without_dots(number: str) -> str | None:
+    """A whole number that is written with a dot before each three digits; None where it isn't."""
+    return number.replace(".", "") if THOUSANDS.fullmatch(number) else None
 
 
 def single_address(text: str) -> str:

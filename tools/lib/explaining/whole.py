@@ -103,12 +103,12 @@ def findings_of(texts: Texts, fault: Fault) -> list[Finding]:
     if fault.code.startswith("C"):
         return config.explain(texts.config, fault) if texts.config else []
     if fault.code.startswith("L") and texts.records is not None:
-        return octet_records.explain(texts.records, fault, bssids_of(texts))
+        return octet_records.explain(texts.records, fault, list(names_of(texts)))
     if fault.code.startswith("L"):
         place = fault.trace or 0
         trace = texts.traces[place] if place < len(texts.traces) else None
         is_live = texts.words[:1] == ["live"]
-        return trace_lines.explain(trace, fault, bssids_of(texts), is_live) if trace else []
+        return trace_lines.explain(trace, fault, names_of(texts), is_live) if trace else []
     return words.explain(fault, texts.words)
 
 
@@ -124,14 +124,14 @@ def of_order(texts: Texts) -> Finding | None:
                    f"write `run {names[1]} {names[0]}`")
 
 
-def bssids_of(texts: Texts) -> list[str]:
-    """The networks' addresses as the configuration has them."""
+def names_of(texts: Texts) -> dict[str, str]:
+    """The networks' SSIDs by their addresses, as the configuration has both."""
     try:
         networks = config.Config(texts.config).networks if texts.config else []
     except (NoToml, RecursionError):
-        return []
-    entries = [network.entries.get("bssid") for network in networks]
-    return [str(entry.value.worth) for entry in entries if entry]
+        return {}
+    pairs = [(network.entries.get("bssid"), network.entries.get("ssid")) for network in networks]
+    return {str(bssid.value.worth): str(ssid.value.worth) for bssid, ssid in pairs if bssid and ssid}
 
 
 def of_good_run(texts: Texts, answer: Answer) -> list[str]:

@@ -9,14 +9,15 @@ from explaining.unheard import unheard
 from explaining.unread import unread, wired_unread
 from fields import Field, fields_on_air, fields_on_wire
 from framing.networks import Network, Networks
-from framing.words import words_of
+from framing.words import words_of, words_of_wired
 from frames import BROADCAST, address_of
 from in_words import heard_text, sent_text, wired_text
 from reading import hears, unread_kind, wired_unread_kind
-from writing import NOBODY, wanted_of
+from writing import KINDS, NOBODY, WIRED, wanted_of
 
 # The words before the digits in a trace, in a report, and in what `live` answers.
-HEARD, WIRE, SENT, SENT_ON_WIRE = "A", "W", "air", "wire"
+HEARD, WIRE, SENT, SENT_ON_WIRE, TICK = "A", "W", "air", "wire", "T"
+KINDS_TEXT = ", ".join(KINDS)
 ADDRESS = re.compile("[0-9A-Fa-f]{2}(?::[0-9A-Fa-f]{2}){5}")
 MOST_DIGITS = 32  # shown of one field
 
@@ -42,6 +43,11 @@ def lines_for(words: list[str], networks: Networks) -> list[str]:
 def octets_of(digits: str) -> bytes:
     """The octets of digits. NoFrame where they are none."""
     stray = re.search("[^0-9A-Fa-f]", digits)
+    if digits == TICK:
+        raise NoFrame("a line `T` has no frame: it begins a beacon interval in every network")
+    if stray and ADDRESS.search(digits):
+        raise NoFrame(f"no frame begins so; KIND STATION NETWORK writes one, where KIND is {KINDS_TEXT}, and `{WIRED}` "
+                      "for a line `W`")
     if stray:
         raise NoFrame(f"`{stray[0]}` is no hexadecimal digit, nor is a word before it one of a trace or a report")
     if not digits or len(digits) % 2:
@@ -102,5 +108,6 @@ def wired_lines(octets: bytes, bssid: bytes | None, word: str) -> list[str]:
         return [f"{wired_text(octets)}, which a network put on its wire"]
     reason = wired_unread(bssid or NOBODY, octets)
     if reason is None:
-        return [f"a network reads it: {wired_text(octets)}"]
+        by = [f"written by: {called.fellow('frame')} {words_of_wired(bssid, octets)}"] if bssid else []
+        return [f"a network reads it: {wired_text(octets)}", *by]
     return reason_lines(f"a network can't read it ({wired_unread_kind(octets)})", reason)

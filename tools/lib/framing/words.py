@@ -4,7 +4,8 @@ import shlex
 
 from framing.networks import ALL, Network, Networks, NoNetwork
 from frames import BROADCAST, address_of, address_text
-from writing import KINDS, TWO_HIGH_BITS, USUAL_LISTEN, USUAL_PAYLOAD, Wanted, rest_of, two
+from writing import (KINDS, NOBODY, TWO_HIGH_BITS, USUAL_HOST, USUAL_LISTEN, USUAL_PAYLOAD, WIRED, Wanted, WiredFrame,
+                     rest_of, two)
 
 MOST = {"sequence": 4095, "aid": 0x3FFF}
 HELP = {"probe": "asks which networks are there", "auth": "authenticates", "join": "asks to associate",
@@ -47,7 +48,9 @@ OPTIONS = {
     "algorithm": (number, "N", "the algorithm (0, Open System)"), "number": (number, "N", "the sequence number (1)"),
     "reason": (number, "N", "the reason (3, the station leaves)"), "aid": (number, "N", "the station's identifier (1)"),
     "aid-octets": (digits, "HEX", "the field AID as two octets, in place of --aid"),
-    "payload": (digits, "HEX", f"type and payload behind LLC and SNAP ({USUAL_PAYLOAD.hex()}, a stub of IPv4)"),
+    "payload": (digits, "HEX", "the type and what follows it, behind LLC and SNAP, or on a wire behind the addresses "
+                f"({USUAL_PAYLOAD.hex()}, a stub of IPv4)"),
+    "from": (address, "ADDRESS", f"the host that sends it ({address_text(USUAL_HOST)})"),
     "to": (address, "ADDRESS", "Address 3: of data the destination (all), else the BSSID"),
     "body": (digits, "HEX", "what follows the header, in place of all that"),
     "duration": (number, "N", "Duration (0)"), "sequence": (number, "N", "the sequence number of the frame (0)")}
@@ -70,6 +73,40 @@ def add_kinds(parsers) -> None:
             parser.add_argument(f"--{name}", metavar=shown, type=type_of, help=said)
         for name, said in FLAGS.items():
             parser.add_argument(f"--{name}", action="store_true", help=said)
+
+
+    add_wired(parsers)
+
+
+def add_wired(parsers) -> None:
+    """The parser of a frame that comes over a wire."""
+    parser = parsers.add_parser(WIRED, help="a host sends a unit over the wire", description="A host on the wire of a "
+                                "network sends a unit to a station.")
+    parser.add_argument("station", metavar="STATION", type=address, help="the station's address, or `all`")
+    parser.add_argument("network", metavar="NETWORK", help="a BSSID, or with --config an SSID")
+    parser.add_argument("--config", metavar="CONFIG", help="the configuration that has the network")
+    for name in ("from", "payload"):
+        type_of, shown, said_of = OPTIONS[name]
+        parser.add_argument(f"--{name}", metavar=shown, type=type_of, help=said_of)
+
+
+def wired(asked: argparse.Namespace, networks: Networks) -> WiredFrame:
+    """What the words of a frame on a wire ask for."""
+    network, source = networks.named(asked.network), getattr(asked, "from")
+    if network.bssid == BROADCAST:
+        raise NoNetwork("a frame comes over the wire of one network, and not of all")
+    return WiredFrame(network.bssid, asked.station, USUAL_HOST if source is None else source,
+                      USUAL_PAYLOAD if asked.payload is None else asked.payload)
+
+
+def words_of_wired(bssid: bytes, octets: bytes) -> str:
+    """The words that write a frame of a wire again, without the tool's name."""
+    ends = len(NOBODY), 2 * len(NOBODY)
+    frame = WiredFrame(bssid, octets[:ends[0]], octets[ends[0]:ends[1]], octets[ends[1]:])
+    to = ALL if frame.destination == BROADCAST else address_text(frame.destination)
+    words = [WIRED, to, address_text(bssid)]
+    words += ["--from", address_text(frame.source)] * (frame.source != USUAL_HOST)
+    return shlex.join(words + ["--payload", frame.payload.hex()] * (frame.payload != USUAL_PAYLOAD))
 
 
 def wanted(asked: argparse.Namespace, networks: Networks) -> Wanted:

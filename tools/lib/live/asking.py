@@ -7,8 +7,8 @@ from contextlib import ExitStack
 
 from live import changes
 from live.faults import Fault
-
-SECONDS = 5.0
+from status.asking import SECONDS, answer_of
+from status.document import printable
 
 
 def socket_path(phy: str) -> str:
@@ -50,16 +50,13 @@ def ask(phy: str | None, question: str) -> dict:
     """What a bridge that runs answers to a question; its error is a fault."""
     path = socket_path(phy or sole_phy())
     try:
-        with socket.socket(socket.AF_UNIX, socket.SOCK_STREAM) as asking:
-            asking.settimeout(SECONDS)
-            asking.connect(path)
-            asking.sendall(f"{question}\n".encode())
-            with asking.makefile(encoding="utf-8") as file:
-                answer = json.loads(file.readline())
+        answer = json.loads(answer_of(path, question))
     except TimeoutError:
         raise Fault(f"{path}: no answer within {SECONDS:.0f} seconds") from None
     except (OSError, ValueError) as fault:
         raise Fault(f"{path}: no bridge answers: {fault}") from None
+    if not isinstance(answer, dict):
+        raise Fault(f"{path}: no bridge answers: its answer is no object")
     if "error" in answer:
-        raise Fault(answer["error"])
+        raise Fault(printable(str(answer["error"])))
     return answer

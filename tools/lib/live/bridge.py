@@ -6,6 +6,7 @@ import subprocess
 import time
 from collections.abc import Iterable
 from contextlib import ExitStack, suppress
+from enum import IntEnum
 from typing import Protocol
 
 import called
@@ -19,9 +20,11 @@ from live.telling import tell
 SECONDS_TO_END, SECONDS_TO_DISMISS = 60, 5
 FIRST = ("nice", "-n", "-15")  # before this machine's other programs: stations wait for what these two send
 ENDING = (signal.SIGINT, signal.SIGTERM)
+MOST_OCTETS = 4096  # of a line that it tells, and of a piece that is read
+MOST_DIGITS = 10  # of a number that it tells
+MOST_NETWORKS = 16
+MOST_SHOWN = 80  # characters of a line that is shown
 STATE, OPEN, WIRE, TABLES, DISMISS = "state", "open", "wire", "tables", "dismiss"
-PROGRAM_ENDED = "the program ended by itself"
-SENDS_NOTHING = "this radio does not send beside its interfaces"
 FORBIDDEN_CALL = 128 + signal.SIGSYS  # the status of a program that made a call that it may not make
 
 
@@ -39,6 +42,13 @@ class Notice:
     READY, SENDING, ALIVE, DOWN, DISMISSED = "ready", "sending", "alive", "down", "dismissed"
     UNSENT, ELSEWHERE, HERE = "unsent", "elsewhere", "here"
     STATUS, FAULT = "status", "fault"
+
+
+class FaultCode(IntEnum):
+    """The numbers of the faults by which it is decided what comes next, as `Fault::code` of the bridge has them
+    (tools/bridge/src/control/faults.rs)."""
+
+    PROGRAM_ENDED, SENDS_NOTHING = 4, 8
 
 
 class Signals:
@@ -83,22 +93,29 @@ class Signals:
 def network_word(network: Network, wires: dict[bytes, str], shares: dict[bytes, int]) -> str:
     """What the bridge is told of a network."""
     parts = [address_text(network.bssid), network.ssid.hex(), network.rates.hex(), str(network.max_stations),
-             str(network.max_known), str(shares.get(network.bssid, 1))]
+             str(network.max_known), str(network.quota), str(shares.get(network.bssid, 1))]
     return "/".join(parts + [wires[network.bssid]] if network.bssid in wires else parts)
 
 
 def words_of(wanted: Wanted, plan: Plan, descriptor: int, record: tuple[int, str] | None, tells_alive: bool,
-             memory: int | None) -> list[str]:
+             memory: int | None, sends: bool = False) -> list[str]:
     """The words by which the bridge is started, with the descriptor of the socket by which it is asked, that of the record
-    with its name, and how many octets of address space the program has, where it runs within bounds."""
+    with its name, and how many octets of address space the program has, where it runs within bounds; `sends` says that
+    an earlier bridge saw the radio send as it is set up."""
     settings = plan.settings
     words = [wanted.bridge, "--name", called.name(), "--phy", wanted.phy,
              "--channel", str(settings.channel), "--monitor", wanted.monitor, "--interval", str(settings.interval),
              "--by", plan.way.value, "--idle", str(wanted.idle), "--socket", str(descriptor)]
+    if not wanted.tells_wires:
+        words += ["--no-update"]
     if tells_alive:
         words += ["--alive"]
+    if sends:
+        words += ["--sends"]
     if record is not None:
         words += ["--record", f"{record[0]}:{record[1]}"]
+        if wanted.record_limit is not None:
+            words += ["--record-limit", str(wanted.record_limit)]
     if memory is not None:
         words += ["--bounds", str(memory)]
     for network in settings.networks:
@@ -121,6 +138,7 @@ class Bridge:
         self.elsewhere: int | None = None  # the frequency on which it hears, where that isn't the channel's
         self.status: int | None = None
         self.fault: str | None = None
+        self.fault_code: int | None = None
         self.control, theirs = socket.socketpair()
         stack.callback(self.control.close)
         with theirs:
@@ -165,16 +183,27 @@ class Bridge:
         self.signals.drain()
         if self.control in readable:
             try:
-                piece = self.control.recv(4096)
+                piece = self.control.recv(MOST_OCTETS)
             except ConnectionResetError:  # it has ended, and left unread what it was asked
                 piece = b""
             self.is_over = not piece
             *lines, self.notices = (self.notices + piece).split(b"\n")
             for line in lines:
-                self.take(*line.decode("utf-8", "replace").partition(" ")[::2])
+                self.take_line(line.decode("utf-8", "replace"))
+            if len(self.notices) > MOST_OCTETS:
+                self.notices = b""
+                self.fault = self.fault or f"the bridge told a line of more than {MOST_OCTETS} octets"
+
+    def take_line(self, line: str) -> None:
+        """Takes a line that it tells. One that it can't have told by itself is a fault, and ends it: it may be one that a
+        stranger has taken over."""
+        try:
+            self.take(*line.partition(" ")[::2])
+        except ValueError:
+            self.fault = self.fault or f"the bridge told what it never tells: {line[:MOST_SHOWN]!r}"
 
     def take(self, word: str, rest: str) -> None:
-        """Takes what it tells."""
+        """Takes what it tells. A ValueError where a number is none."""
         match word:
             case Notice.READY:
                 self.is_ready = True
@@ -183,24 +212,32 @@ class Bridge:
             case Notice.UNSENT:
                 self.is_unsent = True
             case Notice.ELSEWHERE:
-                self.elsewhere = int(rest)
+                self.elsewhere = number_of(rest)
             case Notice.HERE:
                 self.elsewhere = None
             case Notice.ALIVE:
                 self.alive += 1
             case Notice.DOWN:
-                self.down.append(int(rest))
+                self.went_down(number_of(rest))
             case Notice.DISMISSED:
                 self.was_dismissed = True
             case Notice.STATUS:
-                self.status = int(rest)
+                self.status = number_of(rest)
             case Notice.FAULT:
-                self.fault = rest
+                code, _, fault = rest.partition(" ")
+                self.fault_code, self.fault = number_of(code), fault
+
+    def went_down(self, place: int) -> None:
+        """The wire of the network of this place has ended. A ValueError where there can be no such network."""
+        if place >= MOST_NETWORKS:
+            raise ValueError(place)
+        if place not in self.down:
+            self.down.append(place)
 
     @property
     def sends_nothing(self) -> bool:
         """Whether it has ended since the radio sends nothing in the way in which it was set up."""
-        return self.fault is not None and self.fault.startswith(SENDS_NOTHING)
+        return self.fault_code == FaultCode.SENDS_NOTHING
 
     def has_to_go_on(self) -> bool:
         """Whether neither a signal nor a fault ended it."""
@@ -227,13 +264,15 @@ class Bridge:
             self.wait(until - time.monotonic())
         if not self.is_over:
             self.send_kill()
+        self.is_over = True
+        self.control.close()
         return self.process.wait()
 
     def reason_to_begin_anew(self) -> str | None:
         """Why another one takes its place, where it or the program has ended by itself; nothing where all ends: it told
         another fault, or one of them made a call that it may not make, as one does that a stranger has taken over."""
         status = self.await_end()
-        if self.fault == PROGRAM_ENDED and self.status != FORBIDDEN_CALL:
+        if self.fault_code == FaultCode.PROGRAM_ENDED and self.status != FORBIDDEN_CALL:
             return f"the program ended by itself, with status {self.status}"
         if self.fault is None and status < 0 and status != -signal.SIGSYS:
             return f"the bridge ended by itself, {reason_of(status)}"
@@ -246,6 +285,13 @@ class Bridge:
             tell(f"the program ended with status {self.status}; {afterwards}")
         if self.fault is not None or status != 0:
             raise Fault(self.fault or f"the bridge ended by itself, {reason_of(status)}; {afterwards}")
+
+
+def number_of(text: str) -> int:
+    """The number that a word of the bridge is: decimal digits, ten at most. A ValueError for any other word."""
+    if not (text.isascii() and text.isdigit() and len(text) <= MOST_DIGITS):
+        raise ValueError(text)
+    return int(text)
 
 
 def reason_of(status: int) -> str:

@@ -62,6 +62,25 @@ class Change:
                 return Interface(self.name).exists
 
 
+def read_changes(path: str) -> list[Change]:
+    """What the file of a radio lists; nothing where there is none."""
+    try:
+        with open(path, encoding="utf-8") as file:
+            return [Change(kind, name, tuple(more)) for kind, name, more in json.load(file)]
+    except FileNotFoundError:
+        return []
+    except PermissionError as fault:
+        raise Fault(f"{path}: {fault.strerror}: run it as root (sudo)") from None
+    except (OSError, ValueError, TypeError) as fault:
+        raise Fault(f"{path}: not read: {fault}; take it away where no {called.fellow('live')} runs") from None
+
+
+def interfaces_made(phy: str) -> list[str]:
+    """The interfaces of a radio that an access point has made, which runs, or has left them for the next start."""
+    found = read_changes(os.path.join(RUN, f"{phy}.made"))
+    return [change.name for change in found if change.kind == INTERFACE and change.is_left(phy)]
+
+
 def remove_file(path: str) -> None:
     """Removes a file, and its folders that nothing else is in."""
     os.unlink(path)
@@ -101,7 +120,7 @@ class Changes:
             self.close()
             raise Fault(f"{phy}: another {called.fellow('live')} serves this radio") from None
         try:
-            self.left = self.read()
+            self.left = read_changes(self.path)
             self.handed_on = self.take_away_stay()
         except Fault:
             self.close()
@@ -164,16 +183,6 @@ class Changes:
     def close(self) -> None:
         """Lets another have the radio."""
         self.lock.close()
-
-    def read(self) -> list[Change]:
-        """What the file lists."""
-        try:
-            with open(self.path, encoding="utf-8") as file:
-                return [Change(kind, name, tuple(more)) for kind, name, more in json.load(file)]
-        except FileNotFoundError:
-            return []
-        except (OSError, ValueError, TypeError) as fault:
-            raise Fault(f"{self.path}: not read: {fault}; take it away where no {called.fellow('live')} runs") from None
 
     def write(self) -> None:
         """Writes the file anew, so that it is whole at any moment; without changes there is none."""

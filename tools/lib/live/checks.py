@@ -2,11 +2,10 @@
 import os
 import re
 import shutil
-import socket
 import subprocess
 import time
 from contextlib import ExitStack
-from dataclasses import dataclass, replace
+from dataclasses import dataclass
 
 import called
 from explaining.whole import explain_config
@@ -15,17 +14,18 @@ from live import changes, machine
 from live.changes import Change, Changes
 from live.faults import Fault
 from live.machine import Interface
+from live.other_programs import advice, in_the_way
 from live.phys import Phy
 from live.settings import MOST_EVENTS, Settings, read_settings
 from live.telling import tell
-from live.ways import Way, this_kernel, ways_of
+from live.ways import Way, this_kernel, ways_again, ways_of
+from status.names import Names
 
 Wires = tuple[tuple[bytes, str], ...]
 Shares = tuple[tuple[bytes, int], ...]
 MOST_WEIGHT = 16
 MOST_NAME = 15
 COUNTRY_SECONDS = 3.0
-LOCAL = "127.0.0.1"
 SET_UP = 2  # the number of the way in which `setting_up` sets up a radio; another way has another number
 # Of a checkout of the source; an installation has none.
 MAKEFILE = os.path.join(os.path.dirname(os.path.realpath(__file__)), "..", "..", "..", "Makefile")
@@ -39,7 +39,9 @@ class Wanted:
     """What the words ask for; `wires` are pairs of a BSSID and an interface, and more of them stand in the file
     `wires_file`; `shares` are pairs of a BSSID and the weight of its share of the air, which is 1 of all others. Stations
     of which nothing was heard for `idle` seconds are asked, with 0 nobody is. With `as_root` the bridge and the program
-    run as root, and the program without bounds. `way` forces the kind of interfaces that the networks have."""
+    run as root, and the program without bounds. `way` forces the kind of interfaces that the networks have. The page has
+    names of stations of the file `names`. A record has at most `record_limit` octets, where it has a limit. With
+    `tells_wires` a network's wire learns which stations join."""
 
     config: str
     program: str
@@ -56,6 +58,9 @@ class Wanted:
     shares: Shares = ()
     as_root: bool = False
     way: Way | None = None
+    names: str | None = None
+    record_limit: int | None = None
+    tells_wires: bool = True
 
     def network_interface(self, place: int) -> str:
         """The interface that stands for the network of this place, so that the radio acknowledges what comes to it."""
@@ -92,7 +97,7 @@ def check(wanted: Wanted, made: Changes, stack: ExitStack) -> Plan:
     wires = wanted.wires + read_wires(wanted.wires_file)
     check_wires(wanted, settings, wires)
     check_shares(wanted, settings)
-    check_port(wanted.status)
+    check_station_names(wanted.names)
     check_record(wanted, settings)
     ways = check_radio(wanted, settings, made, stack)
     return Plan(settings, wires, wanted.shares, ways)
@@ -117,9 +122,9 @@ def check_again(wanted: Wanted, before: Plan) -> Plan:
         if Interface(name).exists:
             raise Fault(f"{name}: there already, and not of this bridge")
     phy = machine.phy_of(wanted.phy)
-    ways_of(wanted.phy, phy, this_kernel(), len(settings.networks), before.way)
+    ways = ways_again(wanted.phy, phy, this_kernel(), len(settings.networks), wanted.way, before.way)
     check_channel(phy, settings)
-    return replace(before, settings=settings, wires=wires, shares=shares)
+    return Plan(settings, wires, shares, ways)
 
 
 def check_rights() -> None:
@@ -259,12 +264,8 @@ def check_radio(wanted: Wanted, settings: Settings, made: Changes, stack: ExitSt
         stack.callback(made.take_back_rest)
     else:
         made.take_back_left()
-    handed = made.handed_interfaces()
-    for interface in machine.interfaces():
-        if interface.radio == wanted.phy and interface.is_up and interface.name not in handed:
-            raise Fault(f"{wanted.phy} has the interface {interface.name}, which is up: keep NetworkManager from it by "
-                        f"`nmcli device set {interface.name} managed no` where that runs, and then `ip link set "
-                        f"{interface.name} down`")
+    for interface in in_the_way(wanted.phy, made.handed_interfaces()):
+        raise Fault(f"{wanted.phy} has the interface {interface.name}, which is up: {advice(interface, wanted.phy)}")
     set_country(wanted.country, made, stack)
     check_channel(machine.phy_of(wanted.phy), settings)
     return ways
@@ -329,15 +330,13 @@ def set_country(country: str | None, made: Changes, stack: ExitStack) -> None:
         time.sleep(0.1)
 
 
-def check_port(port: int | None) -> None:
-    """Nothing else may be served at this port."""
-    if port is not None:
-        with socket.socket() as trying:
-            try:
-                trying.setsockopt(socket.SOL_SOCKET, socket.SO_REUSEADDR, 1)
-                trying.bind((LOCAL, port))
-            except OSError as fault:
-                raise Fault(f"--status {port}: {fault.strerror}") from None
+def check_station_names(path: str | None) -> None:
+    """The file of the names of stations has to be read."""
+    try:
+        if path is not None:
+            Names(path)
+    except (OSError, ValueError) as fault:
+        raise Fault(f"--names: {fault}") from None
 
 
 def check_channel(phy: Phy, settings: Settings) -> None:

@@ -1,9 +1,12 @@
 """What a radio can do for an access point, told before it is one; nothing is changed."""
 from dataclasses import dataclass
 
+import called
 from live import machine
+from live.changes import interfaces_made
 from live.drivers import Driver, Used, driver_of, known
 from live.faults import Fault
+from live.other_programs import advice, in_the_way
 from live.phys import Phy
 from live.ways import MODES, Way, this_kernel, ways_of
 
@@ -52,9 +55,11 @@ def report(name: str, forced: Way | None) -> tuple[list[str], list[str]]:
     lines.append(f"channels that may be used: {' '.join(map(str, usable)) or 'none'} (country {machine.country()})")
     if not usable:
         missing.append("no channel from 1 to 14 may be used: set the country by --country or `iw reg set`")
-    missing += [f"{interface.name} is up, another interface of this radio: `ip link set {interface.name} down`, and keep "
-                "what has set it up away from the radio" for interface in machine.interfaces()
-                if interface.radio == name and interface.is_up and not interface.is_monitor]
+    own = interfaces_made(name)
+    lines += [f"{called.fellow('live')} has made {', '.join(own)} on it: it serves by these, or else the next start goes on "
+              "with them or removes them"] if own else []
+    missing += [f"{interface.name} is up, another interface of this radio: {advice(interface, name)}"
+                for interface in in_the_way(name, own)]
     return lines, missing
 
 

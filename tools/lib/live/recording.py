@@ -1,6 +1,7 @@
 """The file of the record, which has every network's traffic: it is made here, for its owner's eyes alone, and handed to
 the bridge as a descriptor."""
 import os
+import re
 
 from live.faults import Fault
 
@@ -8,6 +9,18 @@ MOST_RECORDS = 10_000  # of one name
 # A name that is there is never opened, whatever stands behind it, a symbolic link included (open(2)).
 FLAGS = os.O_WRONLY | os.O_CREAT | os.O_EXCL | os.O_NOFOLLOW | os.O_CLOEXEC
 MODE = 0o600
+SIZE = re.compile(r"([0-9]{1,15})([KMG]?)")
+UNITS = {"": 1, "K": 1 << 10, "M": 1 << 20, "G": 1 << 30}
+MOST_SIZE = (1 << 63) - 1  # of a file
+
+
+def size_of(text: str) -> int:
+    """The octets of a size as 500M, above 0; a ValueError where it is none."""
+    found = SIZE.fullmatch(text)
+    size = int(found[1]) * UNITS[found[2]] if found else 0
+    if not 0 < size <= MOST_SIZE:
+        raise ValueError(text)
+    return size
 
 
 def make_record(path: str) -> tuple[int, str]:

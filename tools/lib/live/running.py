@@ -13,6 +13,7 @@ from live.faults import Fault
 SECONDS = 60.0
 LOOK_SECONDS = 0.05
 MODE = 0o600
+STARTED = 19  # its place behind the name in /proc/PID/stat (proc(5))
 
 
 def run_path(phy: str) -> str:
@@ -41,7 +42,7 @@ class RunFile:
         """Writes it anew, so that it is whole at any moment."""
         with open(os.open(f"{self.path}.new", os.O_WRONLY | os.O_CREAT | os.O_TRUNC | os.O_NOFOLLOW, MODE), "w",
                   encoding="utf-8") as file:
-            json.dump({"pid": os.getpid(), "config": os.path.realpath(self.wanted.config),
+            json.dump({"pid": os.getpid(), "started": start_of(os.getpid()), "config": os.path.realpath(self.wanted.config),
                        "program": os.path.realpath(self.wanted.program), "reloads": self.reloads,
                        "fault": self.fault}, file)
         os.replace(f"{self.path}.new", self.path)
@@ -52,13 +53,20 @@ class RunFile:
             os.unlink(self.path)
 
 
+def start_of(process: int) -> int:
+    """When a process began, in ticks since the machine did: with its number that is one process alone."""
+    with open(f"/proc/{process}/stat", encoding="utf-8", errors="replace") as file:
+        return int(file.read().rpartition(")")[2].split()[STARTED])
+
+
 def read_run(phy: str) -> dict:
     """What the access point of a radio tells of itself."""
     path = run_path(phy)
     try:
         with open(path, encoding="utf-8") as file:
             told = json.load(file)
-        os.kill(told["pid"], 0)
+        if told["started"] != start_of(told["pid"]):  # another process has its number since
+            raise ProcessLookupError
     except PermissionError as fault:
         raise Fault(f"{path}: {fault.strerror}: run it as root (sudo)") from None
     except (OSError, ValueError, KeyError, TypeError):

@@ -1,9 +1,7 @@
 """An access point from its start to its end: what has to be so, what is set up, the bridge while it runs, the
 configuration that is read again, and what is taken down."""
 import os
-import signal
 import socket
-import subprocess
 import time
 from contextlib import ExitStack
 from dataclasses import replace
@@ -14,8 +12,9 @@ from live.changes import Changes
 from live.checks import Plan, Wanted, as_set_up, check, check_again, check_rights, missing_wires
 from live.faults import Fault
 from live.packets import open_radio
+from live.page import Page
 from live.recording import make_record
-from live.rights import MOST_MEMORY, end, page_user_of, rights_of
+from live.rights import MOST_MEMORY, page_user_of, rights_of
 from live.running import RunFile
 from live.service import Service
 from live.setting_up import SettingUp
@@ -25,9 +24,8 @@ from live.watching import RadioWatch
 from live.ways import Way
 from live.wires import Wires
 
-TOOLS = os.path.dirname(os.path.dirname(os.path.dirname(os.path.realpath(__file__))))
+MASK = 0o022  # whoever else is on this machine changes no file that is made here, whatever mask the start was given
 LOOK_SECONDS = 1.0  # how often one looks for wires that are missing
-STATUS_PROGRAM = os.path.join(TOOLS, "status")
 # Where so many bridges in a row, or their programs, have ended so soon after they were opened, no other one is begun.
 MOST_EARLY, EARLY_SECONDS = 3, 2.0
 
@@ -45,8 +43,8 @@ class AccessPoint:
         self.stamp = stamp_of(wanted.config)  # of the configuration, when it was read
         self.plan = check(wanted, made, stack)
         self.rights = rights_of(wanted)
-        self.page_user = page_user_of(wanted)
-        group = os.getegid() if self.page_user is None else self.page_user.pw_gid
+        page_user = page_user_of(wanted)
+        group = os.getegid() if page_user is None else page_user.pw_gid
         self.listening = asking.listen(wanted.phy, group, stack)
         self.told = RunFile(wanted, stack)
         self.state = StateFiles(wanted.phy, stack)
@@ -55,11 +53,12 @@ class AccessPoint:
         stack.callback(self.wires.close)
         self.radio: list[socket.socket] = []
         self.of_radio: tuple[int, Way] | None = None  # how the radio was set up to which its sockets belong
+        self.sends_as: tuple[int, Way] | None = None  # how it was set up when a bridge saw it send last
         stack.callback(self.close_radio)
         self.watch = RadioWatch(wanted, self.setting_up, self.service, stack)
         self.opened = 0.0  # when the last bridge was opened
         self.early = 0  # how many in a row ended soon after that
-        self.page: subprocess.Popen[bytes] | None = None
+        self.page = Page(wanted, page_user, stack)
         self.bridge = self.start(self.plan)
 
     def start(self, plan: Plan) -> Bridge:
@@ -68,7 +67,8 @@ class AccessPoint:
         memory = MOST_MEMORY if self.rights.has_bounds else None
         record = self.make_record()
         handed = [self.listening.fileno()] if record is None else [self.listening.fileno(), record[0]]
-        words = words_of(self.wanted, plan, handed[0], record, tells_alive, memory)
+        sends = self.sends_as == (plan.settings.frequency, plan.way)
+        words = words_of(self.wanted, plan, handed[0], record, tells_alive, memory, sends)
         try:
             return Bridge(words, self.signals, self.stack, tuple(handed), self.rights)
         finally:
@@ -90,7 +90,7 @@ class AccessPoint:
             self.bridge.await_networks()
             if self.bridge.has_to_go_on():
                 self.open()
-                self.serve_page()
+                self.page.begin()
                 self.serve()
         finally:
             self.service.stopping()
@@ -141,11 +141,12 @@ class AccessPoint:
                 self.look_at_wires()
             if self.bridge.is_sending and has_told is not self.bridge:
                 has_told = self.bridge
+                self.sends_as = self.of_radio
                 self.tell_of_networks()
             if self.bridge.alive != alive:
                 alive = self.bridge.alive
                 self.service.alive()
-                self.look_at_page()
+                self.page.look()
             if self.wanted.tables and time.monotonic() >= due:
                 due = time.monotonic() + self.wanted.tables
                 self.signals.tables_asked = True
@@ -242,28 +243,6 @@ class AccessPoint:
         self.open()
         self.told.reloaded(None)
 
-    def serve_page(self) -> None:
-        """Starts the page that shows what is going on, which goes on as a user who may do nothing else."""
-        if self.wanted.status is not None:
-            words = [STATUS_PROGRAM, str(self.wanted.status), asking.socket_path(self.wanted.phy)]
-            try:
-                self.page = subprocess.Popen(words, stdin=subprocess.DEVNULL, stdout=subprocess.DEVNULL,
-                                             start_new_session=True)
-            except OSError as fault:
-                raise Fault(f"{STATUS_PROGRAM}: {fault}") from None
-            self.stack.callback(self.end_page, self.page)
-
-    def end_page(self, page: "subprocess.Popen[bytes]") -> None:
-        """Ends the page."""
-        end(page, self.page_user, signal.SIGTERM)
-        page.wait()
-
-    def look_at_page(self) -> None:
-        """A page that ended by itself is told of, and stations are served all the same."""
-        if self.page is not None and self.page.poll() is not None:
-            tell(f"--status {self.wanted.status}: the page ended with status {self.page.returncode}", WARNING)
-            self.page = None
-
 
 def stamp_of(path: str) -> tuple[int, ...]:
     """By which one sees whether a file was changed; nothing of one that isn't there."""
@@ -276,5 +255,6 @@ def stamp_of(path: str) -> tuple[int, ...]:
 
 def serve(wanted: Wanted) -> None:
     """Checks, sets all up, runs, and takes down what was set up."""
+    os.umask(MASK)
     with ExitStack() as stack:
         AccessPoint(wanted, stack).run()

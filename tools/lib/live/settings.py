@@ -10,12 +10,13 @@ JAPANESE_CHANNEL, JAPANESE_FREQUENCY = 14, 2484
 MOST_EVENTS = 1_000_000
 MOST_KNOWN = 10_000
 MOST_STATIONS = 2007
+QUOTA = 256
 
 
 @dataclass(frozen=True)
 class Network:
     """One network: its BSSID, its rates as the octets of its elements, how many stations it knows at most, how many
-    events `run` takes of it, its SSID, and how many stations are associated with it at most."""
+    events `run` takes of it, its SSID, how many stations are associated with it at most, and how many units it keeps."""
 
     bssid: bytes
     rates: bytes
@@ -23,6 +24,7 @@ class Network:
     max_events: int = MOST_EVENTS
     ssid: bytes = b""
     max_stations: int = MOST_STATIONS
+    quota: int = QUOTA
 
     @property
     def sending_rate(self) -> int:
@@ -56,7 +58,8 @@ def read_settings(path: str) -> Settings:
         with open(path, "rb") as file:
             text = tomllib.load(file)
         networks = tuple(Network(address_of(table["bssid"]), bytes.fromhex(table["rates"]), table["max_known"],
-                                 table["max_events"], table["ssid"].encode(), table["max_stations"])
+                                 table["max_events"], table["ssid"].encode(), table["max_stations"],
+                                 table["quota"])
                          for table in text["network"])
         return Settings(text["channel"], text["interval"], networks)
     except (OSError, ValueError, KeyError, TypeError, AttributeError) as fault:

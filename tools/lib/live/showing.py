@@ -4,7 +4,7 @@ import time
 
 from live.asking import ask
 from live.faults import Fault
-from status.document import name_of
+from status.document import most_of_quota, name_of, printable
 
 STATUS = "status"
 CLEAR = "\x1b[H\x1b[2J"
@@ -39,7 +39,7 @@ def text_of(told: dict) -> str:
     by = f" by {told['by'].replace('-', ' ')}" if told.get("by") else ""
     lines = [f"{told['phy']}, channel {told['channel']}{by}, for {duration(told['since'])}, of {told['version']}; "
              f"{beacons['sent']} beacons, {beacons['late_ms_worst']} ms late at worst, {beacons['missed']} missed",
-             *troubles_of(told.get("radio") or {})]
+             *troubles_of(told.get("radio") or {}), *end_of(told.get("record") or {})]
     for network in told["networks"]:
         lines += ["", head_of(network)]
         rows = [row_of(station) for station in network["stations"]]
@@ -47,7 +47,8 @@ def text_of(told: dict) -> str:
             lines += in_columns([COLUMNS, *rows])
     for fault in told["faults"]:
         lines += ["", f"{duration(fault['seconds'])} ago: {fault['text']}"]
-    return "\n".join(lines)
+    # What a bridge tells that a stranger has taken over stands on a terminal of root.
+    return "\n".join(map(printable, lines))
 
 
 def troubles_of(radio: dict) -> list[str]:
@@ -62,13 +63,22 @@ def troubles_of(radio: dict) -> list[str]:
     return found
 
 
+def end_of(record: dict) -> list[str]:
+    """Why the record has ended, where it has."""
+    return [] if record.get("fault") is None else [f"the record ended: {record['fault']}"]
+
+
 def head_of(network: dict) -> str:
     """The line of a network."""
     counts = network["counts"] or {}
-    parts = [f"{len(network['stations'])} stations", f"wire {network['wire'] or 'none'}"]
+    listed, known = len(network["stations"]), network.get("known", len(network["stations"]))
+    parts = [f"{known} stations", *([f"{listed} of them listed"] if listed < known else []), f"wire {network['wire'] or 'none'}"]
     if network["wire_down"] is not None:
         parts.append(f"down for {duration(network['wire_down'])}")
     parts += [f"{counts[name]} {name}" for name in ("kept", "lost", "unread") if name in counts]
+    holder = most_of_quota(network)
+    if holder is not None:
+        parts.append(f"{holder['kept']} of its quota of {network['quota']} kept for {holder['address']}")
     return f"{network['bssid']} {name_of(network['ssid'])}: {', '.join(parts)}"
 
 

@@ -74,3 +74,11 @@ def ways_of(name: str, phy: Phy, kernel: Kernel, networks: int, forced: Way | No
         raise Fault(f"{name}: this radio can't serve {networks} networks: {listed} (`iw phy {name} info`; "
                     "docs/OPERATING.md, 'The radio', says which radios can)")
     return found[:1] if found[0] is Way.ACTIVE_MONITORS else found
+
+
+def ways_again(name: str, phy: Phy, kernel: Kernel, networks: int, forced: Way | None, now: Way) -> tuple[Way, ...]:
+    """The ways for so many networks of a radio that serves in one of them: that one, and those that come behind it. A fault
+    where that one doesn't hold so many."""
+    ways_of(name, phy, kernel, networks, now)
+    found = ways_of(name, phy, kernel, networks, forced)
+    return found[found.index(now):] if now in found else (now,)

@@ -7,7 +7,7 @@ import time
 from status.document import Untold
 
 SECONDS = 5.0
-QUESTION = b"status\n"
+QUESTION = "status"
 MOST_ANSWER = 1 << 26
 PIECE = 1 << 16
 
@@ -29,14 +29,15 @@ def status_of(path: str) -> dict:
     return answer
 
 
-def answer_of(path: str) -> bytes:
-    """The line that the bridge answers, or as much of it as came before it closed."""
+def answer_of(path: str, question: str = QUESTION) -> bytes:
+    """The line that the bridge answers to a question, or as much of it as came before it closed. Neither its time nor its
+    length is more than an answer's: a stranger may have taken the bridge over."""
     until = time.monotonic() + SECONDS
     answer = bytearray()
     with socket.socket(socket.AF_UNIX) as bridge:
         bridge.settimeout(SECONDS)
         bridge.connect(path)
-        bridge.sendall(QUESTION)
+        bridge.sendall(f"{question}\n".encode())
         while not answer.endswith(b"\n") and len(answer) < MOST_ANSWER:
             bridge.settimeout(max(0.001, until - time.monotonic()))
             piece = bridge.recv(PIECE)

@@ -41,8 +41,8 @@ def network_of(place: int, seconds: float) -> dict[str, Any]:
 def demo_of(started: float, now: float | None = None) -> dict[str, Any]:
     """The document at a time, of an access point that seems to run since an hour before the start."""
     seconds = (time.monotonic() if now is None else now) - started + 3600.0
-    return {"version": "a demonstration without a radio", "since": seconds, "phy": "no radio", "channel": 6,
-            "reloads": 0, "faults": [], "beacons": {"sent": int(seconds / INTERVAL) * len(NETWORKS), "late_ms_mean": 0.4,
+    return {"version": "a demonstration without a radio", "format": 1, "since": seconds, "phy": "no radio", "channel": 6,
+            "faults": [], "beacons": {"sent": int(seconds / INTERVAL) * len(NETWORKS), "late_ms_mean": 0.4,
                                                     "late_ms_worst": 7.9, "missed": 0},
             "drops": {}, "left_out": {"the air: sent again, and taken before": int(seconds / 40)},
             "networks": [network_of(place, seconds) for place in range(len(NETWORKS))]}

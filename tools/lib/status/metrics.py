@@ -6,8 +6,9 @@ the radio tells none) has no line.
 from collections.abc import Iterator
 from dataclasses import dataclass, field
 
+from status.document import ASSOCIATED
+
 CONTENT_TYPE = "text/plain; version=0.0.4; charset=utf-8"
-ASSOCIATED = "associated"
 PER_MILLISECOND = 1e-3
 RATE_UNIT = 62_500  # octets per second: 500 kb/s
 
@@ -111,23 +112,27 @@ def of_networks(networks: list[dict]) -> Iterator[Family]:
     air = counter("network_air_seconds", "For how long frames of a network were sent, all tries counted, beacons left out.")
     waiting = gauge("network_air_waiting_frames", "Frames of a network that wait for the air.")
     unsent = counter("network_air_unsent_frames", "Frames of a network that never went on the air, by the reason.")
+    quota = gauge("network_quota_units", "Units that a network keeps at most for stations that doze.")
+    held = gauge("network_held_units", "Units that a network keeps for the one station for which it keeps most.")
     refusals = counter("network_refusals", "Authentications and associations that a network refused, by the status.")
     for network in networks:
         labels = {"bssid": network["bssid"], "ssid": network["name"]}
         for name, family in counts.items():
             family.add((network["counts"] or {}).get(name), **labels)
-        associated = sum(station["state"] == ASSOCIATED for station in network["stations"])
-        stations.add(associated, **labels, state=ASSOCIATED)
-        stations.add(network["known"] - associated, **labels, state="authenticated")
+        stations.add(network["associated"], **labels, state=ASSOCIATED)
+        stations.add(network["known"] - network["associated"], **labels, state="authenticated")
         if network["wire"] is not None:
             wires.add(int(network["wire_down"] is None), **labels)
         air.add(network["air"]["seconds"], **labels)
         waiting.add(network["air"]["waiting"], **labels)
         for reason, number in network["air"]["unsent"].items():
             unsent.add(number, **labels, reason=reason)
+        quota.add(network.get("quota"), **labels)
+        if network["counts"]:
+            held.add((network.get("holder") or {"kept": 0})["kept"], **labels)
         for status, number in network["refusals"].items():
             refusals.add(number, **labels, status=str(status))
-    yield from (*counts.values(), stations, wires, air, waiting, unsent, refusals)
+    yield from (*counts.values(), quota, held, stations, wires, air, waiting, unsent, refusals)
 
 
 def of_stations(networks: list[dict]) -> Iterator[Family]:

@@ -1,4 +1,4 @@
-"""The server: a page, the status document as JSON, and in the text format of Prometheus.
+"""The server: a page, the status document as JSON and in the text format of Prometheus, and the last ten minutes.
 
 It listens on 127.0.0.1 alone, reads only, and answers requests that name this machine as their host alone: a page of
 elsewhere, whose name leads to 127.0.0.1, is told nothing. Requests are bounded in number, length and time. What it
@@ -7,7 +7,6 @@ serves each user of this machine can read.
 import hashlib
 import io
 import json
-import os
 import re
 import socket
 import socketserver
@@ -17,9 +16,13 @@ from base64 import b64encode
 from collections.abc import Callable
 from http import HTTPStatus
 from http.server import BaseHTTPRequestHandler
+from urllib.parse import parse_qs
 
 from status.document import Untold, complete
+from status.history import EACH_SECONDS, History
 from status.metrics import CONTENT_TYPE, metrics_of
+from status.names import Names
+from status.page import page_text
 
 ADDRESS = "127.0.0.1"
 HOST = re.compile(r"(?:localhost|127\.0\.0\.1)(?::[0-9]{1,5})?", re.IGNORECASE)
@@ -27,10 +30,10 @@ MOST_CONNECTIONS = 16
 MOST_HEAD = 8192
 SECONDS = 5.0  # to read a request, to wait for the status, and to write an answer
 FRESH_SECONDS = 0.5  # so long an answer serves whoever asks
+MOST_PART = 0.02  # of the time is taken by asking for the history, where an access point of many stations answers slowly
 END_OF_HEAD = re.compile(rb"\n\r?\n")
 ALLOWED = ("GET", "HEAD")
 PLAIN, JSON, HTML = "text/plain; charset=utf-8", "application/json", "text/html; charset=utf-8"
-PAGE = os.path.join(os.path.dirname(os.path.realpath(__file__)), "page.html")
 # How a browser shall take each answer: from here alone, as what it is called, and kept nowhere.
 FIXED_HEADERS = {"Connection": "close", "Cache-Control": "no-store", "X-Content-Type-Options": "nosniff",
                  "Referrer-Policy": "no-referrer", "Cross-Origin-Resource-Policy": "same-origin"}
@@ -42,8 +45,9 @@ Request = socket.socket | tuple[bytes, socket.socket]  # what `socketserver` cal
 class Status:
     """Asks for the status document: one thread at a time, and each answer serves those who ask soon after."""
 
-    def __init__(self, ask: Callable[[], dict]) -> None:
+    def __init__(self, ask: Callable[[], dict], names: Names | None) -> None:
         self.ask = ask
+        self.names = names
         self.asking = threading.Lock()
         self.told: dict = {}
         self.until = 0.0
@@ -54,7 +58,8 @@ class Status:
             raise Untold("the access point doesn't answer")
         try:
             if time.monotonic() >= self.until:
-                self.told = complete(self.ask(), time.time())
+                names = self.names.look() if self.names else {}
+                self.told = complete(self.ask(), time.time(), names)
                 self.until = time.monotonic() + FRESH_SECONDS
             return self.told
         finally:
@@ -110,8 +115,22 @@ class Handler(BaseHTTPRequestHandler):
             self.send_error(HTTPStatus.METHOD_NOT_ALLOWED)
         elif self.path.partition("?")[0] == "/":
             self.send(HTTPStatus.OK, HTML, self.server.page)
+        elif self.path.partition("?")[0] == "/history.json":
+            self.answer_with_history()
         else:
             self.answer_with_status()
+
+    def answer_with_history(self) -> None:
+        """Answers with the last ten minutes of all networks, or of the station that the query names."""
+        query = parse_qs(self.path.partition("?")[2])
+        bssid, station = (query.get(name, [""])[0].lower() for name in ("bssid", "station"))
+        now = time.monotonic()
+        history = self.server.history
+        told = history.of_station(bssid, station, now) if station else history.document(now)
+        if told is None:
+            self.send_error(HTTPStatus.NOT_FOUND, f"no station {station} is associated with {bssid}")
+        else:
+            self.send(HTTPStatus.OK, JSON, json.dumps(told, allow_nan=False))
 
     def answer_with_status(self) -> None:
         """Answers with the status document in one of its forms, or says why there is none."""
@@ -163,18 +182,37 @@ class Server(socketserver.ThreadingTCPServer):
     block_on_close = False
     request_queue_size = MOST_CONNECTIONS
 
-    def __init__(self, port: int, ask: Callable[[], dict]) -> None:
-        self.status = Status(ask)
-        with open(PAGE, encoding="utf-8") as file:
-            self.page = file.read()
+    def __init__(self, port: int, ask: Callable[[], dict], names: Names | None = None,
+                 each: float = EACH_SECONDS) -> None:
+        self.status = Status(ask, names)
+        self.history, self.each = History(), each
+        self.page = page_text()
         self.policy = policy_of(self.page)
+        self.closing = threading.Event()
         self.room = threading.BoundedSemaphore(MOST_CONNECTIONS)
         super().__init__((ADDRESS, port), Handler)
         self.serving = threading.Thread(target=self.serve_forever, kwargs={"poll_interval": 0.1}, daemon=True)
+        self.watching = threading.Thread(target=self.watch, daemon=True)
 
     def start(self) -> None:
-        """Begins to answer."""
+        """Begins to answer, and to keep the history."""
         self.serving.start()
+        self.watching.start()
+
+    def watch(self) -> None:
+        """Adds a point to the history again and again, until the server is closed."""
+        wait = self.each
+        while not self.closing.wait(wait):
+            began = time.monotonic()
+            try:
+                told = self.status.document()
+            except Exception:  # whatever kept it from being told: who looks at the status sees it
+                told = None
+            try:
+                self.history.take(told, began)
+            except (KeyError, TypeError, AttributeError, ValueError):  # it isn't the status of an access point
+                self.history = History()
+            wait = max(self.each, (time.monotonic() - began) / MOST_PART)
 
     def process_request(self, request: Request, client_address: object) -> None:
         """Begins the thread of a connection, where there is room for it."""
@@ -204,18 +242,20 @@ class Server(socketserver.ThreadingTCPServer):
 
     def close(self) -> None:
         """Ends it; the port is free then."""
+        self.closing.set()
         if self.serving.is_alive():
             self.shutdown()
             self.serving.join()
         self.server_close()
 
 
-def serve(port: int, ask: Callable[[], dict]) -> Server:
-    """Serves the status at a port of 127.0.0.1 until its `close`, in threads of its own; port 0 takes a free one.
+def serve(port: int, ask: Callable[[], dict], names: Names | None = None, each: float = EACH_SECONDS) -> Server:
+    """Serves the status at a port of 127.0.0.1 until its `close`, in threads of its own; port 0 takes a free one. A point
+    is added to the history each so many seconds.
 
     `ask` gives the status document; it is called in one of these threads, by one at a time, and at most twice a second.
     What it raises is told to whoever asked. An OSError where the port is taken.
     """
-    server = Server(port, ask)
+    server = Server(port, ask, names, each)
     server.start()
     return server

@@ -1,0 +1,102 @@
+"""Lines of a trace that hold more than one, or stand as a table's: two frames in a line, values that are separated by
+commas, and a number of beacon intervals at once."""
+import re
+from collections.abc import Iterable
+
+from explaining.source import Finding, Place, Source, quoted
+from explaining.spans import place_of_octets
+from frames import BROADCAST
+from texts import Line
+
+SEPARATORS = (",", ";", "\t", "|")
+HEXADECIMAL = re.compile(r"(?:0x)?(?:[0-9A-Fa-f]{2}[ :]?){10,}")
+ADDRESS = re.compile(r"[0-9A-Fa-f]{2}(?::[0-9A-Fa-f]{2}){5}")
+SEVERAL = re.compile(r"T ?[*x\u00d7]? ?(\d+)|(\d+) ?[*x\u00d7]? ?T")
+WORD_WITHIN = re.compile(r"(?<=[0-9A-Fa-f])[ ;,|/]*[ ;,|/]([AW] +[0-9A-Fa-f]|T *$)")
+REMARK = re.compile(r"(?://|--|/\*|[;!%]) *(?=.*[^0-9A-Fa-f\s.:;,|/!%*-])")
+# The octets with which frames begin that a network reads (docs/PROTOCOL.md, "Frames").
+BEGINNINGS = {bytes.fromhex(digits) for digits in (
+    "4000", "b000", "0000", "2000", "a000", "c000", "0801", "0811", "4801", "4811", "a400")}
+LEAST_FRAME, MOST_SHOWN = 16, 60
+
+
+def of_table(source: Source, number: int, line: str) -> Finding | None:
+    """A row of a table, or its heading."""
+    separator = max(SEPARATORS, key=line.count)
+    if line.count(separator) < (2 if separator == "\t" else 1):  # a TAB alone stands where a space has to
+        return None
+    place = source.place(number, 1, len(line))
+    row = row_of(line, separator)
+    name = {",": "commas (CSV)", ";": "semicolons", "\t": "TABs", "|": "bars"}[separator]
+    if row:
+        return Finding(f"this is a row of values separated by {name}, and a line of a trace has its word, a space and "
+                       "the frame's digits", place, f"write {quoted(row, MOST_SHOWN)}")
+    has_rows = any(row_of(later, separator) for later in source.lines[number:number + 3])
+    if has_rows and re.match(r"[\w\"' .-]+" + re.escape(separator), line) and not re.search(r"[0-9A-Fa-f]{12}", line):
+        return Finding(f"this is the heading of a table, whose values are separated by {name}, and a trace has none", place,
+                       "leave it out, or begin it with `#`")
+    return None
+
+
+def row_of(line: str, separator: str) -> str | None:
+    """The line of a trace that a table's row stands for."""
+    values = [value.strip(" \"'\r") for value in line.split(separator)]
+    word = next((value.upper() for value in values if value.upper() in ("A", "W", "T")), None)
+    frames = [re.sub("^0x|[ :]", "", value) for value in values if HEXADECIMAL.fullmatch(value)]
+    if word == "T" and not frames:
+        return "T"
+    if len(frames) != 1:
+        return None
+    bssid = next((value for value in values if ADDRESS.fullmatch(value)), None)
+    return f"W {bssid or 'BSSID'} {frames[0]}" if word == "W" else f"A {frames[0]}"
+
+
+def of_several_intervals(line: str, place: Place) -> Finding | None:
+    """`T` with a number, or several of them."""
+    if re.fullmatch("TT+", line):
+        return Finding("each `T` begins one beacon interval, and has a line of its own", place, f"write {len(line)} lines `T`")
+    found = SEVERAL.fullmatch(line.strip())
+    count = found and (found[1] or found[2])
+    if not count or int(count) < 2:
+        return None
+    return Finding("`T` begins one beacon interval, and no number stands with it", place, f"write {count} lines `T`")
+
+
+def of_second_line(source: Source, number: int, line: str) -> Finding | None:
+    """The word of another line among the digits."""
+    found = WORD_WITHIN.search(line)
+    if not found:
+        return None
+    rest = line[found.start(1):]
+    return Finding(f"a second line begins here, with its word `{rest[0]}`: each frame has a line of its own",
+                   source.place(number, found.start(1) + 1, len(rest)), f"write {quoted(rest, MOST_SHOWN)} in the next line")
+
+
+def of_remark(source: Source, number: int, line: str, at: int) -> Finding | None:
+    """A remark behind a frame, as other languages write remarks."""
+    if not REMARK.match(line, at):
+        return None
+    return Finding("a remark has a line of its own, which begins with `#`, and here one stands behind a frame",
+                   source.place(number, at + 1, len(line) - at), "move it to a line before this one")
+
+
+def second_frame(octets: bytes, bssids: Iterable[bytes]) -> int | None:
+    """Where another frame of the same sender to one of these networks, or to all, begins within a frame."""
+    receivers = {*bssids, BROADCAST}
+    sender = octets[10:16]
+    return next((at for at in range(LEAST_FRAME, len(octets) - LEAST_FRAME + 1)
+                 if octets[at:at + 2] in BEGINNINGS and octets[at + 10:at + 16] == sender
+                 and octets[at + 4:at + 10] in receivers), None)
+
+
+def of_joined_frames(lines: Iterable[Line], bssids: Iterable[bytes], traces: list[Source]) -> list[Finding]:
+    """Lines `A` that hold two frames, the first few of them."""
+    bssids = list(bssids)
+    found = [(line, at) for line in lines if line.kind == "A" and (at := second_frame(line.octets, bssids)) is not None]
+    if not found:
+        return []
+    line, at = found[0]
+    place = place_of_octets(traces[0], line, (at, len(line.octets))) if len(traces) == 1 else None
+    others = f"; so in {len(found) - 1} more lines" if len(found) > 1 else ""
+    return [Finding(f"two frames of one sender stand in this line, and the second is read as a part of the first{others}",
+                    place, f"write {quoted('A ' + line.octets[at:].hex(), MOST_SHOWN)} in the next line")]

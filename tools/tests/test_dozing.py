@@ -1,0 +1,186 @@
+"""Tests of what the cases of stations that doze count, and of the stations that are made up for them."""
+import contextlib
+import importlib.machinery
+import importlib.util
+import os
+import socket
+import sys
+import unittest
+
+GUEST = os.path.join(os.path.dirname(os.path.dirname(os.path.realpath(__file__))), "guest")
+sys.path.append(GUEST)
+import dozing  # noqa: E402
+import made_up  # noqa: E402
+from frames import Frame, address_of  # noqa: E402
+from stations import Radio  # noqa: E402
+
+BSSID, HARDWARE, ALL, PORT = "02:00:00:00:01:01", "02:00:00:00:03:00", "ff:ff:ff:ff:ff:ff", 9000
+MILLISECOND = 1_000_000
+RADIOTAP = bytes([0, 0, 8, 0, 0, 0, 0, 0])
+FROM_NETWORK, MORE = 0x02, 0x20
+
+
+def load_cases():
+    """The program of the cases, which isn't named as a module."""
+    loader = importlib.machinery.SourceFileLoader("guest_doze_cases", os.path.join(GUEST, "doze-cases"))
+    module = importlib.util.module_from_spec(importlib.util.spec_from_loader("guest_doze_cases", loader))
+    sys.modules[module.__name__] = module
+    loader.exec_module(module)
+    return module
+
+
+class Counted(unittest.TestCase):
+    """What came of units."""
+
+    def test_what_is_lost_twice_and_out_of_order_is_counted(self):
+        """A unit that comes again isn't out of order too."""
+        stamps = [1, 2, 4, 3, 4, 6, 5, 1]
+        came = dozing.Came(7, [(stamp * MILLISECOND, (stamp + 10) * MILLISECOND) for stamp in stamps])
+        figures = dozing.Figures.of([came])
+        self.assertEqual((figures.sent, figures.came, figures.twice, figures.out_of_order), (7, 6, 2, 2))
+        self.assertEqual(figures.delays, [10.0] * 6)
+        self.assertEqual(str(figures), "6 of 7; 2, 2; 10, 10, 10")
+
+    def test_order_is_that_of_each_station(self):
+        """Not that of all."""
+        parts = [dozing.Came(1, [(5, 6)]), dozing.Came(1, [(4, 7)])]
+        self.assertEqual(dozing.Figures.of(parts).out_of_order, 0)
+
+    def test_a_delay_counts_from_the_wake_on_or_from_when_it_was_sent_later(self):
+        """Which a row may ask for."""
+        came = dozing.Came(2, [(1 * MILLISECOND, 30 * MILLISECOND), (25 * MILLISECOND, 31 * MILLISECOND)])
+        self.assertEqual(came.delays(20 * MILLISECOND), [10.0, 6.0])
+
+    def test_each_aim_that_is_missed_is_told(self):
+        """What the program counted as lost is no miss."""
+        figures = dozing.Figures(1000, 990, 1, 1, [1.0, 140.4])
+        self.assertEqual(figures.misses(140), ["10 lost that the program didn't count", "2 twice or out of order",
+                                               "a delay of 140 ms, not 140"])
+        figures = dozing.Figures(1000, 990, 1, 0, [1.0, 139.0], 10)
+        self.assertEqual(figures.misses(140), [])
+        self.assertEqual(str(figures), "990 of 1,000 (10 counted as lost); 1, 0; 70, 139, 139")
+
+    def test_where_nothing_came_only_that_is_told(self):
+        """There is no delay."""
+        figures = dozing.Figures.of([dozing.Came(3)])
+        self.assertEqual(figures.misses(100), ["3 lost that the program didn't count"])
+        self.assertEqual(str(figures), "0 of 3; 0, 0; nan, nan, nan")
+
+    def test_no_row_is_asked_for_by_the_name_of_another(self):
+        """But rows beside a download, and those whose units age."""
+        names = [row.name for row in load_cases().rows()]
+        self.assertEqual(len(names), len(set(names)))
+        for name in names:
+            others = [other for other in names if name in other and other != name]
+            self.assertTrue(all(other.startswith(f"{name}, ") for other in others), name)
+
+
+class Heard(made_up.Habit):
+    """Keeps what it is told."""
+
+    def __init__(self):
+        self.told = []
+
+    def hears_beacon(self, station, has_units):
+        self.told.append(("beacon", has_units))
+
+    def hears_unit(self, station, has_more):
+        self.told.append(("unit", has_more))
+
+
+class Stations(unittest.TestCase):
+    """A station that is made up, without a radio."""
+
+    def setUp(self):
+        self.station = made_up.MadeUp(Radio("phy2", "wlan2"), 2, HARDWARE, "10.0.1.10", 2437, PORT, Heard())
+        self.station.bssid, self.station.identifier = address_of(BSSID), 3
+        self.sent = []
+        self.station.send = lambda frame, rate: self.sent.append(Frame(frame))
+
+    def take(self, control, flags, receiver, body, number=0, sender=BSSID):
+        """The station hears a frame."""
+        addresses = address_of(receiver) + address_of(sender) + address_of(BSSID)
+        frame = bytes([control, flags, 0, 0]) + addresses + (number << 4).to_bytes(2, "little") + body
+        self.station.take(RADIOTAP + frame, 7)
+
+    def test_a_datagram_is_read_as_it_was_made(self):
+        """By its port alone."""
+        body = made_up.datagram("10.0.1.1", "10.0.1.10", PORT, (77).to_bytes(8, "big") + bytes(20))
+        self.assertEqual(made_up.stamp_of(body, PORT), 77)
+        self.assertIsNone(made_up.stamp_of(body, PORT + 1))
+        self.assertIsNone(made_up.stamp_of(body[:40], PORT))
+        self.assertEqual(made_up.check_sum(body[8:28]), 0)
+
+    def test_only_what_is_for_it_or_for_a_group_comes_to_its_socket(self):
+        """From its network alone."""
+        sending, taken = socket.socketpair(socket.AF_UNIX, socket.SOCK_DGRAM)
+        with sending, taken:
+            taken.setblocking(False)
+            made_up.let_through(taken, address_of(BSSID), address_of(HARDWARE))
+            other = address_of("02:00:00:00:09:09")
+            for start, receiver, sender in ((8, HARDWARE, BSSID), (32, HARDWARE, BSSID), (8, ALL, BSSID),
+                                            (8, "02:00:00:00:03:01", BSSID), (8, HARDWARE, "02:00:00:00:01:02")):
+                header = bytes([0, 0, start]) + bytes(start - 3)
+                sending.send(header + bytes(4) + address_of(receiver) + address_of(sender) + other)
+            sending.send(bytes([0, 0, 8, 0]))
+            came = []
+            with contextlib.suppress(BlockingIOError):
+                while True:
+                    packet = taken.recv(100)
+                    came.append((packet[2], packet[packet[2] + 4:packet[2] + 10].hex(":")))
+        self.assertEqual(came, [(8, HARDWARE), (32, HARDWARE), (8, ALL)])
+
+    def test_units_for_it_are_counted_and_others_not(self):
+        """Nor one that is sent again."""
+        body = made_up.datagram("10.0.1.1", "10.0.1.10", PORT, (77).to_bytes(8, "big"))
+        self.take(0x08, FROM_NETWORK | MORE, HARDWARE, body, 5)
+        self.take(0x08, FROM_NETWORK | MORE | 0x08, HARDWARE, body, 5)
+        self.take(0x08, FROM_NETWORK, HARDWARE, body, 6)
+        self.take(0x08, FROM_NETWORK, "02:00:00:00:03:01", body, 7)
+        self.take(0x08, FROM_NETWORK, HARDWARE, body, 8, sender="02:00:00:00:01:02")
+        self.assertEqual(self.station.units, [(77, 7), (77, 7)])
+        self.assertEqual(self.station.habit.told, [("unit", True), ("unit", False)])
+
+    def test_a_beacon_says_whether_units_are_kept(self):
+        """By the station's own bit."""
+        for bits, has_units in ((0x08, True), (0x10, False)):
+            self.take(0x80, 0, ALL, bytes(12) + bytes([5, 4, 0, 1, 0, bits]))
+            self.assertEqual(self.station.habit.told.pop(), ("beacon", has_units))
+
+    def test_who_polls_asks_at_each_so_manieth_beacon_until_no_more_are_kept(self):
+        """One poll a unit."""
+        habit = made_up.Polls(3)
+        habit.begin(self.station)
+        for _ in range(6):
+            habit.hears_beacon(self.station, True)
+        habit.hears_beacon(self.station, False)
+        for has_more in (True, False):
+            habit.hears_unit(self.station, has_more)
+        self.assertEqual([(frame.type, frame.subtype) for frame in self.sent], [(2, 4), (1, 10), (1, 10), (1, 10)])
+        self.assertEqual(self.sent[1].octets.hex(), "a41003c0" + BSSID.replace(":", "") + HARDWARE.replace(":", ""))
+
+    def test_who_wakes_dozes_again_once_nothing_comes(self):
+        """By the bit of its Null frames."""
+        habit = made_up.Wakes(1)
+        habit.begin(self.station)
+        habit.hears_beacon(self.station, True)
+        habit.hears_beacon(self.station, True)
+        before = habit.due
+        habit.hears_unit(self.station, True)
+        self.assertGreater(habit.due, before)
+        habit.act(self.station)
+        self.assertEqual((habit.due, [frame.power_management for frame in self.sent]),
+                         (made_up.NEVER, [True, False, True]))
+
+    def test_naps_alternate_and_are_told_by_datagrams_where_that_is_asked(self):
+        """With the bit in them."""
+        habit = made_up.Naps(1, 0.1, 0.2, ("02:00:00:00:09:01", "10.0.1.1", PORT))
+        for _ in range(3):
+            habit.act(self.station)
+        self.assertEqual([frame.power_management for frame in self.sent], [True, False, True])
+        self.assertTrue(all(made_up.stamp_of(frame.body, PORT) for frame in self.sent))
+        self.assertEqual({frame.third for frame in self.sent}, {address_of("02:00:00:00:09:01")})
+
+
+if __name__ == "__main__":
+    unittest.main()

@@ -1,0 +1,71 @@
+"""Tests of docs/JSON.md: it names each member of the documents, each event and each metric, and no other metric."""
+import os
+import re
+import unittest
+
+from common import ROOT
+from status.demo import demo_of
+from status.document import complete
+from status.history import NETWORK_SERIES, STATION_SERIES
+from status.metrics import metrics_of
+from statuses import document, network, station
+
+
+def text_of(*names):
+    """A file of the repository."""
+    with open(os.path.join(ROOT, *names), encoding="utf-8") as file:
+        return file.read()
+
+
+def members(value):
+    """The names of all members, but for those that a count has by its reason."""
+    if isinstance(value, list):
+        return set().union(*map(members, value))
+    if isinstance(value, dict):
+        inner = [members(one) for name, one in value.items()
+                 if name not in ("drops", "left_out", "unsent", "refusals") or one is None]
+        return set(value).union(*inner)
+    return set()
+
+
+class JsonPage(unittest.TestCase):
+    """The page for whoever writes scripts."""
+
+    def setUp(self):
+        self.page = text_of("docs", "JSON.md")
+
+    def named(self, names):
+        """Each of these names stands on the page."""
+        self.assertEqual([name for name in sorted(names) if f"`{name}`" not in self.page], [])
+
+    def test_members_of_the_status(self):
+        """Those that the bridge writes, by the names in its source, and those that the page adds."""
+        source = text_of("tools", "bridge", "src", "control", "status.rs").partition("#[cfg(test)]")[0]
+        written = set(re.findall(r'serialize_entry\("(\w+)"|^ +"(\w+)": ', source, re.M))
+        written = {one or other for one, other in written}
+        self.assertGreater(len(written), 40)
+        self.named(written)
+        made = complete(document(network(1, b"guests", [station(1)])), 0, {station(1)["address"]: "x"})
+        self.named(members(made))
+        self.assertEqual(demo_of(0.0, 1.0)["format"], 1)
+
+    def test_history_and_events(self):
+        self.named({"seconds", *NETWORK_SERIES, *STATION_SERIES})
+        source = text_of("tools", "bridge", "src", "control", "events.rs").partition("#[cfg(test)]")[0]
+        kinds = set(re.findall(r'=> "([a-z-]+)",\n', source))
+        self.assertGreaterEqual(len(kinds), 10)
+        own = set(re.findall(r'own_event\("([a-z-]+)"', text_of("tools", "lib", "live", "events.py")))
+        self.assertEqual(len(own), 4)
+        written = set(re.findall(r'serialize_entry\("(\w+)"', source))
+        self.named(kinds | own | written - {"began", "next", "dropped", "events"})  # of the bridge's answer alone
+
+    def test_metrics(self):
+        made = document(network(1, b"guests", [station(1)], refusals={"1": 1}, quota=256,
+                                air={"weight": 1, "seconds": 1, "waiting": 0, "unsent": {"late": 1}}),
+                        drops={"x": 1}, left_out={"x": 1}, record={"octets": 1, "fault": None})
+        told = set(re.findall(r"^# TYPE (\w+)", metrics_of(complete(made, 0)), re.M))
+        self.assertEqual(told, set(re.findall(r"`(waltigon_\w+)`", self.page)))
+
+
+if __name__ == "__main__":
+    unittest.main()
