@@ -7,20 +7,21 @@ _waltigon() {
     case ${1##*/} in
     waltigon-capture-from-report) options='--network --out' ;;
     waltigon-capture-from-run) options='--clutter --out' ;;
-    waltigon-config-from-hostapd) ;;
+    waltigon-config-from-hostapd) options='--open --out' ;;
     waltigon-explain) options='--program --said --lines' offered='check run play live' ;;
     waltigon-frame)
         options='--config --ssid --rates --listen --current --algorithm --number --reason --payload --aid --aid-octets'
-        options+=' --to --body --duration --sequence --direct --doze --retry --more'
-        offered='probe auth join rejoin disassoc deauth data null poll' takes_files=''
+        options+=' --to --from --body --duration --sequence --direct --doze --retry --more'
+        offered='probe auth join rejoin disassoc deauth data null poll wired' takes_files=''
         ;;
     waltigon-live)
-        options='--phy --wire --wires --share --monitor --by --country --idle --program --bridge --record --tables --status --as-root --json --watch'
-        offered='kick reload status check-networks check-radio'
+        options='--phy --wire --wires --share --monitor --by --country --idle --no-update --program --bridge --record --record-limit --tables --status --names --as-root --json --watch --since'
+        offered='kick reload status events check-networks check-radio'
         if [ "$COMP_CWORD" != 1 ]; then
             case ${COMP_WORDS[1]} in
             kick | reload) options='--phy' takes_files='' ;;
             status) options='--phy --json --watch' takes_files='' ;;
+            events) options='--phy --since' takes_files='' ;;
             check-networks) options='--wire --wires --program' ;;
             check-radio) options='--by' takes_files='' radios=$(ls /sys/class/ieee80211 2>/dev/null) ;;
             esac
@@ -29,6 +30,7 @@ _waltigon() {
     waltigon-live-demo) options='--program --stay' takes_files='' ;;
     waltigon-picture) options='--out --from --to --station --network --overview --stations' ;;
     waltigon-report-to-json) options='--without-frames' ;;
+    waltigon-status) options='--demo --names' ;;
     waltigon-trace-from-capture)
         options='--wire --config --networks-of --network --channel --beacons-of --every --heard-only --fcs'
         ;;
@@ -42,7 +44,7 @@ _waltigon() {
     --ssid | --rates | --listen | --current | --algorithm | --number | --reason | --payload | --aid | --aid-octets | \
         --body | --duration | --sequence) ;;
     --network | --beacons-of | --station | --stations | --from | --to | --channel | --every | --said | --wire | --share | \
-        --monitor | --country | --idle | --tables | --status) ;;
+        --monitor | --country | --idle | --tables | --status | --since) ;;
     *)
         if [[ $word == -* ]]; then
             mapfile -t COMPREPLY < <(compgen -W "$options --help --version" -- "$word")
@@ -55,4 +57,4 @@ _waltigon() {
 }
 complete -o filenames -F _waltigon waltigon-capture-from-report waltigon-capture-from-run waltigon-config-from-hostapd \
     waltigon-explain waltigon-frame waltigon-live waltigon-live-demo waltigon-picture waltigon-report-to-json \
-    waltigon-trace-from-capture
+    waltigon-status waltigon-trace-from-capture
