@@ -12,7 +12,9 @@ fn main() {
     println!("cargo:rerun-if-changed={}", folder.join("libair_share_c.a").display());
     println!("cargo:rustc-link-search=native={}", folder.display());
     println!("cargo:rustc-link-lib=static=air_share_c");
-    let of_library = fields(&folder.join("../../air_share/src/lane.rt"), "pub struct Lane {");
+    // By names alone: before the library is first built, its folder isn't there to step out of.
+    let crates = folder.ancestors().nth(2).expect("the library's folder stands in that of a crate");
+    let of_library = fields(&crates.join("air_share/src/lane.rt"), "pub struct Lane {");
     let of_bridge = fields(Path::new("src/outbound/air/proved_rule.rs"), "struct NetworkDebt {");
     assert_eq!(of_library, of_bridge, "the library and the bridge lay the record of a network out differently");
 }
