@@ -1,12 +1,9 @@
 -- What the definitions say of the frames of specs/Hostapd.antt.
 use Rattle.std.proofs.Common.{◌≡◌, false, [], ◌∷◌, take, drop, refl}
 use Rattle.std.specs.List.{AllByRecursion}
-use Rattle.elements.specs.Elements.{elements_of, elements_within}
-use Rattle.tim.specs.Tim.{tim_octets, partial_of, from_first_pair, up_to_last, virtual_bitmap, octet_at, bits_from}
-use Rattle.beacon.specs.Advert.{timestamp, fixed_fields, network_elements}
-use Rattle.beacon.specs.Beacon.{dtim_count}
-use Rattle.recorded_frames.specs.Sent.{AgreesBut, put_all, these}
-use Rattle.recorded_frames.proofs.Rows.{◌also◌}
+use Rattle.tim.specs.Tim.{tim_octets}
+use Rattle.recorded_frames.specs.Sent.{AgreesBut, these}
+use Rattle.recorded_frames.proofs.Rows.{sent_on_literals, ◌also◌}
 use Rattle.recorded_frames.specs.Hostapd.{plain_beacon, plain_probe_response, plain_authentication_response}
 use Rattle.recorded_frames.specs.Hostapd.{plain_association_response, slow_beacon, slow_probe_response}
 use Rattle.recorded_frames.specs.Hostapd.{slow_authentication_response, slow_association_response, fast_beacon}
@@ -19,99 +16,99 @@ use Rattle.recorded_frames.specs.Hostapd.{beacon_that_tells_of_more, plain_data_
 use Rattle.recorded_frames.specs.Hostapd.{plain_data_to_all_from_the_network, of_hostapd}
 
 pub plain_beacon_agrees : AgreesBut plain_beacon
-unfolding put_all elements_of elements_within timestamp fixed_fields network_elements dtim_count tim_octets partial_of from_first_pair up_to_last virtual_bitmap octet_at bits_from
-plain_beacon_agrees = refl
+unfolding sent_on_literals
+plain_beacon_agrees = (refl, refl)
 
 pub plain_probe_response_agrees : AgreesBut plain_probe_response
-unfolding put_all elements_of elements_within timestamp fixed_fields network_elements dtim_count tim_octets partial_of from_first_pair up_to_last virtual_bitmap octet_at bits_from
-plain_probe_response_agrees = refl
+unfolding sent_on_literals
+plain_probe_response_agrees = (refl, refl)
 
 pub plain_authentication_response_agrees : AgreesBut plain_authentication_response
-unfolding put_all elements_of elements_within timestamp fixed_fields network_elements dtim_count tim_octets partial_of from_first_pair up_to_last virtual_bitmap octet_at bits_from
-plain_authentication_response_agrees = refl
+unfolding sent_on_literals
+plain_authentication_response_agrees = (refl, refl)
 
 pub plain_association_response_agrees : AgreesBut plain_association_response
-unfolding put_all elements_of elements_within timestamp fixed_fields network_elements dtim_count tim_octets partial_of from_first_pair up_to_last virtual_bitmap octet_at bits_from
-plain_association_response_agrees = refl
+unfolding sent_on_literals
+plain_association_response_agrees = (refl, refl)
 
 pub slow_beacon_agrees : AgreesBut slow_beacon
-unfolding put_all elements_of elements_within timestamp fixed_fields network_elements dtim_count tim_octets partial_of from_first_pair up_to_last virtual_bitmap octet_at bits_from
-slow_beacon_agrees = refl
+unfolding sent_on_literals
+slow_beacon_agrees = (refl, refl)
 
 pub slow_probe_response_agrees : AgreesBut slow_probe_response
-unfolding put_all elements_of elements_within timestamp fixed_fields network_elements dtim_count tim_octets partial_of from_first_pair up_to_last virtual_bitmap octet_at bits_from
-slow_probe_response_agrees = refl
+unfolding sent_on_literals
+slow_probe_response_agrees = (refl, refl)
 
 pub slow_authentication_response_agrees : AgreesBut slow_authentication_response
-unfolding put_all elements_of elements_within timestamp fixed_fields network_elements dtim_count tim_octets partial_of from_first_pair up_to_last virtual_bitmap octet_at bits_from
-slow_authentication_response_agrees = refl
+unfolding sent_on_literals
+slow_authentication_response_agrees = (refl, refl)
 
 pub slow_association_response_agrees : AgreesBut slow_association_response
-unfolding put_all elements_of elements_within timestamp fixed_fields network_elements dtim_count tim_octets partial_of from_first_pair up_to_last virtual_bitmap octet_at bits_from
-slow_association_response_agrees = refl
+unfolding sent_on_literals
+slow_association_response_agrees = (refl, refl)
 
 pub fast_beacon_agrees : AgreesBut fast_beacon
-unfolding put_all elements_of elements_within timestamp fixed_fields network_elements dtim_count tim_octets partial_of from_first_pair up_to_last virtual_bitmap octet_at bits_from
-fast_beacon_agrees = refl
+unfolding sent_on_literals
+fast_beacon_agrees = (refl, refl)
 
 pub fast_probe_response_agrees : AgreesBut fast_probe_response
-unfolding put_all elements_of elements_within timestamp fixed_fields network_elements dtim_count tim_octets partial_of from_first_pair up_to_last virtual_bitmap octet_at bits_from
-fast_probe_response_agrees = refl
+unfolding sent_on_literals
+fast_probe_response_agrees = (refl, refl)
 
 pub fast_authentication_response_agrees : AgreesBut fast_authentication_response
-unfolding put_all elements_of elements_within timestamp fixed_fields network_elements dtim_count tim_octets partial_of from_first_pair up_to_last virtual_bitmap octet_at bits_from
-fast_authentication_response_agrees = refl
+unfolding sent_on_literals
+fast_authentication_response_agrees = (refl, refl)
 
 pub fast_association_response_agrees : AgreesBut fast_association_response
-unfolding put_all elements_of elements_within timestamp fixed_fields network_elements dtim_count tim_octets partial_of from_first_pair up_to_last virtual_bitmap octet_at bits_from
-fast_association_response_agrees = refl
+unfolding sent_on_literals
+fast_association_response_agrees = (refl, refl)
 
 pub secret_beacon_agrees : AgreesBut secret_beacon
-unfolding put_all elements_of elements_within timestamp fixed_fields network_elements dtim_count tim_octets partial_of from_first_pair up_to_last virtual_bitmap octet_at bits_from
-secret_beacon_agrees = refl
+unfolding sent_on_literals
+secret_beacon_agrees = (refl, refl)
 
 pub secret_probe_response_agrees : AgreesBut secret_probe_response
-unfolding put_all elements_of elements_within timestamp fixed_fields network_elements dtim_count tim_octets partial_of from_first_pair up_to_last virtual_bitmap octet_at bits_from
-secret_probe_response_agrees = refl
+unfolding sent_on_literals
+secret_probe_response_agrees = (refl, refl)
 
 pub secret_authentication_response_agrees : AgreesBut secret_authentication_response
-unfolding put_all elements_of elements_within timestamp fixed_fields network_elements dtim_count tim_octets partial_of from_first_pair up_to_last virtual_bitmap octet_at bits_from
-secret_authentication_response_agrees = refl
+unfolding sent_on_literals
+secret_authentication_response_agrees = (refl, refl)
 
 pub secret_association_response_agrees : AgreesBut secret_association_response
-unfolding put_all elements_of elements_within timestamp fixed_fields network_elements dtim_count tim_octets partial_of from_first_pair up_to_last virtual_bitmap octet_at bits_from
-secret_association_response_agrees = refl
+unfolding sent_on_literals
+secret_association_response_agrees = (refl, refl)
 
 pub plain_reassociation_response_agrees : AgreesBut plain_reassociation_response
-unfolding put_all elements_of elements_within timestamp fixed_fields network_elements dtim_count tim_octets partial_of from_first_pair up_to_last virtual_bitmap octet_at bits_from
-plain_reassociation_response_agrees = refl
+unfolding sent_on_literals
+plain_reassociation_response_agrees = (refl, refl)
 
 pub beacon_that_tells_of_one_agrees : AgreesBut beacon_that_tells_of_one
-unfolding put_all elements_of elements_within timestamp fixed_fields network_elements dtim_count tim_octets partial_of from_first_pair up_to_last virtual_bitmap octet_at bits_from
-beacon_that_tells_of_one_agrees = refl
+unfolding sent_on_literals
+beacon_that_tells_of_one_agrees = (refl, refl)
 
 pub beacon_that_tells_of_the_group_agrees : AgreesBut beacon_that_tells_of_the_group
-unfolding put_all elements_of elements_within timestamp fixed_fields network_elements dtim_count tim_octets partial_of from_first_pair up_to_last virtual_bitmap octet_at bits_from
-beacon_that_tells_of_the_group_agrees = refl
+unfolding sent_on_literals
+beacon_that_tells_of_the_group_agrees = (refl, refl)
 
 pub beacon_of_three_that_tells_of_none_agrees : AgreesBut beacon_of_three_that_tells_of_none
-unfolding put_all elements_of elements_within timestamp fixed_fields network_elements dtim_count tim_octets partial_of from_first_pair up_to_last virtual_bitmap octet_at bits_from
-beacon_of_three_that_tells_of_none_agrees = refl
+unfolding sent_on_literals
+beacon_of_three_that_tells_of_none_agrees = (refl, refl)
 
 pub beacon_that_tells_of_more_agrees : AgreesBut beacon_that_tells_of_more
-unfolding put_all elements_of elements_within timestamp fixed_fields network_elements dtim_count tim_octets partial_of from_first_pair up_to_last virtual_bitmap octet_at bits_from
-beacon_that_tells_of_more_agrees = refl
+unfolding sent_on_literals
+beacon_that_tells_of_more_agrees = (refl, refl)
 
 pub plain_data_with_more_agrees : AgreesBut plain_data_with_more
-unfolding put_all elements_of elements_within timestamp fixed_fields network_elements dtim_count tim_octets partial_of from_first_pair up_to_last virtual_bitmap octet_at bits_from
-plain_data_with_more_agrees = refl
+unfolding sent_on_literals
+plain_data_with_more_agrees = (refl, refl)
 
 pub plain_data_to_all_from_the_network_agrees : AgreesBut plain_data_to_all_from_the_network
-unfolding put_all elements_of elements_within timestamp fixed_fields network_elements dtim_count tim_octets partial_of from_first_pair up_to_last virtual_bitmap octet_at bits_from
-plain_data_to_all_from_the_network_agrees = refl
+unfolding sent_on_literals
+plain_data_to_all_from_the_network_agrees = (refl, refl)
 
 pub tim_of_more : tim_octets 0 2 false (these (16 ∷ 17 ∷ [])) ≡ take 6 (drop 56 beacon_that_tells_of_more.octets)
-unfolding tim_octets partial_of from_first_pair up_to_last virtual_bitmap octet_at bits_from
+unfolding sent_on_literals
 tim_of_more = refl
 
 pub of_hostapd_agree : AllByRecursion AgreesBut of_hostapd

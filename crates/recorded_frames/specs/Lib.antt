@@ -1,9 +1,11 @@
+pub mod Octets
 pub mod Names
 pub mod Heard
 pub mod Sent
 pub mod Crossed
+pub mod Hostapd
+pub mod Linux
 pub mod Linux61Ours
 pub mod Linux61
 pub mod Linux612
-pub mod Hostapd
 pub mod Wires

@@ -1,54 +1,55 @@
 -- What stands in the recorded frames: addresses, element IDs, places of fields (IEEE Std 802.11-2016, 9.3.3 and 9.4).
-use Rattle.std.specs.Prelude.{ℕ, ◌^◌, List, [], ◌∷◌}
+use Rattle.std.specs.Prelude.{ℕ, ◌^◌, List, codes}
+use Rattle.recorded_frames.specs.Octets.{hex}
 
 -- ---- addresses, which the guest made up
 
 -- the stations
 abbrev pub station : List ℕ
-station = 0x02 ∷ 0 ∷ 0 ∷ 0 ∷ 0x02 ∷ 0 ∷ []
+station = hex "020000000200"
 
 abbrev pub other_station : List ℕ
-other_station = 0x02 ∷ 0 ∷ 0 ∷ 0 ∷ 0x03 ∷ 0 ∷ []
+other_station = hex "020000000300"
 
 -- two networks of hostapd of twelve rates in the open
 abbrev pub plain : List ℕ
-plain = 0x02 ∷ 0 ∷ 0 ∷ 0x01 ∷ 0x02 ∷ 0 ∷ []
+plain = hex "020000010200"
 
 abbrev pub plain_second : List ℕ
-plain_second = 0x02 ∷ 0 ∷ 0 ∷ 0x01 ∷ 0x02 ∷ 0x01 ∷ []
+plain_second = hex "020000010201"
 
 -- one of four rates
 abbrev pub slow : List ℕ
-slow = 0x02 ∷ 0 ∷ 0 ∷ 0x01 ∷ 0x04 ∷ 0 ∷ []
+slow = hex "020000010400"
 
 -- one with QoS and HT
 abbrev pub fast : List ℕ
-fast = 0x02 ∷ 0 ∷ 0 ∷ 0x01 ∷ 0x05 ∷ 0 ∷ []
+fast = hex "020000010500"
 
 -- one with WPA2 and protected management frames
 abbrev pub secret : List ℕ
-secret = 0x02 ∷ 0 ∷ 0 ∷ 0x01 ∷ 0x06 ∷ 0 ∷ []
+secret = hex "020000010600"
 
 -- two networks of this access point
 abbrev pub ours : List ℕ
-ours = 0x02 ∷ 0 ∷ 0 ∷ 0 ∷ 0x01 ∷ 0x01 ∷ []
+ours = hex "020000000101"
 
 abbrev pub ours_second : List ℕ
-ours_second = 0x02 ∷ 0 ∷ 0 ∷ 0 ∷ 0x01 ∷ 0x02 ∷ []
+ours_second = hex "020000000102"
 
 -- ---- SSIDs, in ASCII
 
 abbrev pub plain_ssid : List ℕ
-plain_ssid = 112 ∷ 108 ∷ 97 ∷ 105 ∷ 110 ∷ []
+plain_ssid = codes "plain"
 
 abbrev pub slow_ssid : List ℕ
-slow_ssid = 115 ∷ 108 ∷ 111 ∷ 119 ∷ []
+slow_ssid = codes "slow"
 
 abbrev pub fast_ssid : List ℕ
-fast_ssid = 102 ∷ 97 ∷ 115 ∷ 116 ∷ []
+fast_ssid = codes "fast"
 
 abbrev pub secret_ssid : List ℕ
-secret_ssid = 115 ∷ 101 ∷ 99 ∷ 114 ∷ 101 ∷ 116 ∷ []
+secret_ssid = codes "secret"
 
 -- ---- places in a frame
 

@@ -2,6 +2,7 @@
 use Rattle.std.specs.Prelude.{ℕ, ◌+◌, ◌≡◌, Bool, not, ◌==◌, List, [], ◌∷◌, ◌++◌, length, take, drop, filter}
 use Rattle.std.specs.List.{list_any, flat_map}
 use Rattle.elements.specs.Elements.{Pair, spelled, listed}
+use Rattle.recorded_frames.specs.Octets.{AreOctets}
 
 -- the numbers of a list, as a test
 abbrev pub these : List ℕ → ℕ → Bool
@@ -25,7 +26,7 @@ abbrev pub without_elements : ℕ → List ℕ → List ℕ → List ℕ
 without_elements first ids x = take first x ++ flat_map spelled (without ids (listed (drop first x)))
 
 pub record Sent : Type 0 where
-  -- the octets of hostapd, in lines as those of a frame that was heard
+  -- the octets of hostapd, with spaces as in a frame that was heard
   pub octets : List ℕ
   -- the frame that the definitions give
   pub defined : List ℕ
@@ -35,6 +36,6 @@ pub record Sent : Type 0 where
   pub first : ℕ
   pub left_out : List ℕ
 
--- the two are the same but for those fields and elements
+-- the two are the same octets but for those fields and elements
 abbrev pub AgreesBut : Sent → Type 0
-AgreesBut s = put_all s.fields s.defined ≡ without_elements s.first s.left_out s.octets
+AgreesBut s = AreOctets s.octets × (put_all s.fields s.defined ≡ without_elements s.first s.left_out s.octets)

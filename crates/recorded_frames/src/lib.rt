@@ -1,8 +1,8 @@
 //! Frames that no one here made: what the definitions say of them.
 //!
 //! Unmodified Linux stations, hosts and hostapd sent them in the guest of `tools/guest`, and `tools/guest/record-frames`
-//! recorded them. Each stands in `specs/` octet by octet, with the kernel and the tools that made it, and beside it what a
-//! network makes of it. The laws say that the definitions of the crates below give just that.
+//! recorded them. Each stands in `specs/` as hexadecimal digits, with the kernel and the tools that made it, and beside it
+//! what a network makes of it. The laws say that the definitions of the crates below give just that.
 //!
 //! Nothing here runs. What the definitions mean is left to those crates.
 #![tactic(auto)]
