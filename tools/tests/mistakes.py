@@ -425,6 +425,7 @@ LINES = [
     traced("fault L2 line 2", f"T\n{PROBE} # a probe\n", f"my.trace:2:{len(PROBE) + 2}",
            "a remark has a line of its own"),
     traced("fault L2 line 1", "A 4000\t0000\n", "my.trace:1:7", "TAB"),
+    traced("fault L1 line 1", f"B {PROBE[2:]}\n", "my.trace:1:1", "`B` is no word of a trace"),
     traced("fault L2 line 1", "A 40O0\n", "my.trace:1:5", "`O` is no hexadecimal digit", "write 0"),
     traced("fault L2 line 1", f"{PROBE} A 4000\n", f"my.trace:1:{len(PROBE) + 2}", "a second line begins here, with its word "
            "`A`", "write `A 4000` in the next line"),

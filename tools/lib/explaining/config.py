@@ -12,6 +12,7 @@ from hostapd import Line, left_out, line_for
 from radio import MOST_IN_VERSION, MOST_NETWORKS
 
 MOST_KEYS_SHOWN = 3
+BEGIN_NETWORK = "write a line `[[network]]`, and the network's keys below it"
 
 
 @dataclass
@@ -39,11 +40,11 @@ class Config:
         for table in tables:
             if table.name == ("network",) and table.is_of_array:
                 self.networks.append(NetworkTable(table.begin, table.end, keys_of(table.entries)))
-            elif table.name == ("network",):
-                self.single = table
-            elif table.name[0] == "network" and self.networks:
+            elif table.name[0] == "network" and table.name[1:] and self.networks:
                 inner = Entry(table.name[1:], table.begin, table.end, Value("table", {}, table.begin, table.end))
                 self.networks[-1].entries[table.name[1]] = inner
+            elif table.name[0] == "network":
+                self.single = self.single or table
         array = self.top.get("network")
         if array and array.value.kind == "array":
             self.networks = [NetworkTable(item.begin, item.begin + 1, keys_of(item.entries))
@@ -202,11 +203,10 @@ def unlisted_findings(config: Config) -> list[Finding]:
 
 def strange_table(config: Config, table: Table) -> Finding:
     """A table that isn't `network`."""
-    name = ".".join(table.name)
     like = meant(table.name[0], ("network",)) == "network"
     advice = "write `[[network]]`" if like else "the keys of the radio stand at the top, each network's below its " \
                                                 "`[[network]]`: leave this line out"
-    return Finding(f"there is no table `{name}`", config.place(table), advice)
+    return Finding(f"there is no table `{'.'.join(table.name)}`", config.place(table), advice)
 
 
 def unlisted(config: Config, entry: Entry, here: tuple[str, ...], there: tuple[str, ...],
@@ -261,8 +261,8 @@ def network_findings(config: Config) -> list[Finding]:
     """C7."""
     entry = config.top.get("network")
     if config.single is not None:
-        return [Finding("`[network]` is one table, and networks are an array of tables", config.place(config.single),
-                        "write `[[network]]`")]
+        return [Finding(f"`[{'.'.join(config.single.name)}]` is one table, and networks are an array of tables",
+                        config.place(config.single), "write `[[network]]`")]
     if entry and len(entry.key) > 1:
         return [Finding("this makes `network` one table, and networks are an array of tables", config.place(entry),
                         f"write a line `[[network]]`, and below it `{'.'.join(entry.key[1:])}`")]
@@ -272,16 +272,15 @@ def network_findings(config: Config) -> list[Finding]:
                         f"{called.fellow('live')}; a network begins with a line `[[network]]`")]
     if entry and entry.value.kind != "array":
         return [Finding(f"`network` is an array of tables, and this is {values.KINDS[entry.value.kind]}",
-                        config.place(entry.value), "write a line `[[network]]`, and the network's keys below it")]
+                        config.place(entry.value), BEGIN_NETWORK)]
     if entry:
         odd = next((item for item in entry.value.items if item.kind != "table"), None)
         if odd:
             return [Finding(f"each network is a table, and this is {values.KINDS[odd.kind]}", config.place(odd),
-                            "write a line `[[network]]`, and the network's keys below it")]
+                            BEGIN_NETWORK)]
     count, most = len(config.networks), MOST_IN_VERSION.get(config.version or 0, 0)
     if not count:
-        return [Finding("there is no network", config.place(entry) if entry else None,
-                        "write a line `[[network]]`, and the network's keys below it")]
+        return [Finding("there is no network", config.place(entry) if entry else None, BEGIN_NETWORK)]
     if count <= most:
         return []
     advice = f"a radio has at most {MOST_NETWORKS} networks: leave some out"
@@ -353,7 +352,8 @@ def rates_findings(config: Config, network: NetworkTable) -> list[Finding]:
     entry = network.entries.get("rates")
     if entry and entry.value.kind in ("array", "integer", "number"):
         listed = entry.value.items if entry.value.kind == "array" else [entry.value]
-        written = " ".join(str(item.worth).strip() for item in listed)
+        written = values.digits_of(config.source.text[entry.value.begin:entry.value.end]) or \
+            " ".join(str(item.worth).strip() for item in listed)
         meant_rates = values.rates_of_megabits(values.megabits_among(written))
         numbers = [item.integer for item in listed if item.integer is not None]
         if not meant_rates and len(numbers) == len(listed):

@@ -2,8 +2,9 @@
 from explaining.check_sequences import FCS_LEN
 from explaining.reason import Reason
 from explaining.source import quoted
+from explaining.values import BASIC, UNITS
 from fields import ELEMENT_NAMES
-from frames import SSID, elements
+from frames import EXTENDED_SUPPORTED_RATES, SSID, SUPPORTED_RATES, elements
 
 MOST_NAME = 32
 KNOWN = {*ELEMENT_NAMES, 59, 70, 107, 114}
@@ -14,7 +15,7 @@ def wrong_length(octets: bytes, begin: int) -> Reason:
     end."""
     places = starts(octets, begin)
     fits = [fit for place in places for fit in fitting(octets, place)]
-    if is_followed(octets[begin:-FCS_LEN]):
+    if is_followed(octets[begin:-FCS_LEN]) and not is_begun(octets[-FCS_LEN:]):
         return Reason("four octets are too many at the end: a frame stands in a trace without its frame check sequence",
                       (len(octets) - FCS_LEN, len(octets)), "leave them out")
     bare = bare_name(octets, begin)
@@ -26,6 +27,12 @@ def wrong_length(octets: bytes, begin: int) -> Reason:
         return told(octets, places[-1], None)
     _, _, place, meant = min(fits, default=(True, 0, places[-1], None))
     return told(octets, place, meant)
+
+
+def is_begun(octets: bytes) -> bool:
+    """Whether octets are the beginning of an element of rates, which says that it has more."""
+    return octets[0] in (SUPPORTED_RATES, EXTENDED_SUPPORTED_RATES) and octets[1] > len(octets) - 2 and \
+        {rate & ~BASIC for rate in octets[2:]} <= UNITS
 
 
 def bare_name(octets: bytes, begin: int) -> bytes | None:

@@ -53,8 +53,9 @@ def row_of(line: str, separator: str) -> str | None:
 
 def of_several_intervals(line: str, place: Place) -> Finding | None:
     """`T` with a number, or several of them."""
-    if re.fullmatch("TT+", line):
-        return Finding("each `T` begins one beacon interval, and has a line of its own", place, f"write {len(line)} lines `T`")
+    if re.fullmatch("T(?:[ ,;]*T)+", line):
+        return Finding("each `T` begins one beacon interval, and has a line of its own", place,
+                       f"write {line.count('T')} lines `T`")
     found = SEVERAL.fullmatch(line.strip())
     count = found and (found[1] or found[2])
     if not count or int(count) < 2:

@@ -5,10 +5,12 @@ from collections.abc import Callable
 from explaining.nothing import Looked, with_data
 from explaining.past import home_of, station_in
 from explaining.reason import Reason
+from explaining.refused import DECIMAL_ID
+from explaining.values import BASIC, UNITS
 from explaining.wired_types import TYPES
 from fields import FIXED, type_name
-from frames import (ASSOCIATION_REQUEST, DATA, DEAUTHENTICATION, DISASSOCIATION, HEADER_LEN, MANAGEMENT,
-                    PLAIN_DATA, REASSOCIATION_REQUEST, Frame, address_text, is_group)
+from frames import (ASSOCIATION_REQUEST, DATA, DEAUTHENTICATION, DISASSOCIATION, EXTENDED_SUPPORTED_RATES, HEADER_LEN,
+                    MANAGEMENT, PLAIN_DATA, REASSOCIATION_REQUEST, Frame, address_text, elements, is_group)
 from in_words import address_word
 from reading import LEAST_TYPE, SNAP
 
@@ -30,7 +32,7 @@ def doubtful(looked: Looked, relays: bool) -> Reason | None:
         return of_source(looked.step.line.octets[6:12])
     frame = Frame(looked.step.line.octets)
     if frame.type == MANAGEMENT and frame.subtype in WITH_FIELDS:
-        return exchanged_fields(frame) or turned_field(frame)
+        return exchanged_fields(frame) or turned_field(frame) or decimal_element(frame)
     if frame.type != DATA or frame.subtype != PLAIN_DATA:
         return with_data(frame)
     return of_destination(looked, frame, relays) or of_unit(frame.body)
@@ -92,6 +94,18 @@ def turned_field(frame: Frame) -> Reason | None:
             return Reason(f"{name} `{octets.hex()}` {said}: its octets may stand the wrong way round, the low one "
                           "comes first", (begin, begin + size), f"write `{turned}` for {octets[1]}")
         begin += size
+    return None
+
+
+def decimal_element(frame: Frame) -> Reason | None:
+    """Rates in an element whose ID is the decimal digits of Extended Supported Rates (9.4.2.13)."""
+    begin = HEADER_LEN + sum(size for _, size, _ in FIXED[frame.subtype])
+    for identifier, octets in elements(frame.octets[begin:]) or []:
+        if identifier == DECIMAL_ID and octets and {rate & ~BASIC for rate in octets} <= UNITS:
+            return Reason(f"the element `{DECIMAL_ID:02x}` has rates, and nobody reads it: the ID of Extended Supported "
+                          f"Rates, {EXTENDED_SUPPORTED_RATES}, is `{EXTENDED_SUPPORTED_RATES:02x}` in hexadecimal digits",
+                          (begin, begin + 1), f"write `{EXTENDED_SUPPORTED_RATES:02x}` for `{DECIMAL_ID:02x}`")
+        begin += 2 + len(octets)
     return None
 
 

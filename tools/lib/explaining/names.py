@@ -53,6 +53,11 @@ def unknown_name(asked: bytes, names: list[bytes], span: tuple[int, int]) -> Rea
     if written is not None:
         return Reason(f"no network is called {ssid_text(asked)}: these are the digits of {ssid_text(written)}, "
                       "written as letters once more", span, f"write `{element(written)}`")
+    digits = next((name for name in names if name.lower() == asked.hex().encode()), None)
+    if digits is not None:
+        return Reason(f"no network is called {ssid_text(asked)}; {ssid_text(digits)} is, which are its digits: `ssid` is "
+                      "the name as people read it", span, f"write `ssid = \"{asked.decode('utf-8', 'replace')}\"` in "
+                      "the configuration")
     texts = {name.decode("utf-8", "replace"): name for name in names}
     wide = next((name for text, name in texts.items() if asked in map(text.encode, WIDE)), None)
     if wide is not None:

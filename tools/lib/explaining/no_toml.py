@@ -6,18 +6,15 @@ import tomllib
 
 import called
 from explaining import values
+from explaining.file_kinds import other_file
 from explaining.keys import (HOSTAPD, NETWORK_KEYS, NETWORK_LIMITS, OPTIONS, RADIO_KEYS, RADIO_LIMITS, SAMPLES,
                              TEXT_KEYS)
+from explaining.other_programs import of_other_program, without_keys
 from explaining.pasted import entity, foreign
-from explaining.source import Finding, Place, Source, odd_blank, plain_text, quoted
+from explaining.source import Finding, Place, Source, odd_blank, plain_letter, plain_text, quoted
 from explaining.toml_scan import NoToml, scan
 from hostapd import line_for
 
-# How files begin that are no text of this program.
-MAGICS = ((b"\xd4\xc3\xb2\xa1", "capture"), (b"\xa1\xb2\xc3\xd4", "capture"), (b"\x4d\x3c\xb2\xa1", "capture"),
-          (b"\xa1\xb2\x3c\x4d", "capture"), (b"\x0a\x0d\x0d\x0a", "capture"), (b"\x1f\x8b", "gzip"),
-          (b"PK\x03\x04", "zip"), (b"\x7fELF", "program"), (b"%PDF", "pdf"), (b"\x89PNG", "picture"))
-UTF_16 = (b"\xff\xfe", b"\xfe\xff")
 TRACE_LINE = re.compile(r"(?:[AW] +[0-9A-Fa-f: ]{4,}|T|A|W)\s*\r?")
 REPORT_LINE = re.compile(r"network [0-9a-f:]{17} ssid [0-9a-f]*|(?:air|wire) [0-9a-f]+|events \d+ clock \d+.*")
 SEPARATOR_LIKE = re.compile(r"\s*(?:-\s*){2,}\r?|\s*[\u2010-\u2015\u2212]+\s*|\s*={3,}\s*|\s*-{3,}\s*#.*")
@@ -27,6 +24,8 @@ QUOTES = re.compile("[\u2018-\u201f\u00ab\u00bb\u2039\u203a`\u00b4]")
 REMARK = re.compile(r"\s*(?:;|//|--|/\*|!|%|REM\b)")
 WORD = re.compile(r"[A-Za-z_][A-Za-z0-9_-]*")
 WORD_BEFORE_KEY = re.compile(r"(export|set|let|var|local|const|uci set)\s+([\w-]+)\s*=\s*(.+)")
+FOR_YAML = "write `channel = 6`, a line for each key, and a line `[[network]]` before the keys of each network"
+JSON_LINE = re.compile(r"[\"']([\w-]+)[\"']\s*:\s*(.*?)\s*,?$")
 TAG = re.compile(r"</?[a-z]+ ?/?>")
 # What stands for a value in a template, or for a variable of a shell.
 UNFILLED = re.compile(r"\{\{.*|\$\{?\w+\}?|%\w+%|@\w+@|<[\w -]+>")
@@ -35,7 +34,7 @@ UNFILLED = re.compile(r"\{\{.*|\$\{?\w+\}?|%\w+%|@\w+@|<[\w -]+>")
 def explain(source: Source, wants_trace: bool) -> list[Finding]:
     """The reason for a fault C1; none where nothing was found. `wants_trace` where a line `---` and a trace may
     follow in the same text."""
-    finding = other_file(source) or not_utf8(source) or other_text(source)
+    finding = other_file(source, "configuration", "UTF-8") or not_utf8(source) or other_text(source)
     if finding:
         return [finding]
     try:
@@ -45,24 +44,6 @@ def explain(source: Source, wants_trace: bool) -> list[Finding]:
     except RecursionError:
         return []
     return of_library(source)
-
-
-def other_file(source: Source) -> Finding | None:
-    """A file that is no text."""
-    octets = source.octets
-    kind = next((kind for magic, kind in MAGICS if octets.startswith(magic)), None)
-    if kind == "capture":
-        return Finding(f"{source.name}: this is a capture, and no configuration", None,
-                       f"{called.fellow('trace-from-capture')} makes a trace and a configuration of it")
-    if kind:
-        names = {"gzip": "packed by gzip", "zip": "a zip archive", "program": "a program", "pdf": "a PDF",
-                 "picture": "a picture"}
-        return Finding(f"{source.name}: this file is {names[kind]}, and no text", None,
-                       "`gunzip` unpacks it" if kind == "gzip" else None)
-    if octets.startswith(UTF_16) or b"\0\0" in (octets[1:4:2], octets[0:3:2]):
-        return Finding(f"{source.name}: this text is in UTF-16, and a configuration is in UTF-8", None,
-                       "`iconv -f UTF-16 -t UTF-8` writes it anew")
-    return None
 
 
 def not_utf8(source: Source) -> Finding | None:
@@ -91,7 +72,7 @@ def other_text(source: Source) -> Finding | None:
     keys = [line.split("=")[0].strip() for line in source.lines if "=" in line and not line.startswith("#")]
     of_hostapd = [key for key in keys if key in HOSTAPD]
     has_tables = any(line.lstrip().startswith("[") for line in source.lines)
-    if len(of_hostapd) >= 2 or of_hostapd == ["interface"] and not has_tables:
+    if len(of_hostapd) >= 2 or of_hostapd == ["interface"] and not has_tables and "ssid" in keys:
         number = next(number for number, line in enumerate(source.lines, 1) if line.startswith(of_hostapd[0]))
         return Finding("this is a configuration of hostapd, and the program has its own keys, in TOML",
                        source.place(number, 1, len(of_hostapd[0])),
@@ -112,10 +93,13 @@ def of_line(source: Source, fault: NoToml, wants_trace: bool) -> Finding:
     """Why the text stops being TOML in this line."""
     place = source.at(fault.begin, fault.end)
     line = source.line(place.line)
-    finding = foreign(source, place.line) or of_trace(source, place, line, wants_trace) or of_entity(place, line) or \
-        of_template(source, place.line)
+    finding = foreign(source, place.line) or of_other_program(source, place.line) or \
+        of_trace(source, place, line, wants_trace) or of_entity(place, line) or of_template(source, place.line)
     if finding:
         return finding
+    strange = without_keys(source, place.line)
+    if strange:
+        return strange
     by_expected = {"`=` after a key": of_key, "a key": of_key, "a value": of_value, "the line's end": of_rest,
                    "a key that isn't there yet": of_key_twice, "a table that isn't there yet": of_table_twice}
     blank = odd_blank(source, place.line, place.column - 1, place.column - 1 + place.length)
@@ -124,7 +108,7 @@ def of_line(source: Source, fault: NoToml, wants_trace: bool) -> Finding:
     if fault.expected in by_expected:
         return by_expected[fault.expected](place, line, fault, source)
     if fault.expected.startswith("a closing"):
-        return Finding(f"{fault.expected} is missing", place, f"a text begins and ends with {fault.expected[10:]}")
+        return of_closing(place, line, fault.expected)
     if fault.expected.startswith("a character that may follow"):
         return Finding(f"{quoted(source.text[fault.begin:fault.end])} stands for no character", place,
                        "write `\\\\` for a backslash, or the text between single quotes")
@@ -135,6 +119,15 @@ def of_line(source: Source, fault: NoToml, wants_trace: bool) -> Finding:
                        else f"{fault.expected} is missing", place,
                        "write `[[network]]`" if "network" in line else None)
     return Finding(f"expected: {fault.expected}", place)
+
+
+def of_closing(place: Place, line: str, expected: str) -> Finding:
+    """A text without the quote that ends it; another quote may stand there."""
+    mark = expected[10:]
+    found = re.match(r"\s*([\w-]+)\s*=\s*[\"']([^\"'#]*)([\"']?)\s*$", line)
+    other = f", and {found[3]} stands there" if found and found[3] else ""
+    return Finding(f"{expected} is missing{other}", place, f"a text begins and ends with {mark}" +
+                   (f": write `{found[1]} = \"{found[2].strip()}\"`" if found else ""))
 
 
 def of_entity(place: Place, line: str) -> Finding | None:
@@ -179,14 +172,17 @@ def of_key(place: Place, line: str, fault: NoToml, source: Source) -> Finding:
     text = line.strip()
     if REMARK.match(line):
         return Finding(f"{quoted(text, 12)}: a remark begins with `#`", place, f"write `# {text.lstrip(';/-*!% ')}`")
+    of_json = JSON_LINE.match(text)
+    if of_json:
+        return Finding("this line is written as in JSON or Python, and TOML has a key without quotes, `=` and a value", place,
+                       f"write `{of_json[1]} = {of_json[2]}`")
     words = WORD.match(text)
     behind = WORD_BEFORE_KEY.match(text)
     if behind and behind[2] in RADIO_KEYS + NETWORK_KEYS + OPTIONS:
         return Finding(f"`{behind[1]}` stands before the key, and a line begins with its key", place,
                        f"write `{behind[2]} = {behind[3]}`")
     if is_yaml(source, place.line):
-        return Finding("this is YAML, and a configuration is TOML", place, "write `channel = 6`, a line for each key, "
-                       "and a line `[[network]]` before the keys of each network")
+        return Finding("this is YAML, and a configuration is TOML", place, FOR_YAML)
     if words and re.match(r"\s*:", text[words.end():]):
         return Finding("`:` stands where TOML has `=`", place,
                        f"write `{words[0]} = {text[words.end():].lstrip(':= ').rstrip(',')}`")
@@ -199,6 +195,10 @@ def of_key(place: Place, line: str, fault: NoToml, source: Source) -> Finding:
         return Finding("this is XML or HTML, and a configuration is TOML", place)
     if text.startswith(("\u201c", "\u201d", "\u2018", "\u2019")):
         return Finding("a quote of print, and TOML's are `\"` and `'`", place)
+    odd = next((letter for letter in text.split("=")[0] if plain_letter(letter)), None)
+    if odd:
+        return Finding(f"{quoted(odd)} (U+{ord(odd):04X}) looks like {quoted(plain_letter(odd) or '')} and is another "
+                       "character", place, f"write `{plain_text(text.split('=')[0])}={text.partition('=')[2]}`")
     if not text.isascii() and not WORD.match(text):
         return Finding("a key has letters a to z, digits, `_` and `-`; others stand in quotes", place)
     return Finding("a line is a key, `=` and a value, or a table's header", place, "a remark begins with `#`")

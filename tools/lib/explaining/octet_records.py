@@ -1,5 +1,6 @@
 """What a fault of a record of `live --octets` comes of (docs/PROTOCOL.md, "Lines as they come")."""
 import re
+from typing import Literal, NamedTuple
 
 from explaining.answers import Fault, read_fault
 from explaining.source import Finding, quoted
@@ -7,7 +8,59 @@ from frames import address_text
 from records import HEADER_LEN, NOBODY, TOLD, cut, parts
 
 KINDS, MOST_OCTETS = b"AWTI", 4096
+WITHOUT_OCTETS = b"TI"
 TEXT_LINE = re.compile(rb"(?:[AW] +[0-9A-Fa-f: ]{4,}|T|I|#[^\n]*)\r?\n")
+
+
+class Layout(NamedTuple):
+    """How records may have been written by mistake: what differs, how many octets of a BSSID and of a length they have,
+    the order of the length's, and what stands behind each record."""
+
+    what: str
+    bssid: int = 6
+    length: int = 2
+    order: Literal["little", "big"] = "little"
+    end: bytes = b""
+
+
+LAYOUTS = (
+    Layout("each length has its high octet first", order="big"),
+    Layout("no BSSID stands in a record", bssid=0),
+    Layout("no BSSID stands in a record, and each length has its high octet first", bssid=0, order="big"),
+    Layout("each length has four octets", length=4),
+    Layout("each length has four octets, the high one first", length=4, order="big"),
+    Layout("each length has one octet", length=1),
+    Layout("a line's end (LF) stands behind each record", end=b"\n"),
+)
+
+
+def is_written_so(given: bytes, layout: Layout) -> bool:
+    """Whether octets are records of this layout to the last one."""
+    place = 0
+    while place < len(given):
+        begin = place + 1 + layout.bssid + layout.length
+        length = int.from_bytes(given[begin - layout.length:begin], layout.order)
+        kind, end = given[place:place + 1], begin + length
+        if kind not in KINDS or end > len(given) or not given.startswith(layout.end, end) or \
+                (length > 0) == (kind in WITHOUT_OCTETS):
+            return False
+        place = end + len(layout.end)
+    return bool(given)
+
+
+def of_layout(given: bytes) -> Finding | None:
+    """Records that were written in another form."""
+    try:
+        digits = bytes.fromhex(given.decode("ascii"))
+    except ValueError:
+        digits = b""
+    if digits and is_written_so(digits, Layout("")):
+        return Finding("standard input is hexadecimal digits, and `live --octets` reads the octets themselves", None,
+                       "`xxd -r -p` makes octets of digits")
+    layout = next((layout for layout in LAYOUTS if is_written_so(given, layout)), None)
+    return None if layout is None or is_written_so(given, Layout("")) else Finding(
+        f"{layout.what}: a record is its kind, a BSSID of six octets, a length of two, the low one first, and so many "
+        "octets", None, "a BSSID of six octets 0 stands in each record but `W`")
 
 
 def faults_of(output: bytes) -> list[Fault]:
@@ -22,6 +75,9 @@ def explain(given: bytes, fault: Fault, bssids: list[str]) -> list[Finding]:
     if TEXT_LINE.match(given):
         return [Finding("standard input is text, and `live --octets` reads records", None,
                         "leave `--octets` out: `live CONFIG` reads lines")]
+    layout = of_layout(given)
+    if layout:
+        return [layout]
     whole, rest = cut(given)
     number = fault.line or 0
     if number == len(whole) + 1 and rest:
@@ -32,8 +88,9 @@ def explain(given: bytes, fault: Fault, bssids: list[str]) -> list[Finding]:
     if fault.code == "L5":
         return [Finding(f"the record {number} has {len(octets):,} octets, and may have {MOST_OCTETS:,}")]
     if fault.code == "L4":
+        zeros = "; zeros stand in the other kinds alone" if bssid == NOBODY else ""
         return [Finding(f"no network of the configuration has the BSSID {address_text(bssid)} of the record {number}",
-                        None, f"its networks have {', '.join(bssids)}")]
+                        None, f"its networks have {', '.join(bssids)}{zeros}")]
     return [of_kind(number, kind, bssid, octets)] if fault.code == "L1" else []
 
 

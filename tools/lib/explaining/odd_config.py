@@ -47,7 +47,12 @@ def of_blanks(config: Config, asked: Collection[bytes]) -> list[Finding]:
                     config.place(network.entries["ssid"].value),
                     f'where the blank isn\'t meant write `ssid = "{name.strip()}"`')
             for place, network, name in texts_of(config, "ssid")
-            if name != name.strip() and name.strip().encode() not in asked]
+            if name != name.strip() and name.strip().encode() not in asked] + \
+        [Finding(f"the SSID of the network {place} has a character that isn't seen, U+{ord(name[at]):04X}",
+                 config.place(network.entries["ssid"].value),
+                 f"where it isn't meant write `ssid = \"{''.join(filter(str.isprintable, name))}\"`")
+         for place, network, name in texts_of(config, "ssid")
+         if (at := next((at for at, letter in enumerate(name.strip()) if not letter.isprintable()), None)) is not None]
 
 
 def texts_of(config: Config, key: str) -> list[tuple[int, NetworkTable, str]]:

@@ -10,6 +10,7 @@ from explaining.config import NetworkTable
 from explaining.line_by_line import Step
 from explaining.losses import losses
 from explaining.meant import doubtful
+from explaining.notations import other_numbers
 from explaining.nothing import Looked, nothing
 from explaining.notices import notice
 from explaining.past import Past
@@ -76,8 +77,9 @@ class Outcomes:
 
     def of_step(self, step: Step, full: frozenset[bytes] = frozenset()) -> Iterator[Said]:
         """What is said of a line; where it isn't written as a frame is, that is the reason of all that came of it."""
-        slip = preamble(step.line) or \
-            misfit(self.trace.line(step.line.number).rstrip(), step.line, Known(step.before, self.past.seen))
+        text = self.trace.line(step.line.number).rstrip()
+        slip = preamble(step.line) or other_numbers(text, step.line, step.before) or \
+            misfit(text, step.line, Known(step.before, self.past.seen))
         told = False
         for said in self.of_effects(step, full, slip is not None):
             told = True

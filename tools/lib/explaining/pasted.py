@@ -1,13 +1,11 @@
-"""Lines that belong to no configuration and no trace, and how they came there: marks of git, zeros, pages of HTML, and
-what other programs write."""
-import ast
-import base64
+"""Lines that belong to no configuration and no trace, and how they came there: marks of git, zeros, pages of HTML, what
+the program answers, and words that stand for octets."""
 import html
 import re
 
 import called
+from explaining.other_programs import of_listing
 from explaining.source import Finding, Source, quoted
-from frames import DATA
 
 MERGE_MARK = re.compile(r"(?:<{7}|>{7}|\|{7})(?: .*)?|={7}")
 PATCH_HEAD = re.compile(r"diff --git |index [0-9a-f]{7,}\.\.|(?:---|\+\+\+) [\w/.]|@@ -\d")
@@ -15,29 +13,11 @@ PATCHED = re.compile(r"[+-]\s*[\w\[\"#]")
 PROMPT = re.compile(r"(?:[\w.-]+@[\w.-]+:?\S*)?[$%] +[a-z./~][\w./-]*(?: .*)?|[\w.-]+@[\w.-]+:[~/]\S*# .*")
 FENCE = re.compile(r"\s*(?:`{3}|~{3}).*")
 LEAST_PATCHED = 2
-OPENWRT = re.compile(r"\s*(?:config\s+[\w-]+(?:\s+'[^']*'|\s+[\w-]+)?|option\s+\w+\s+.*|list\s+\w+\s+.*)")
-MOST_WRITTEN = 60
 ENTITY = re.compile(r"&(?:quot|amp|lt|gt|apos|nbsp|#\d+);")
 ANSWER = re.compile(r"ok \d+|(?:air|wire) [0-9a-f]{2}(?::[0-9a-f]{2}){5} [0-9a-f]*|fault \S+ line \d+.*")
-PYTHON = re.compile(r"(?:(?:bytes|bytearray)\()?(b(['\"]).*\2|\[[\d, ]+\])\)?,?")
-BASE64 = re.compile(r"[A-Za-z0-9+/]{14,}={0,2}")
-LIKE_DIGITS, LEAST_STRANGE = set("0123456789abcdefABCDEFOoIlxXhH="), 3
 # What stands for octets: a variable of a shell, a place of a template, a word in capitals as pages have it, or crosses.
 UNFILLED = re.compile(r"\$\{?\w+\}?|\{\{?.*\}?\}|<[\w .:-]+>|%\w+%|@\w+@|(?=.*[G-HJ-NP-Z])[A-Z][A-Z0-9_]{2,}|"
                       r"[xX*?_:.-]*[xX*?]{2}[xX*?_:.-]*")
-# A number, perhaps a time, and two addresses; or a heading of such a list.
-LISTED = re.compile(r"\"?\s*\d+\"?[\s,]+\"?\d+[.:]\d[\d.:]*\"?[\s,]+\"?\S.*(?:802\.11|"
-                    r"\u2192|->)|\"?No\.\"?[\s,]+\"?Time\b")
-MARKUP = re.compile(r"<[?!/]?[A-Za-z]")
-COMMAND = re.compile(r"(?:tools/|waltigon-)?frame +(?:probe|auth|(?:re)?join|disassoc|deauth|data|null|poll|wired)\b")
-# Of other programs' configurations: a line, who writes such lines, and what may be done.
-WRITERS = ((re.compile(r"(?:wireless|network)\.[\w@\[\].-]+=.*"), "what `uci show` of OpenWrt prints",
-            "OpenWrt makes a configuration of hostapd of it, /var/run/hostapd-phy0.conf, and {reader} reads that"),
-           (re.compile(r"\[(?:connection|wifi|wifi-security|ipv[46])\]"), "a connection of NetworkManager", None),
-           (re.compile(r"network=\{"), "a configuration of wpa_supplicant, which joins networks", None))
-DUMP_HEAD = re.compile(r"(?:\d{4}-\d\d-\d\d )?\d\d:\d\d:\d\d\.\d{3,9} ")
-DUMP = re.compile(r"\s*(?:0x[0-9A-Fa-f]{4,8}:? +|[0-9A-Fa-f]{4,8}(?:: +|  +))(?:(?:[0-9A-Fa-f]{2}|[0-9A-Fa-f]{4})(?: "
-                  r"+|$))+")
 
 
 def foreign(source: Source, number: int) -> Finding | None:
@@ -61,24 +41,6 @@ def foreign(source: Source, number: int) -> Finding | None:
     if PROMPT.fullmatch(line.rstrip()) and not line.startswith("#"):
         return Finding("this is a command of a shell with its prompt, copied along with the text", whole,
                        "leave the line out")
-    writer = of_writer(source, number)
-    if writer:
-        return writer
-    if OPENWRT.fullmatch(line.rstrip()) and is_openwrt(source):
-        return Finding("this is a configuration of OpenWrt, and the program has its own keys, in TOML", whole,
-                       "OpenWrt makes a configuration of hostapd of it, /var/run/hostapd-phy0.conf, and "
-                       f"{called.fellow('config-from-hostapd')} reads that")
-    return None
-
-
-def of_writer(source: Source, number: int) -> Finding | None:
-    """A text of another program: it has a line, at the beginning of a line, that none of this program's texts has."""
-    for pattern, what, advice in WRITERS:
-        if any(pattern.fullmatch(line.rstrip()) for line in source.lines):
-            return Finding(f"this is {what}, and the program has its own keys, in TOML",
-                           source.place(number, 1, len(source.line(number)) or 1),
-                           advice.format(reader=called.fellow("config-from-hostapd")) if advice else
-                           f"{called.document('PROTOCOL.md')} has a configuration to copy")
     return None
 
 
@@ -101,12 +63,6 @@ def zeros(source: Source, number: int) -> Finding:
     return Finding(text, source.place(number, at + 1, len(line) - at), "`tr -d '\\000'` takes them out")
 
 
-def is_openwrt(source: Source) -> bool:
-    """Whether a text has a section and an option of OpenWrt."""
-    return bool(re.search(r"^config\s+\w", source.text, re.M) and re.search(r"^\s+(?:option|list)\s", source.text,
-                                                                            re.M))
-
-
 def entity(text: str) -> str | None:
     """A text whose signs are written as in the source of a page, with those signs; None where it has none."""
     return html.unescape(text) if ENTITY.search(text) else None
@@ -116,32 +72,10 @@ def foreign_to_trace(source: Source, number: int) -> Finding | None:
     """What a line is that was meant for a trace, and is written as another program writes frames."""
     line = source.line(number).rstrip()
     whole = source.place(number, 1, len(line) or 1)
-    capture = f"{called.fellow('trace-from-capture')} makes a trace of a capture, as `tcpdump -w` writes one"
     if ANSWER.fullmatch(line):
         return Finding("this is an answer of `live`, and a trace has the lines that it was given", whole,
                        "what a network sends it doesn't hear: leave the lines `ok`, `air`, `wire` and `fault` out")
-    if DUMP_HEAD.match(line):
-        return Finding("this is what tcpdump prints of a frame, and no line of a trace", whole, capture)
-    if DUMP.match(line):
-        return Finding("this is a line of a hex dump, and a trace has one line for each frame", whole,
-                       f"{capture}; else write `A` and the frame's digits, without the places at the left")
     return of_listing(source, number) or continued(source, number)
-
-
-def of_listing(source: Source, number: int) -> Finding | None:
-    """A line of a list of frames, as Wireshark and tshark print it or export it, or of XML; or a command of tools."""
-    line = source.line(number).rstrip()
-    whole = source.place(number, 1, len(line) or 1)
-    capture = f"{called.fellow('trace-from-capture')} makes a trace of the capture itself"
-    if LISTED.match(line):
-        return Finding("this is a line of a list of frames, as Wireshark and tshark show it: it has no octets of the "
-                       "frame", whole, capture)
-    if MARKUP.match(line):
-        return Finding("this is XML or HTML, and a trace has a line of its own for each frame", whole, capture)
-    if COMMAND.match(line):
-        return Finding("this is a command, and a trace has the line that it writes", whole,
-                       f"write what {called.fellow('frame')} answers")
-    return None
 
 
 def continued(source: Source, number: int) -> Finding | None:
@@ -154,22 +88,6 @@ def continued(source: Source, number: int) -> Finding | None:
                    f"write them behind that line, or {quoted('A ' + line.strip())} where they are a frame")
 
 
-def of_base64(source: Source, number: int, line: str, begin: int) -> Finding | None:
-    """A frame in base64: letters that are no digits, and a frame that may be read behind them."""
-    text = line[begin:].strip()
-    if not BASE64.fullmatch(text) or len(set(text) - LIKE_DIGITS) < LEAST_STRANGE:
-        return None
-    try:
-        octets = base64.b64decode(text + "=" * (-len(text) % 4))
-    except ValueError:
-        return None
-    if octets[0] & 3 or octets[0] >> 2 & 3 > DATA:
-        return None
-    return Finding("this is a frame in base64, and a trace has its octets as hexadecimal digits",
-                   source.place(number, begin + 1, len(text)),
-                   f"write {quoted(line[:begin] + octets.hex(), MOST_WRITTEN)}")
-
-
 def unfilled(source: Source, number: int, line: str, at: int, advice: str | None = None) -> Finding | None:
     """A word that stands for what a person has to write there, as pages and scripts have them."""
     begin, end = line.rfind(" ", 0, at) + 1, line.find(" ", at)
@@ -179,19 +97,3 @@ def unfilled(source: Source, number: int, line: str, at: int, advice: str | None
     return Finding(f"{quoted(word)} stands for octets or an address that nothing has put here",
                    source.place(number, begin + 1, len(word)),
                    advice or f"{called.document('FIRST_TRACE.md')} has lines to copy")
-
-
-def of_python(source: Source, number: int, line: str, begin: int) -> Finding | None:
-    """Octets as Python shows them, or as a list of decimal numbers."""
-    found = PYTHON.fullmatch(line, begin)
-    try:
-        octets = bytes(ast.literal_eval(found[1])) if found else b""
-    except (SyntaxError, ValueError):
-        return None
-    if not octets:
-        return None
-    what = "decimal numbers" if found and found[1].startswith("[") else "octets as Python shows them"
-    before = line[:begin] or "A "
-    place = source.place(number, begin + 1, len(line) - begin)
-    return Finding(f"these are {what}, and a frame is hexadecimal digits", place,
-                   f"write {quoted(before + octets.hex(), MOST_WRITTEN)}")

@@ -6,7 +6,7 @@ from dataclasses import dataclass
 from explaining.config import NetworkTable, number_of
 from explaining.names import name_reason
 from explaining.reason import Reason
-from explaining.values import BASIC
+from explaining.values import BASIC, UNITS
 from frames import (ASSOCIATION_RESPONSE, AUTHENTICATION, DEAUTHENTICATION, DISASSOCIATION, EXTENDED_SUPPORTED_RATES,
                     HEADER_LEN, MANAGEMENT, REASSOCIATION_RESPONSE, SUPPORTED_RATES, Frame, elements, number)
 from in_words import ALGORITHMS
@@ -14,13 +14,13 @@ from reading import FIXED_LEN
 
 # Where the status or the reason stands in the body of an answer.
 PLACES = {AUTHENTICATION: 4, ASSOCIATION_RESPONSE: 2, REASSOCIATION_RESPONSE: 2, DEAUTHENTICATION: 0, DISASSOCIATION: 0}
-# In units of 500 kb/s: 1 Mb/s, and 5.5 Mb/s, of which people write the 5; then the rates of 802.11b and g.
+# In units of 500 kb/s: 1 Mb/s, and 5.5 Mb/s, of which people write the 5; then the rates of 802.11b and g in Mb/s.
 MEGABIT, ELEVEN_HALVES, CUT_RATE = 2, 11, 5
 MEGABITS = {1, 2, CUT_RATE, 6, 9, 11, 12, 18, 24, 36, 48, 54}
-UNITS = {ELEVEN_HALVES if rate == CUT_RATE else MEGABIT * rate for rate in MEGABITS}
 # The digits of that ID as people write it, read as hexadecimal ones.
 DECIMAL_ID = int(str(EXTENDED_SUPPORTED_RATES), 16)
 TWO_TOO_MANY = bytes.fromhex("000000000100")  # Open System, number 1, with two octets 0 before
+EXCHANGED = bytes.fromhex("01000000")  # number 1, then Open System
 NOTICES = {DEAUTHENTICATION: "deauthentication", DISASSOCIATION: "disassociation"}
 
 
@@ -86,6 +86,10 @@ def limit(table: NetworkTable | None, key: str) -> int | None:
 def of_algorithm(octets: bytes) -> Reason:
     """An authentication that isn't Open System."""
     algorithm = number(octets[24:26])
+    if octets[24:28] == EXCHANGED:
+        return Reason("its algorithm and its sequence number stand in each other's place: the algorithm comes first, 0 "
+                      "for Open System, then the number 1", (24, 28),
+                      f"write `{EXCHANGED[2:].hex()} {EXCHANGED[:2].hex()}`")
     named = f" ({ALGORITHMS[algorithm]})" if algorithm in ALGORITHMS else ""
     return Reason(f"its algorithm is {algorithm}{named}, and there is Open System alone, 0", (24, 26), "write `0000`")
 

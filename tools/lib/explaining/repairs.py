@@ -74,6 +74,9 @@ def of_control(octets: bytes) -> Iterator[tuple[bytes, Reason]]:
     if octets[1]:
         yield turned, Reason(f"the octets of Frame Control stand the wrong way round: {kind_text(turned)} begins with "
                              f"`{turned[:2].hex()}`", (0, 2), f"write `{turned[:2].hex()}`")
+    digits = f"{octets[0]:02x}"[::-1] + f"{octets[1]:02x}"
+    yield bytes.fromhex(digits) + octets[2:], Reason("the two digits of the first octet stand in each other's place: such "
+                                                     f"a frame begins with `{digits}`", (0, 2), f"write `{digits}`")
     if len(octets) >= HEADER_LEN and Frame(octets).type == DATA and not octets[1] & 3:
         mended = bytes([octets[0], octets[1] | 1])
         yield mended + octets[2:], Reason("To DS is 0, and data of a station has To DS 1", (1, 2),

@@ -6,6 +6,10 @@ MOST_SHOWN = 96
 BEFORE_MARK = 40
 TAB_SHOWN, BLANK_SHOWN, CONTROL_SHOWN = "\u21e5", "\u237d", 0x2400
 MARK = "\ufeff"
+# Letters of Cyrillic and Greek that look like letters of ASCII.
+LOOK_ALIKES = dict(zip("\u0410\u0412\u0415\u041a\u041c\u041d\u041e\u0420\u0421\u0422\u0425\u0430\u0441\u0435\u043e\u0440\u0445\u0443\u0456"
+                       "\u0391\u0392\u0395\u0397\u0399\u039a\u039c\u039d\u039f\u03a1\u03a4\u03a7\u03bf",
+                       "ABEKMHOPCTXaceopxyiABEHIKMNOPTXo"))
 DASHES = "\u2010\u2011\u2012\u2013\u2014\u2015\u2212"
 
 
@@ -95,6 +99,8 @@ def plain_letter(letter: str) -> str | None:
     stands for none."""
     if letter in DASHES:
         return "-"
+    if letter in LOOK_ALIKES:
+        return LOOK_ALIKES[letter]
     plain = unicodedata.normalize("NFKC", letter)
     return plain if not letter.isascii() and len(plain) == 1 and plain.isascii() else None
 

@@ -5,20 +5,22 @@ import re
 import called
 from explaining import values
 from explaining.answers import Fault
+from explaining.file_kinds import is_binary, other_file
 from explaining.joined import of_remark, of_second_line, of_several_intervals, of_table
-from explaining.no_toml import MAGICS, REPORT_LINE, UTF_16
-from explaining.pasted import foreign, foreign_to_trace, of_base64, of_python, unfilled
+from explaining.no_toml import REPORT_LINE
+from explaining.notations import among_marks, behind_words, shown_frame, whole_frame
+from explaining.other_programs import of_other_program, without_words
+from explaining.pasted import foreign, foreign_to_trace, unfilled
 from explaining.source import Finding, Place, Source, odd_blank, plain_letter, quoted
 from explaining.unheard import is_slip
 
 MOST_OCTETS, MOST_LINES, MOST_NAMED = 4096, 1_000_000, 4
-BETWEEN_DIGITS, MOST_AROUND = ":-,.;|_", 20
+BETWEEN_DIGITS, MOST_AROUND, MOST_MARKS = ":-,.;|_", 20, 6
 DIGITS = re.compile("[0-9A-Fa-f]{12,}")
 OTHER_WORDS = {"A": "A", "AIR": "A", "RX": "A", "HEARD": "A", "W": "W", "WIRE": "W", "ETH": "W", "T": "T", "TICK": "T",
                "TBTT": "T", "BEACON": "T"}
 BEFORE_WORD = re.compile(r"((?:(?:\d+ *[|:.)] ?|->|=>|[>+$|*\u2022-]) ?|[\d.,:TZ/-]*\d[\d.,:TZ/-]*[:,]? +))"
                          r"(?=[AW] +[0-9A-Fa-f]|T$)")
-ARRAY = re.compile(r"\s*\{?\s*(?:0x[0-9A-Fa-f]{1,2}\s*,?\s*)+\}?;?|(?:\\x[0-9A-Fa-f]{2})+")
 SAMPLE, MOST_SHOWN = "02:00:00:00:00:01", 60
 NO_QUOTES = str.maketrans("", "", "\"'`")
 BEFORE_FRAME = re.compile("A +([0-9A-Fa-f]{2}(?::[0-9A-Fa-f]{2}){5}) +(?=[0-9A-Fa-f])")
@@ -28,7 +30,7 @@ def explain(source: Source, fault: Fault, names: dict[str, str], is_live: bool =
     """The reason for a fault of a line; none where nothing was found. `names` are the networks' SSIDs by their
     addresses, as the configuration has them, `is_live` where lines are answered as they come."""
     number = fault.line or 0
-    finding = other_file(source)
+    finding = other_file(source, "trace", "ASCII") or (whole_frame(source, names) if is_binary(source) else None)
     if finding:
         return [finding]
     if fault.code == "L5" and number > MOST_LINES and not is_live:
@@ -38,14 +40,18 @@ def explain(source: Source, fault: Fault, names: dict[str, str], is_live: bool =
         return []
     line = source.lines[number - 1]
     line = (line.removesuffix("\r") if number < len(source.lines) else line).rstrip(" ")
-    strange = foreign(source, number) or (foreign_to_trace(source, number) if fault.code == "L1" else None)
+    begin = octets_from(line) if fault.code == "L2" else 0
+    shown = shown_frame(source, number, begin, names) if fault.code in ("L1", "L2") else None
+    strange = foreign(source, number) or shown or of_other_program(source, number) or \
+        (foreign_to_trace(source, number) if fault.code == "L1" else None)
     if strange:
         return [strange]
     odd = odd_blank(source, number)
     if odd and fault.code in ("L1", "L2", "L3", "L4"):
         return [odd]
     bssids = list(names)
-    named = of_name(source, number, line, names) if fault.code == "L3" else None
+    named = of_name(source, number, line, names) if fault.code == "L3" else \
+        of_letters(source, number, line, names) if fault.code == "L2" else None
     if named:
         return [named]
     parts = {"L1": of_word, "L2": of_digits, "L3": of_address, "L4": of_network, "L5": of_length}
@@ -53,24 +59,9 @@ def explain(source: Source, fault: Fault, names: dict[str, str], is_live: bool =
     return [finding] if finding else []
 
 
-def other_file(source: Source) -> Finding | None:
-    """A file that is no trace, by how it begins."""
-    octets = source.octets
-    if any(octets.startswith(magic) for magic, kind in MAGICS if kind == "capture"):
-        return Finding(f"{source.name}: this is a capture, and no trace", None,
-                       f"{called.fellow('trace-from-capture')} makes a trace of it")
-    if octets.startswith(b"\x1f\x8b"):
-        return Finding(f"{source.name}: this file is packed by gzip, and no text", None, "`gunzip` unpacks it")
-    if octets.startswith(UTF_16):
-        return Finding(f"{source.name}: this text is in UTF-16, and a trace is in ASCII", None,
-                       "`iconv -f UTF-16 -t UTF-8` writes it anew")
-    return None
-
-
 def of_word(source: Source, number: int, line: str, bssids: list[str]) -> Finding | None:
     """L1: the first word, or what follows `T`."""
-    first, _, rest = line.partition(" ")
-    place, whole = source.place(number, 1, len(first)), source.place(number, 1, len(line))
+    first, whole = line.partition(" ")[0], source.place(number, 1, len(line))
     if line.startswith("\ufeff"):
         return Finding("a byte order mark stands before the first line", source.place(number),
                        "`sed '1s/^\\xef\\xbb\\xbf//'` takes it off")
@@ -92,6 +83,13 @@ def of_word(source: Source, number: int, line: str, bssids: list[str]) -> Findin
     if "\t" in first:
         return Finding("words are separated by spaces, and this is a TAB", source.place(number, line.index("\t") + 1),
                        "write spaces instead")
+    return of_first_word(source, number, line, bssids) or of_other_text(source, number, line, bssids)
+
+
+def of_first_word(source: Source, number: int, line: str, bssids: list[str]) -> Finding | None:
+    """A word that nearly is one of a trace, or something before it."""
+    first, _, rest = line.partition(" ")
+    place = source.place(number, 1, len(first))
     behind = BEFORE_WORD.match(line)
     if behind:
         return Finding(f"{quoted(behind[1].strip())} stands before the word, and a line begins with its word",
@@ -106,25 +104,22 @@ def of_word(source: Source, number: int, line: str, bssids: list[str]) -> Findin
         return Finding(f"{quoted(first)} is no word of a trace; `{word}` is: `A` for a frame on the air, `W` for one "
                        "on a wire, `T` for a beacon "
                        "interval", place, f"write {quoted((word + ' ' + rest.strip()).strip())}")
+    plain = plain_letter(line[0])
+    if plain and plain.upper() in OTHER_WORDS:
+        return Finding(f"{quoted(line[0])} (U+{ord(line[0]):04X}) looks like {quoted(plain)} and is another character",
+                       source.place(number), f"write {quoted(plain.upper() + line[1:])}")
     if first == "I":
         return Finding("`I` asks `live` for its tables, and is no line of a trace", place, "leave it out")
     if first.upper() in ("A", "W", "T"):
         return Finding(f"the word is `{first.upper()}`, a capital letter", place,
                        f"write {quoted(first.upper() + line[1:])}")
-    return of_other_text(source, number, line)
+    return None
 
 
 def with_returns(source: Source, number: int, line: str) -> Finding:
     """A CR within a line."""
     return Finding("lines end with CR alone, and a trace's end with LF", source.place(number, line.index("\r") + 1),
                    "`tr '\\r' '\\n'` writes such a text anew")
-
-
-def of_array(source: Source, number: int, line: str) -> Finding:
-    """Octets as a program's array has them."""
-    digits = "".join(re.findall(r"(?:0x|\\x)([0-9A-Fa-f]{2})", line))
-    return Finding("these are octets as a program's source has them", source.place(number, 1, len(line)),
-                   f"write {quoted('A ' + digits)}, all of a frame in one line")
 
 
 def of_tick(source: Source, number: int, line: str) -> Finding:
@@ -140,7 +135,7 @@ def of_tick(source: Source, number: int, line: str) -> Finding:
                    source.place(number, 2 + len(rest) - len(rest.lstrip()), len(rest.strip())), "write `T` alone")
 
 
-def of_other_text(source: Source, number: int, line: str) -> Finding | None:
+def of_other_text(source: Source, number: int, line: str, bssids: list[str]) -> Finding | None:
     """A line of another kind of text."""
     place = source.place(number, 1, len(line))
     if re.match(r"[AW][0-9A-Fa-f]", line):
@@ -148,22 +143,17 @@ def of_other_text(source: Source, number: int, line: str) -> Finding | None:
     if re.match(r";|//|--|!|%", line):
         return Finding("a remark begins with `#`", source.place(number, 1, 2),
                        f"write {quoted('# ' + line.strip(';/-!% '))}")
-    if ARRAY.fullmatch(line):
-        return of_array(source, number, line)
-    shown = of_python(source, number, line, 0)
-    if shown:
-        return shown
-    if line.lstrip().startswith(("{", "[")):
-        return Finding("this is JSON, and a trace has a line of its own for each frame", place,
-                       "write `A` and its digits")
     if REPORT_LINE.fullmatch(line) or re.match(r"station [0-9a-f:]{17} |end$", line):
         return Finding("this is a line of a report, and no trace", place)
     if re.match(r"[a-z_]+ *= *\S|\[\[?network", line):
         return Finding("this is a line of a configuration, and no trace", place,
                        "a configuration stands before the line `---`, or in a file of its own: `run CONFIG TRACE`")
-    if re.fullmatch(r"[0-9A-Fa-f ]{8,}", line):
+    if re.fullmatch(r"[0-9A-Fa-f]{2}[0-9A-Fa-f ]{6,}", line):
         return Finding("a line begins with its word: `A` for a frame on the air, `W` for one on the wire", place,
                        f"write {quoted('A ' + line)}")
+    strange = behind_words(source, number, 0, bssids) or without_words(source, number)
+    if strange:
+        return strange
     first = line.split(" ")[0]
     return Finding(f"{quoted(first)} is no word of a trace: a line begins with `A`, `W` or `T`, or with `#`",
                    source.place(number, 1, len(first)), "a remark begins with `#`")
@@ -183,61 +173,72 @@ def of_digits(source: Source, number: int, line: str, bssids: list[str]) -> Find
     second = of_second_line(source, number, line)
     if second:
         return second
-    if stray and ARRAY.fullmatch(digits):
-        return of_array(source, number, line)
     if stray is None:
         return of_odd_digits(source, number, line, begin)
-    shown = of_python(source, number, line, begin) or of_base64(source, number, line, begin) or \
-        unfilled(source, number, line, begin + stray.start())
-    if shown:
-        return shown
+    strange = unfilled(source, number, line, begin + stray.start()) or behind_words(source, number, begin, bssids)
+    if strange:
+        return strange
     named = BEFORE_FRAME.match(line)
     if named:
         return Finding("behind `A` the frame follows at once: an address stands there in what `live` answers, and "
                        "behind `W`", source.place(number, named.start(1) + 1, len(named[1])),
                        f"write {quoted(f'A {line[named.end():].strip()}')}")
     at = begin + stray.start()
-    place = source.place(number, at + 1)
-    letter = stray[0]
     if digits.startswith(("...", "\u2026"), stray.start()):
         return Finding("`...` stands for octets that were left out, and a line has all octets of its frame",
-                       source.place(
-            number, at + 1, 3 if letter == "." else 1), "write them there")
-    remark = of_remark(source, number, line, at)
-    if remark:
-        return remark
-    if letter in "hH" and digits[stray.start() - 1:stray.start()].isalnum():
+                       source.place(number, at + 1, 3 if stray[0] == "." else 1), "write them there")
+    kinds = re.match("(probe|auth|join|assoc|data|null|poll|leave|deauth|beacon)", digits)
+    if kinds:
+        return Finding(f"behind `A` the frame's octets stand, and {quoted(digits.split(' ')[0])} is a word for it",
+                       source.place(number, begin + 1, len(digits)),
+                       f"{called.fellow('frame')} writes the line of such a frame")
+    return of_remark(source, number, line, at) or of_stray(source, number, line, at) or \
+        among_marks(source, number, begin, bssids) or of_no_digit(line[at], source.place(number, at + 1))
+
+
+def of_stray(source: Source, number: int, line: str, at: int) -> Finding | None:
+    """A character among the digits, by what people write there."""
+    place, letter, before, behind = source.place(number, at + 1), line[at], line[:at], line[at + 1:]
+    if letter in "hH" and before[-1:].isalnum():
         return Finding(f"digits stand without `{letter}` behind them", place, f"leave each `{letter}` out")
     if letter in "\"'`":
         return Finding("digits stand without quotes", place, f"write {quoted(line.translate(NO_QUOTES))}")
     if letter == "#":
         return Finding("a remark has a line of its own, and here one stands behind a frame", source.place(
             number, at + 1, len(line) - at), "move it to a line before this one")
-    if letter in "xX" and digits[:stray.start()].endswith("0"):
+    if letter in "xX" and before.endswith("0"):
         return Finding("digits stand without `0x`", source.place(number, at, 2), "leave `0x` out")
-    if letter == "%" and re.search("%[0-9A-Fa-f]{2}%", digits):
+    if letter == "%" and re.search("%[0-9A-Fa-f]{2}%", line):
         return Finding("octets are written as in an address of a page (URL), each with `%` before it", place,
                        f"write {quoted(line.replace('%', ''))}")
-    kinds = re.match("(probe|auth|join|assoc|data|null|poll|leave|deauth|beacon)", digits)
-    if kinds:
-        return Finding(f"behind `A` the frame's octets stand, and {quoted(digits.split(' ')[0])} is a word for it",
-                       source.place(number, begin + 1, len(digits)),
-                       f"{called.fellow('frame')} writes the line of such a frame")
     if letter in BETWEEN_DIGITS:
-        word = word_around(digits, stray.start())
-        mended = "".join(digit for digit in word if digit not in BETWEEN_DIGITS)
-        return Finding(f"digits stand without `{letter}` between them; spaces may stand there", place,
-                       f"write {quoted(mended)} for {quoted(word)}" if mended else f"leave {quoted(word)} out")
+        return of_mark_between(line[octets_from(line):], at - octets_from(line), place)
     if letter == "\t":
         return Finding("a TAB among the digits; spaces alone may stand there", place, "write a space")
     if letter == "\r":
         return of_return(source, number, line, place)
-    if letter == "\\" and digits[stray.end():].strip() == "":
+    if letter == "\\" and behind.strip() == "":
         return Finding("a frame is one line, and a backslash doesn't join it with the next one", place,
                        "write the next line's digits here")
+    return None
+
+
+def of_no_digit(letter: str, place: Place) -> Finding:
+    """A character that is no digit, and perhaps looks like one."""
     like = {"O": "0", "o": "0", "l": "1", "I": "1"}.get(letter) or plain_letter(letter)
     return Finding(f"{quoted(letter)} is no hexadecimal digit", place, f"write {like}" if like else
                    "a frame is digits of 0 to 9 and a to f, with spaces where you like")
+
+
+def of_mark_between(digits: str, at: int, place: Place) -> Finding:
+    """A mark between digits, once or between all of them."""
+    mark, word = digits[at], word_around(digits, at)
+    mended = "".join(digit for digit in word if digit not in BETWEEN_DIGITS)
+    if digits.count(mark) > MOST_MARKS:
+        write = f"leave each `{mark}` out: write {quoted('A ' + digits.replace(mark, ''), MOST_SHOWN)}"
+    else:
+        write = f"write {quoted(mended)} for {quoted(word)}" if mended else f"leave {quoted(word)} out"
+    return Finding(f"digits stand without `{mark}` between them; spaces may stand there", place, write)
 
 
 def of_return(source: Source, number: int, line: str, place: Place) -> Finding:
@@ -281,6 +282,16 @@ def of_name(source: Source, number: int, line: str, names: dict[str, str]) -> Fi
     return Finding(f"after `W` a network is named by its address, and {quoted(word)} is the SSID of "
                    f"{' and '.join(owners)}",
                    source.place(number, match.start(1) + 1, len(match[1])), f"write `W {owners[0]}`")
+
+
+def of_letters(source: Source, number: int, line: str, names: dict[str, str]) -> Finding | None:
+    """A network's SSID as letters within a frame."""
+    stray = re.search("[^0-9A-Fa-f ]", line[octets_from(line):])
+    at = octets_from(line) + stray.start() if stray else 0
+    found = next((name for name in names.values() if stray and name in line and
+                  line.index(name) <= at < line.index(name) + len(name)), None)
+    return found and Finding(f"{quoted(found)} stands here as letters, and a frame has the digits of its octets",
+                             source.place(number, line.index(found) + 1, len(found)), f"write `{found.encode().hex()}`")
 
 
 def of_address(source: Source, number: int, line: str, bssids: list[str]) -> Finding | None:

@@ -7,6 +7,8 @@ KINDS = {"text": "a text", "integer": "a whole number", "number": "a number with
          "time": "a date or a time", "array": "an array", "table": "a table"}
 MOST_NAME, MOST_RATES, MOST_RATE, BASIC = 32, 16, 108, 0x80
 MEGABITS = (1, 2, 5.5, 6, 9, 11, 12, 18, 22, 24, 33, 36, 48, 54)
+# The rates of 802.11b and g, in units of 500 kb/s.
+UNITS = {int(2 * rate) for rate in (1, 2, 5.5, 6, 9, 11, 12, 18, 24, 36, 48, 54)}
 DSSS, DSSS_BASIC, OFDM_BASIC = (1, 2, 5.5, 11), (1, 2), (6, 12, 24)
 FIRST_MHZ, LAST_MHZ, JAPANESE_MHZ = 2412, 2472, 2484
 NUMBER = re.compile(r"\d+(?:\.\d+)?")
@@ -21,6 +23,10 @@ def address_fault(text: str) -> tuple[str, tuple[int, int], str | None] | None:
     whole = 0, len(text)
     if not text:
         return "an address has six pairs of hexadecimal digits, and this is empty", whole, None
+    core = re.search(r"(?<![0-9A-Fa-f:])[0-9A-Fa-f]{2}(?::[0-9A-Fa-f]{2}){5}(?![0-9A-Fa-f]|:[0-9A-Fa-f])", text)
+    if core and text.strip() != core[0]:
+        beside = (text[:core.start()] + text[core.end():]).strip()
+        return f"{quoted(beside)} stands beside the address", whole, core[0].lower()
     stray = re.search(r"[^0-9A-Fa-f:.\- \t]", text)
     if stray and plain_letter(stray[0]):
         plain = plain_text(text)
@@ -60,6 +66,12 @@ def truth_of(text: str) -> str | None:
     """The truth value that a text or a number is meant as; None where it is none."""
     is_true, is_false = text.lower() in ("1", "true", "yes", "on"), text.lower() in ("0", "false", "no", "off")
     return "true" if is_true else "false" if is_false else None
+
+
+def digits_of(number: str) -> str | None:
+    """The digits of a hexadecimal number; None where it is none."""
+    found = re.fullmatch("0x((?:[0-9A-Fa-f]{2})+)", number.replace("_", ""))
+    return found and found[1]
 
 
 def letters_of(number: str) -> str | None:

@@ -3,7 +3,7 @@ import os
 from dataclasses import dataclass, field
 
 import called
-from explaining import config, no_toml, octet_records, odd_config, runs, trace_lines, words
+from explaining import config, no_toml, octet_records, odd_config, other_programs, runs, trace_lines, words
 from explaining.answers import Answer, Fault, read_fault
 from explaining.line_by_line import Unanswered
 from explaining.source import Finding, Source
@@ -95,13 +95,14 @@ def of_findings(findings: list[Finding]) -> list[str]:
 
 def findings_of(texts: Texts, fault: Fault) -> list[Finding]:
     """The reasons for a fault, by what it is of."""
-    swapped = of_order(texts) if fault.code == "C1" else None
+    swapped = of_order(texts) if fault.code == "C1" else of_first_line(texts) if fault.code == "C2" else None
     if swapped:
         return [swapped]
     if fault.code == "C1":
         return no_toml.explain(texts.config, texts.is_joined) if texts.config else []
-    if fault.code.startswith("C"):
-        return config.explain(texts.config, fault) if texts.config else []
+    if fault.code.startswith("C") and texts.config:
+        strange = other_programs.without_listed(config.Config(texts.config)) if fault.code == "C2" else None
+        return [strange] if strange else config.explain(texts.config, fault)
     if fault.code.startswith("L") and texts.records is not None:
         return octet_records.explain(texts.records, fault, list(names_of(texts)))
     if fault.code.startswith("L"):
@@ -114,14 +115,30 @@ def findings_of(texts: Texts, fault: Fault) -> list[Finding]:
 
 def of_order(texts: Texts) -> Finding | None:
     """A trace where the configuration is looked for, and a configuration behind it."""
-    if texts.words[:1] != ["run"] or texts.config is None or len(texts.traces) != 1 or texts.traces[0] is None:
+    behind = next((trace for trace in texts.traces if trace and "[[network]]" in trace.text), None)
+    if texts.words[:1] not in (["run"], ["play"]) or texts.config is None or behind is None:
         return None
     first = next((line for line in texts.config.lines if line.strip() and not line.startswith("#")), "")
-    if not no_toml.TRACE_LINE.fullmatch(first) or "[[network]]" not in texts.traces[0].text:
+    if not no_toml.TRACE_LINE.fullmatch(first):
         return None
-    names = texts.config.name, texts.traces[0].name
+    names = texts.config.name, behind.name
+    others = [trace.name for trace in texts.traces if trace and trace is not behind]
     return Finding(f"{names[0]} is a trace, and {names[1]} a configuration: the configuration comes first", None,
-                   f"write `run {names[1]} {names[0]}`")
+                   f"write `{' '.join([texts.words[0], names[1], names[0], *others])}`")
+
+
+def of_first_line(texts: Texts) -> Finding | None:
+    """A line `---` before all else, as texts of YAML begin."""
+    if not texts.is_joined or texts.config is None or texts.config.text.strip() or not texts.traces[0].text.strip():
+        return None
+    trace = texts.traces[0]
+    first = next(number for number, line in enumerate(trace.lines, 1) if line.strip())
+    if no_toml.is_yaml(trace, first):
+        return Finding("this is YAML, and a configuration is TOML", trace.place(first, 1, len(trace.line(first))),
+                       no_toml.FOR_YAML)
+    return Finding("the configuration is empty: the text begins with the line `---`, before which it has to stand",
+                   Source(trace.name, SEPARATOR, trace.first - 1).place(1, 1, len(SEPARATOR)),
+                   "write the configuration before it")
 
 
 def names_of(texts: Texts) -> dict[str, str]:

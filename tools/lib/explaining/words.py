@@ -1,6 +1,8 @@
 """What a fault of the program's words, files, memory or streams comes of."""
 import difflib
+import glob
 import os
+import re
 import shlex
 import stat
 from collections.abc import Callable
@@ -14,13 +16,17 @@ SUBCOMMANDS = {"check": "check CONFIG", "run": "run CONFIG TRACE", "play": "play
 FORMS = ("check CONFIG, run CONFIG TRACE, play CONFIG TRACE..., live CONFIG and live --octets CONFIG; without words it "
          "reads standard input")
 OCTETS = "--octets"
+# Words of tools, by those that people give the program; of them the tools themselves have no word for what they do.
+OF_OTHERS = {"status": "live", "events": "live", "kick": "live", "reload": "live", "check-radio": "live",
+             "check-networks": "live", "explain": "explain", "frame": "frame", "picture": "picture"}
+OF_ITSELF: dict[str, list[str]] = {"explain": ["CONFIG"], "frame": ["--help"], "picture": ["--help"]}
 # How many words follow each at least.
 LEAST = {"check": 1, "run": 2, "play": 2, "live": 1}
 # The options of the tool that starts the program on a radio.
 OF_BRIDGE = ("--phy", "--wire", "--wires", "--share", "--monitor", "--country", "--idle", "--record", "--tables",
              "--status",
              "--bridge", "--json", "--watch")
-MOST_TRACES, MOST_FILES = 64, 4
+MOST_TRACES, MOST_FILES, MOST_READ = 64, 4, 65_536
 # How much a file's name has to be like the one that was given, for it to be meant: all of it, and what stands before its
 # ending.
 LIKE, STEM_LIKE = 0.75, 0.65
@@ -46,24 +52,36 @@ def of_words(fault: Fault, words: list[str]) -> list[Finding]:
         return [Finding(f"the program has no word {quoted(first)}", None, f"its words are {FORMS}")]
     if first in SUBCOMMANDS:
         return [of_subcommand(first, rest)]
+    several = names_within(first)
+    if several:
+        return [of_several(several + rest, first)]
+    if first in OF_OTHERS:
+        return [Finding(f"the program has no word {quoted(first)}: it is one of {called.fellow(OF_OTHERS[first])}", None,
+                        f"write `{shlex.join([*called.fellow(OF_OTHERS[first]).split(), *OF_ITSELF.get(first, [first])])}`")]
     close = difflib.get_close_matches(first.lower(), list(SUBCOMMANDS), 1, 0.6)
     if close:
         write = shlex.join([close[0], *rest]) if len(rest) >= LEAST[close[0]] else SUBCOMMANDS[close[0]]
         return [Finding(f"the program has no word {quoted(first)}", None, f"write `{write}`")]
-    if first.startswith("-"):
-        files = [word for word in rest if not word.startswith("-")]
-        more = f"write `{form_for(files)}`; " if files else ""
-        return [Finding(f"the program has no word {quoted(first)}, and no options", None,
-                        f"{more}its words are {FORMS}")]
     command = next((word for word in rest if word in SUBCOMMANDS), None)
     if command is not None:
         files = [word for word in words if word != command and not word.startswith("-")]
+        options = [OCTETS] * (command == "live" and OCTETS in words)
         return [Finding(f"the command comes first, and here {quoted(first)} does", None,
-                        f"write `{shlex.join([command, *files])}`")]
+                        f"write `{shlex.join([command, *options, *files])}`")]
+    if first.startswith("-"):
+        files = [value_of(word) for word in words if not word.startswith("-") or is_like_file(value_of(word))]
+        more = f"write `{form_for(files)}`; " if files else ""
+        return [Finding(f"the program has no word {quoted(first)}, and no options", None,
+                        f"{more}its words are {FORMS}")]
     if is_like_file(first):
         return [Finding(f"a file's name, {quoted(first)}, is no first word", None, f"write `{form_for(words)}`, or "
                         f"`{called.program()} < {first}` where it is a configuration and a trace")]
     return [Finding(f"the program has no word {quoted(first)}", None, f"its words are {FORMS}")]
+
+
+def value_of(word: str) -> str:
+    """What stands behind `=` in an option; another word as it is, and nothing of an option alone."""
+    return word.partition("=")[2] if word.startswith("-") else word
 
 
 def is_like_file(word: str) -> bool:
@@ -99,7 +117,7 @@ def of_subcommand(first: str, rest: list[str]) -> Finding:
                            "the bridge", None, f"`{called.fellow('live')} --help` shows how it is used")
         if dashed in ("-h", "--help", "--version"):
             return Finding(f"the program has no word {quoted(dashed)}", None, f"its words are {FORMS}")
-        others = [word for word in rest if not word.startswith("-")]
+        others = [value_of(word) for word in rest if not word.startswith("-") or is_like_file(value_of(word))]
         is_octets = first == "live" and difflib.SequenceMatcher(None, dashed, OCTETS).ratio() > LIKE
         meant = [first] + [OCTETS] * is_octets + others
         write = f"write `{shlex.join(meant)}`; " if len(others) == LEAST[first] else ""
@@ -108,8 +126,7 @@ def of_subcommand(first: str, rest: list[str]) -> Finding:
     least = LEAST[first]
     count = len([word for word in rest if word != "--"])
     if count < least:
-        what = "CONFIG" if count == 0 else "TRACE"
-        return Finding(f"after `{first}` the word {what} is missing", None, f"write `{form}`")
+        return of_missing(first, [word for word in rest if word != "--"], form)
     if first == "live":
         files = [word for word in rest if word != "--"]
         return Finding("`live` reads its lines from standard input, and takes one word and no more", None,
@@ -117,6 +134,46 @@ def of_subcommand(first: str, rest: list[str]) -> Finding:
     return Finding(f"`{first}` takes {'one word' if least == 1 else 'two words'} and no more, and there are {count}",
                    None, f"write `{form}`" + (", or `play CONFIG TRACE...` for several traces" if first == "run"
                                               else ", and `run CONFIG TRACE` for a trace" if first == "check" else ""))
+
+
+def of_missing(first: str, files: list[str], form: str) -> Finding:
+    """Too few words behind one of the program's: which one is missing, by what the file is that is there."""
+    several = next((word for word in files if names_within(word)), None)
+    if several:
+        return of_several([first, *(name for word in files for name in names_within(word) or [word])], several)
+    text = text_of(files[0]) if files else ""
+    if re.search("^---$", text, re.M) and re.search(r"^\[\[network", text, re.M):
+        return Finding(f"after `{first}` the word TRACE is missing, and {quoted(files[0])} is a configuration and a "
+                       "trace in one, with a line `---`", None, f"write `{called.program()} < {files[0]}`")
+    if re.search(r"^(?:A|W [0-9A-Fa-f:]{17}) +[0-9A-Fa-f]{2}|^T$", text, re.M):
+        return Finding(f"{quoted(files[0])} is a trace, and after `{first}` a configuration stands before it", None,
+                       f"write `{first} CONFIG {files[0]}`")
+    what = "TRACE" if files else "CONFIG"
+    return Finding(f"after `{first}` the word {what} is missing", None, f"write `{form}`")
+
+
+def names_within(word: str) -> list[str]:
+    """The words that stand in one, with commas or blanks between, each of which the program has or is a file's name;
+    none where there are fewer than two, or a file has that name."""
+    parts = [part for part in re.split(r"[,;\s]+", word) if part]
+    is_meant = len(parts) > 1 and not os.path.exists(word) and all(
+        part in SUBCOMMANDS or is_like_file(part) for part in parts)
+    return parts if is_meant else []
+
+
+def of_several(meant: list[str], word: str) -> Finding:
+    """A word that holds several."""
+    return Finding(f"{quoted(word)} is one word, and names {len(names_within(word))}: a space that no quotes hold stands "
+                   "between words", None, f"write `{shlex.join(meant)}`")
+
+
+def text_of(name: str) -> str:
+    """How a file's text begins; nothing of one that can't be read."""
+    try:
+        with open(name, encoding="utf-8", errors="replace") as file:
+            return file.read(MOST_READ) if os.path.isfile(name) else ""
+    except (OSError, ValueError):
+        return ""
 
 
 def of_file(fault: Fault, words: list[str]) -> list[Finding]:
@@ -162,9 +219,16 @@ def missing_file(name: str, advice: str | None, reason: OSError) -> Finding:
     if not isinstance(reason, FileNotFoundError):
         return Finding(f"{quoted(name)} can't be read: {reason.strerror}", None, advice)
     folder = os.path.dirname(name) or "."
-    if name.startswith("~") and os.path.exists(os.path.expanduser(name)):
-        advice = "a shell puts the home in the place of `~` where no quotes stand around it: write " + \
-            os.path.expanduser(name)
+    if names_within(name):
+        return Finding(f"{quoted(name)} isn't there, and is one word for {len(names_within(name))} files", None,
+                       f"write `{shlex.join(names_within(name))}`")
+    if re.search(r"[*?]|\[.+\]", name) and not advice:
+        return Finding(f"{quoted(name)} isn't there: the shell puts files in the place of a pattern, and leaves one as "
+                       "it is that no file fits, or that stands in quotes", None, matching(name))
+    if name.startswith("~"):
+        home = os.path.expanduser(name)
+        advice = "a shell puts the home in the place of `~` where no quotes stand around it" + \
+            (f": write {home}" if os.path.exists(home) else "; there is no " + home)
     if not os.path.isdir(folder):
         return Finding(f"{quoted(name)} isn't there: there is no folder {quoted(folder)}", None, advice)
     try:
@@ -176,6 +240,13 @@ def missing_file(name: str, advice: str | None, reason: OSError) -> Finding:
         advice = f"`{os.path.join(os.path.dirname(name), close[0])}` is there, and may be meant"
     where = f"the folder {os.path.realpath(folder)} has none of this name"
     return Finding(f"{quoted(name)} isn't there: {where}", None, advice)
+
+
+def matching(name: str) -> str:
+    """Which files fit a pattern, or that none does."""
+    found = sorted(glob.glob(name))[:MOST_FILES]
+    folder = os.path.dirname(name) or "."
+    return f"without quotes it is {', '.join(found)}" if found else f"`ls {folder}` shows which files are there"
 
 
 def like(name: str) -> Callable[[str], bool]:
