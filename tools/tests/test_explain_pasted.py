@@ -83,6 +83,8 @@ SHOWN = [
     (dump(lambda at, row: f"I ({at + 1234}) wifi: 0x3ffb{at:04x}   {spaced(row)}  |{letters(row)}|"), 1, ["hex dump"]),
     ("           " + spaced(bytes(range(16))) + "\n\n" + dump(lambda at, row: f"{at:08X}   {spaced(row)}"), 1,
      ["a hex dump", "lines 1 to 5"]),
+    (f"Packet ({len(PROBE)} bytes):\n" + dump(lambda at, row: f"{at:04x}  {spaced(row)}"), 1, ["a hex dump", "1 to 4"]),
+    (f"{DIGITS[:60]}\n{DIGITS[60:]}\n", 1, ["begins with its word", "for the lines 1 to 2"]),
     ('A "' + "".join(f"\\x{{{octet:02x}}}" for octet in PROBE) + '"\n', 1, ["a program's source"]),
     (f"A [{spaced(PROBE)}]\n", 1, ["my.trace:1:3: `[` and `]` stand among the digits"]),
     (f"A \u201c{DIGITS}\u201d\n", 1, ["`\u201c` and `\u201d` stand among the digits"]),
@@ -114,6 +116,9 @@ CONFIGURATIONS = [
     ("fault C1", "bssid=02:00:00:00:00:01\nssid=lab\nwpa_state=COMPLETED\n", "wpa_cli or hostapd_cli prints"),
     ("fault C1", "CONFIG = {\n    'channel': 6,\n}\n", "written as in JSON or Python"),
     ("fault C10 network 0", CONFIG.replace('"82840b16"', "0x82840b96"), 'write `rates = "82840b96"`'),
+    ("fault C1", CONFIG.replace('"lab"', "'bob\\'s lab'"), "write `ssid = \"bob's lab\"`"),
+    ("fault C9 network 0", CONFIG.replace('"lab"', '["lab", "loft"]'), 'write `ssid = "lab"`'),
+    ("fault C9 network 0", CONFIG.replace('"lab"', "2024"), 'write `ssid = "2024"`'),
     ("fault C1", "A letter to the owner.\n\nThe radio is on channel six.\n", "none of its keys stands in it"),
     ("fault C7", CONFIG[:CONFIG.index("[[network]]")] + "[network.lab]\nssid = \"lab\"\n",
      "my.toml:6:1: `[network.lab]` is one table"),
@@ -129,6 +134,8 @@ TRACES = [
     ("fault L1 line 1", "wlan0 (phy #0): scan started\nwlan0: new station 02:aa:00:00:00:01\n", "`iw event` prints"),
     ("fault L1 line 1", "1764464400.1: wlan0 (phy #0): scan started\n", "what `iw event` prints"),
     ("fault L1 line 1", "IP 10.0.0.1.5353 > 224.0.0.251.5353: 0 PTR (QM)? _http._tcp.local. (33)\n", "tcpdump prints"),
+    ("fault L2 line 1", "A 02:aa:00:00:00:01\n", "my.trace:1:3: an address alone stands here"),
+    ("fault L2 line 1", f"A {DIGITS}\u2028T\u2028", "a line separator (U+2028) stands here"),
     ("fault L1 line 1", "BSSID, First time seen, channel, ESSID\n02:00:00:00:00:01, 2026, 6, lab,\n", "airodump-ng"),
     ("fault L1 line 1", ":1000000040000000FFFFFFFFFFFF02AA0000000109\n:00000001FF\n", "Intel HEX"),
     ("fault L1 line 1", "RadioTap()/Dot11(addr1='ff:ff:ff:ff:ff:ff')/Dot11ProbeReq()\n", "makes a frame in scapy"),
@@ -167,6 +174,8 @@ WORDS = [
     (["status", "my.toml"], ["one of tools/live", "write `tools/live status`"]),
     (["--", "frame"], ["one of tools/frame", "write `tools/frame --help`"]),
     (["play", "my.trace", "my.toml", "my.trace"], ["comes first", "write `play my.toml my.trace my.trace`"]),
+    (["live", "--octets", "my.toml", "my.records"], ["its records", "write `live --octets my.toml < my.records`"]),
+    (["run", "MY.TOML", "my.trace"], ["`my.toml` is there, and may be meant"]),
     (["yaml.toml"], ["yaml.toml:2:1: this is YAML"]),
 ]
 # Lines that are read, and what is said of each.
@@ -179,6 +188,8 @@ LINES = [
      ["my.trace:1:3", "its digits are decimal numbers", "write `A 40000000ff"]),
     (f"A 0000 0000 {LAB} {STATION} {LAB} 0000 0100 0a00 00036c6162 0104 8284",
      ["the element Supported Rates says that it has 4 octets, and 2 follow", "has to be `02`"]),
+    ("A " + " ".join(f"{octet:x}" for octet in PROBE[:-1] + bytes(2))[:-2],
+     ["its digits are octets of which some lack the zero", "write `A 40000000ff"]),
     ("A " + numbers(PROBE, 2), ["its digits are numbers of several octets", "write `A 40000000ff"]),
     (f"A 40000000ffffffffffff{STATION}ffffffffffff0000 00056775657374 010402040b16",
      ["`6775657374` is, which are its digits", 'write `ssid = "guest"` in the configuration']),
@@ -293,6 +304,10 @@ class Pasted(ToolTest):
         found = octet_records.explain(given, read_fault("fault L2 record 1"), [])
         self.assertIn("standard input is hexadecimal digits", found[0].text)
         self.assertIn("xxd -r -p", found[0].advice)
+
+    def test_text_in_place_of_records_is_named(self):
+        found = octet_records.explain(b'{"kind": "A"}\n', read_fault("fault L2 record 1"), [])
+        self.assertIn("standard input is text, and `live --octets` reads records", found[0].text)
 
     def test_records_as_they_should_be_are_of_no_other_form(self):
         given = record(b"A", bytes(6), PROBE) + record(b"T") + record(b"W", bytes.fromhex("029900000001"), WIRED)

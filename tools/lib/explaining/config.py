@@ -140,8 +140,7 @@ def wrong_kind(config: Config, entry: Entry, key: str, wanted: str, write: str) 
 def number_findings(config: Config, entries: dict[str, Entry], key: str, limits: tuple[int, int],
                     where: str) -> list[Finding]:
     """What is wrong with a number: it isn't there, is none, or isn't within its limits."""
-    least, most = limits
-    entry = entries.get(key)
+    (least, most), entry = limits, entries.get(key)
     if entry is None:
         return [missing(config, entries, key, where, None)]
     value, number = entry.value, entry.value.integer
@@ -297,7 +296,8 @@ def text_of(config: Config, network: NetworkTable, key: str) -> tuple[Value, str
     if entry is None:
         return missing(config, network.entries, key, in_network(config, network), config.place(network))
     text = entry.value.text
-    return wrong_kind(config, entry, key, "a text", SAMPLES[key]) if text is None else (entry.value, text)
+    written = values.text_in(entry.value) or SAMPLES[key]
+    return wrong_kind(config, entry, key, "a text", written) if text is None else (entry.value, text)
 
 
 def bssid_findings(config: Config, network: NetworkTable) -> list[Finding]:

@@ -299,6 +299,11 @@ def with_more(place: Place, value: str, more: str, name: str) -> Finding:
 def of_rest(place: Place, line: str, fault: NoToml, source: Source) -> Finding:
     """Something after a value that is whole."""
     text = source.text[fault.begin:fault.end]
+    single = re.fullmatch(r"\s*([\w-]+)\s*=\s*'(.*)'\s*", line)
+    if single and text[:1].isalpha():
+        plain = single[2].replace("\\'", "'")
+        return Finding("the text ends at the second single quote, and goes on behind it", place,
+                       f"write `{single[1]} = \"{plain}\"`, between double quotes")
     if text == "]":
         return Finding("`]` is one too many", place, "write `[[network]]` for a network")
     if REMARK.match(text):

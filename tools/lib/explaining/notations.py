@@ -26,9 +26,11 @@ OCTET = r"(?:25[0-5]|2[0-4]\d|1\d\d|0{0,2}\d|0?\d\d)"
 BETWEEN, NO_MORE = r"[ \t]*[,;:|]?[ \t]*", re.compile(r"[\s\"'\])};,\\]*(?://.*|/\*.*|#.*)?")
 # The first lines of an array or of a dump that has its octets in the lines after them: what is opened, a remark, the
 # numbers of columns.
-HEADING = re.compile(r".*[=({\[\"]\s*|\s*(?:/\*.*\*/|//.*)?\s*|[\w ]*\b0?0 +0?1 +0?2 +0?3 .*")
+HEADING = re.compile(r".*[=({\[\"]\s*|\s*(?:/\*.*\*/|//.*)?\s*|[\w ]*\b0?0 +0?1 +0?2 +0?3 .*|"
+                     r".*\(\d+ (?:bytes|octets)\):?\s*")
 PYTHON = re.compile(r"(?:(?:bytes|bytearray)\()?(b(['\"]).*\2)\)?,?")
 BASE64 = re.compile(r"[A-Za-z0-9+/]{14,}={0,2}")
+DIGITS_ALONE = re.compile("(?:[0-9A-Fa-f]{2} ?)+")
 RUN = re.compile(r"(?<![\w.])(?:[0-9A-Fa-f]{2} ?){15,}[0-9A-Fa-f]{2}(?!\w)")
 LIKE_DIGITS, LEAST_STRANGE = set("0123456789abcdefABCDEFOoIlxXhH="), 3
 RADIOTAP_LEN, TYPE_AT = slice(2, 4), slice(12, 14)
@@ -46,12 +48,14 @@ class Notation(NamedTuple):
 
 
 class ToldBy(Enum):
-    """How a notation is told from others: by itself, by a place at the left, or by the frame that it gives alone."""
+    """How a notation is told from others: by itself, by a place at the left, or by the frame that it gives alone, or by
+    that and by numbers of one digit."""
 
     ITSELF = auto()
     PLACE = auto()
     PLACE_AND_FRAME = auto()
     FRAME = auto()
+    SHORT_NUMBERS = auto()
 
 
 class Row(NamedTuple):
@@ -92,6 +96,8 @@ NOTATIONS = (
     Notation("octal numbers", r"\\?[0-3][0-7]{2}\b", lambda token: bytes([int(token.lstrip("\\"), 8)]), ToldBy.FRAME),
     Notation("binary numbers", r"(?:0b)?[01]{8}\b", lambda token: bytes([int(token.removeprefix("0b"), 2)]),
              ToldBy.FRAME),
+    Notation("octets of which some lack the zero before their digit", r"[0-9A-Fa-f]{1,2}\b",
+             lambda token: bytes.fromhex(token.zfill(2)), ToldBy.SHORT_NUMBERS),
     Notation("decimal numbers", rf"(?:-(?:1[01]\d|12[0-8]|[1-9]?\d)|{OCTET})\b",
              lambda token: bytes([int(token) & 0xFF]), ToldBy.FRAME),
 )
@@ -112,7 +118,7 @@ def other_numbers(text: str, line: Line, bssids: Iterable[bytes]) -> Reason | No
     if line.kind != "A" or likeness(line.octets, addresses) == MOST_LIKE:
         return None
     begin = len(text) - len(text[1:].lstrip())
-    for notation in (notation for notation in NOTATIONS if notation.told_by in (ToldBy.FRAME, ToldBy.PLACE_AND_FRAME)):
+    for notation in (notation for notation in NOTATIONS if notation.told_by not in (ToldBy.ITSELF, ToldBy.PLACE)):
         row = of_run(text[begin:], notation, False)
         if row and likeness(row.octets, addresses) == MOST_LIKE:
             name = notation.name.removeprefix(f"{DUMP} in ")
@@ -214,6 +220,8 @@ def of_run(text: str, notation: Notation, is_first: bool, place: re.Match[str] |
     tokens = re.findall(notation.token, found[0]) if found else []
     if not found or len(tokens) < LEAST_NUMBERS and may_lead:
         return None
+    if notation.told_by is ToldBy.SHORT_NUMBERS and all(len(token) > 1 for token in tokens):
+        return None
     if place is None and not NO_MORE.fullmatch(text[found.end():]):
         return None
     is_marked = place is None or place["mark"] or place["place"].startswith("0x")
@@ -238,6 +246,20 @@ def behind_words(source: Source, number: int, begin: int, bssids: Iterable[str])
         return None
     return Finding(f"{quoted(before)} stands before the digits of a frame, and a trace has them alone behind their word",
                    source.place(number, begin + 1, found.start() - begin), advice_for(line[:begin] or "A ", octets))
+
+
+def over_lines(source: Source, number: int) -> Finding:
+    """Digits without a word: a frame in this line, and perhaps in the next ones, where they begin no frame."""
+    lines = [source.line(number)]
+    while DIGITS_ALONE.fullmatch(following := source.line(number + len(lines)).strip()) and \
+            likeness(bytes.fromhex(following), {BROADCAST}) < MOST_LIKE and \
+            bytes.fromhex(following)[:2] not in BEGINNINGS:
+        lines.append(following)
+    last = f" for the lines {source.first + number - 1} to {source.first + number + len(lines) - 2}"
+    write = lines[0] if len(lines) == 1 else "".join(lines).replace(" ", "")
+    return Finding("a line begins with its word: `A` for a frame on the air, `W` for one on the wire",
+                   source.place(number, 1, len(lines[0])),
+                   f"write {quoted('A ' + write, MOST_WRITTEN)}{last * (len(lines) > 1)}")
 
 
 def among_marks(source: Source, number: int, begin: int, bssids: Iterable[str]) -> Finding | None:

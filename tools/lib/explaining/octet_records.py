@@ -2,6 +2,7 @@
 import re
 from typing import Literal, NamedTuple
 
+import called
 from explaining.answers import Fault, read_fault
 from explaining.source import Finding, quoted
 from frames import address_text
@@ -78,6 +79,9 @@ def explain(given: bytes, fault: Fault, bssids: list[str]) -> list[Finding]:
     layout = of_layout(given)
     if layout:
         return [layout]
+    if re.fullmatch(rb"[^\0-\x08\x0e-\x1f\x7f-\xff]+", given):
+        return [Finding("standard input is text, and `live --octets` reads records, which have octets that no text has",
+                        None, f"{called.document('LIVE.md')} says how a record is written")]
     whole, rest = cut(given)
     number = fault.line or 0
     if number == len(whole) + 1 and rest:

@@ -10,6 +10,7 @@ MARK = "\ufeff"
 LOOK_ALIKES = dict(zip("\u0410\u0412\u0415\u041a\u041c\u041d\u041e\u0420\u0421\u0422\u0425\u0430\u0441\u0435\u043e\u0440\u0445\u0443\u0456"
                        "\u0391\u0392\u0395\u0397\u0399\u039a\u039c\u039d\u039f\u03a1\u03a4\u03a7\u03bf",
                        "ABEKMHOPCTXaceopxyiABEHIKMNOPTXo"))
+LINE_ENDS = ("Zl", "Zp")  # the line and paragraph separators of Unicode
 DASHES = "\u2010\u2011\u2012\u2013\u2014\u2015\u2212"
 
 
@@ -78,7 +79,7 @@ def visible(letter: str) -> str:
 
 def is_odd_blank(letter: str) -> bool:
     """Whether a character looks like a space or like nothing, and is no space of ASCII."""
-    return not letter.isascii() and unicodedata.category(letter) in ("Zs", "Cf")
+    return not letter.isascii() and unicodedata.category(letter) in ("Zs", "Cf", *LINE_ENDS)
 
 
 def odd_blank(source: Source, line: int, begin: int = 0, end: int | None = None) -> "Finding | None":
@@ -88,9 +89,11 @@ def odd_blank(source: Source, line: int, begin: int = 0, end: int | None = None)
         if is_odd_blank(letter) and not (letter == MARK and line == 1 and at == 0):
             name = unicodedata.name(letter, "a character that isn't seen").lower()
             is_seen = unicodedata.category(letter) == "Zs"
+            ends_line = unicodedata.category(letter) in LINE_ENDS
             return Finding(f"a {name} (U+{ord(letter):04X}) stands here" +
                            (", which looks like a space and is none" if is_seen else ", which isn't seen"),
-                           source.place(line, at + 1), "write a space" if is_seen else "leave it out")
+                           source.place(line, at + 1), "write a space" if is_seen else
+                           "a line ends with LF: write that there" if ends_line else "leave it out")
     return None
 
 

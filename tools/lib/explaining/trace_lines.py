@@ -8,7 +8,7 @@ from explaining.answers import Fault
 from explaining.file_kinds import is_binary, other_file
 from explaining.joined import of_remark, of_second_line, of_several_intervals, of_table
 from explaining.no_toml import REPORT_LINE
-from explaining.notations import among_marks, behind_words, shown_frame, whole_frame
+from explaining.notations import among_marks, behind_words, over_lines, shown_frame, whole_frame
 from explaining.other_programs import of_other_program, without_words
 from explaining.pasted import foreign, foreign_to_trace, unfilled
 from explaining.source import Finding, Place, Source, odd_blank, plain_letter, quoted
@@ -149,8 +149,7 @@ def of_other_text(source: Source, number: int, line: str, bssids: list[str]) -> 
         return Finding("this is a line of a configuration, and no trace", place,
                        "a configuration stands before the line `---`, or in a file of its own: `run CONFIG TRACE`")
     if re.fullmatch(r"[0-9A-Fa-f]{2}[0-9A-Fa-f ]{6,}", line):
-        return Finding("a line begins with its word: `A` for a frame on the air, `W` for one on the wire", place,
-                       f"write {quoted('A ' + line)}")
+        return over_lines(source, number)
     strange = behind_words(source, number, 0, bssids) or without_words(source, number)
     if strange:
         return strange
@@ -184,6 +183,10 @@ def of_digits(source: Source, number: int, line: str, bssids: list[str]) -> Find
                        "behind `W`", source.place(number, named.start(1) + 1, len(named[1])),
                        f"write {quoted(f'A {line[named.end():].strip()}')}")
     at = begin + stray.start()
+    if values.address_fault(digits.strip()) is None:
+        return Finding("an address alone stands here, and a frame has more: Frame Control and Duration stand before it",
+                       source.place(number, begin + 1, len(digits.strip())),
+                       f"{called.document('FIRST_TRACE.md')} has lines to copy")
     if digits.startswith(("...", "\u2026"), stray.start()):
         return Finding("`...` stands for octets that were left out, and a line has all octets of its frame",
                        source.place(number, at + 1, 3 if stray[0] == "." else 1), "write them there")
@@ -290,8 +293,9 @@ def of_letters(source: Source, number: int, line: str, names: dict[str, str]) ->
     at = octets_from(line) + stray.start() if stray else 0
     found = next((name for name in names.values() if stray and name in line and
                   line.index(name) <= at < line.index(name) + len(name)), None)
-    return found and Finding(f"{quoted(found)} stands here as letters, and a frame has the digits of its octets",
-                             source.place(number, line.index(found) + 1, len(found)), f"write `{found.encode().hex()}`")
+    return None if not found else Finding(
+        f"{quoted(found)} stands here as letters, and a frame has the digits of its octets",
+        source.place(number, line.index(found) + 1, len(found)), f"write `{found.encode().hex()}`")
 
 
 def of_address(source: Source, number: int, line: str, bssids: list[str]) -> Finding | None:

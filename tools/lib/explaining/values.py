@@ -2,6 +2,7 @@
 import re
 
 from explaining.source import plain_letter, plain_text, quoted
+from explaining.toml_scan import Value
 
 KINDS = {"text": "a text", "integer": "a whole number", "number": "a number with a fraction", "truth": "a truth value",
          "time": "a date or a time", "array": "an array", "table": "a table"}
@@ -71,7 +72,13 @@ def truth_of(text: str) -> str | None:
 def digits_of(number: str) -> str | None:
     """The digits of a hexadecimal number; None where it is none."""
     found = re.fullmatch("0x((?:[0-9A-Fa-f]{2})+)", number.replace("_", ""))
-    return found and found[1]
+    return found[1] if found else None
+
+
+def text_in(value: Value) -> str | None:
+    """The text that a list has first, or a number's digits, as a text of TOML."""
+    first = value.items[0] if value.kind == "array" and value.items else value
+    return f'"{first.worth}"' if first.kind in ("text", "integer") else None
 
 
 def letters_of(number: str) -> str | None:

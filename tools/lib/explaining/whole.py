@@ -129,9 +129,9 @@ def of_order(texts: Texts) -> Finding | None:
 
 def of_first_line(texts: Texts) -> Finding | None:
     """A line `---` before all else, as texts of YAML begin."""
-    if not texts.is_joined or texts.config is None or texts.config.text.strip() or not texts.traces[0].text.strip():
+    trace = texts.traces[0] if texts.is_joined else None
+    if trace is None or texts.config is None or texts.config.text.strip() or not trace.text.strip():
         return None
-    trace = texts.traces[0]
     first = next(number for number, line in enumerate(trace.lines, 1) if line.strip())
     if no_toml.is_yaml(trace, first):
         return Finding("this is YAML, and a configuration is TOML", trace.place(first, 1, len(trace.line(first))),

@@ -128,9 +128,10 @@ def of_subcommand(first: str, rest: list[str]) -> Finding:
     if count < least:
         return of_missing(first, [word for word in rest if word != "--"], form)
     if first == "live":
-        files = [word for word in rest if word != "--"]
-        return Finding("`live` reads its lines from standard input, and takes one word and no more", None,
-                       f"write `live {files[0]} < {files[1]}`")
+        files = [word for word in rest if word not in ("--", OCTETS)]
+        is_octets = form != SUBCOMMANDS[first] or OCTETS in rest
+        return Finding(f"`live` reads its {'records' if is_octets else 'lines'} from standard input, and takes one word "
+                       "and no more", None, f"write `live {f'{OCTETS} ' * is_octets}{files[0]} < {files[1]}`")
     return Finding(f"`{first}` takes {'one word' if least == 1 else 'two words'} and no more, and there are {count}",
                    None, f"write `{form}`" + (", or `play CONFIG TRACE...` for several traces" if first == "run"
                                               else ", and `run CONFIG TRACE` for a trace" if first == "check" else ""))
@@ -232,8 +233,8 @@ def missing_file(name: str, advice: str | None, reason: OSError) -> Finding:
     if not os.path.isdir(folder):
         return Finding(f"{quoted(name)} isn't there: there is no folder {quoted(folder)}", None, advice)
     try:
-        files = list(filter(like(name), os.listdir(folder)))
-        close = difflib.get_close_matches(os.path.basename(name), files, 1, LIKE)
+        files = {file.lower(): file for file in filter(like(name), os.listdir(folder))}
+        close = [files[file] for file in difflib.get_close_matches(os.path.basename(name).lower(), files, 1, LIKE)]
     except OSError:
         close = []
     if close and not advice:
@@ -251,8 +252,8 @@ def matching(name: str) -> str:
 
 def like(name: str) -> Callable[[str], bool]:
     """Whether a file may be meant by a name, by what stands before its ending: many files share that."""
-    stem = os.path.splitext(os.path.basename(name))[0]
-    return lambda file: difflib.SequenceMatcher(None, stem, os.path.splitext(file)[0]).ratio() >= STEM_LIKE
+    stem = os.path.splitext(os.path.basename(name))[0].lower()
+    return lambda file: difflib.SequenceMatcher(None, stem, os.path.splitext(file)[0].lower()).ratio() >= STEM_LIKE
 
 
 def of_sources(fault: Fault, words: list[str]) -> list[Finding]:
