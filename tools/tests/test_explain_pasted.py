@@ -119,6 +119,8 @@ CONFIGURATIONS = [
     ("fault C1", CONFIG.replace('"lab"', "'bob\\'s lab'"), "write `ssid = \"bob's lab\"`"),
     ("fault C9 network 0", CONFIG.replace('"lab"', '["lab", "loft"]'), 'write `ssid = "lab"`'),
     ("fault C9 network 0", CONFIG.replace('"lab"', "2024"), 'write `ssid = "2024"`'),
+    ("fault C8 network 0", CONFIG.replace("02:00:00:00:00:01", "02/00/00/00/00/01"),
+     'write `bssid = "02:00:00:00:00:01"`'),
     ("fault C1", "A letter to the owner.\n\nThe radio is on channel six.\n", "none of its keys stands in it"),
     ("fault C7", CONFIG[:CONFIG.index("[[network]]")] + "[network.lab]\nssid = \"lab\"\n",
      "my.toml:6:1: `[network.lab]` is one table"),

@@ -28,6 +28,8 @@ def address_fault(text: str) -> tuple[str, tuple[int, int], str | None] | None:
     if core and text.strip() != core[0]:
         beside = (text[:core.start()] + text[core.end():]).strip()
         return f"{quoted(beside)} stands beside the address", whole, core[0].lower()
+    if text.isascii() and re.fullmatch(r"[0-9A-Fa-f]{2}(?:[^0-9A-Za-z:.\- \t][0-9A-Fa-f]{2}){5}", text):
+        return "an address has its six pairs with `:` between", whole, ":".join(re.findall("[0-9a-f]{2}", text.lower()))
     stray = re.search(r"[^0-9A-Fa-f:.\- \t]", text)
     if stray and plain_letter(stray[0]):
         plain = plain_text(text)
