@@ -1,0 +1,12 @@
+pub mod Counts
+pub mod Conserved
+pub mod Lists
+pub mod InOrder
+pub mod Firsts
+pub mod Fates
+pub mod Twice
+pub mod MadeUp
+pub mod Asleep
+pub mod ReceiverRows
+pub mod Bounds
+pub mod Waits

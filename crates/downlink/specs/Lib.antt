@@ -1,0 +1,4 @@
+pub mod Receiver
+pub mod Places
+pub mod Calls
+pub mod Laws

@@ -1,0 +1,33 @@
+//! What a call answers of a frame.
+
+use crate::frame::Frame;
+
+/// What became of a frame.
+#[derive(Clone, Copy, Debug, PartialEq, Eq)]
+pub struct Answer {
+    pub frame: Frame,
+    pub fate: Fate,
+}
+
+/// What may become of a frame.
+#[derive(Clone, Copy, Debug, PartialEq, Eq)]
+pub enum Fate {
+    /// It goes, for the first time.
+    Goes,
+    /// It goes once more.
+    GoesAgain,
+    /// Its receiver acknowledged it.
+    Acknowledged,
+    /// Nobody acknowledged it, and it waits to go once more.
+    WaitsAgain,
+    /// Nobody acknowledged it, and it is lost.
+    Lost,
+    /// It goes back to the program, since its station dozes.
+    HandedBack,
+    /// It is dropped: it waited as long as it was worth sending.
+    Late,
+    /// It is dropped: too many younger ones wait for its receiver.
+    Crowded,
+    /// It is dropped: its station left.
+    Left,
+}
