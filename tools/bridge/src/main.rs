@@ -46,11 +46,11 @@
 //! PLACE` where a wire ended, `dismissed`, `status N` with the status of the program, and `fault CODE TEXT`, after which it
 //! ends with status 1.
 //!
-//! Where a bridge takes the place of another one, stations stay (`handover::replay`). The state that the one before
+//! Where a bridge takes the place of another one, stations stay (`restart::replay`). The state that the one before
 //! has left in the files says who is associated, and by which request. The new program is told of these before anything
 //! else, and the record marks that by comments. What it answers to these events is swallowed: that alone of its answers
 //! isn't sent. Each second in which something changed, and at its end, the bridge leaves such a state itself
-//! (`handover::state_files`).
+//! (`restart::state_files`).
 //!
 //! By itself (`stations`) it watches which stations there are, tells what happens to them, and asks those
 //! that have fallen silent whether they are there; for one that isn't, or that doesn't associate where a network is
@@ -62,12 +62,12 @@
 mod apctl;
 mod control;
 mod formats;
-mod handover;
 mod hashing;
 mod inbound;
 mod network;
 mod os;
 mod outbound;
+mod restart;
 mod run;
 mod stations;
 #[cfg(test)]
@@ -79,8 +79,8 @@ use std::process::ExitCode;
 
 use crate::apctl::program::Program;
 use crate::apctl::recording::Recording;
-use crate::handover::state::Setting;
-use crate::handover::state_files::MOST_WRITTEN;
+use crate::restart::state::Setting;
+use crate::restart::state_files::MOST_WRITTEN;
 use control::arguments::Arguments;
 use control::clients::Clients;
 use control::faults::{self, Fault};

@@ -1,5 +1,6 @@
-//! Whoever asks the bridge by its socket: a line is a question, and a line of JSON its answer. Nobody keeps frames from
-//! going, and nobody takes memory without bound:
+//! Whoever asks the bridge by its socket, for the status, for events, or to forget a station: a line is a question, and
+//! a line of JSON its answer. Here questions are read and answers are written; `run::answering` makes the answers.
+//! Nobody keeps frames from going, and nobody takes memory without bound:
 //!
 //! - There are `MOST_CLIENTS` clients at most, and so many connect at most before something else is looked at.
 //! - `PLACES_OF_ROOT` of their places are root's alone, and no other user puts out a client of root's: so root is heard.

@@ -1,4 +1,8 @@
 //! Which of the frames that a radio and the wired ports give go on to the program, and why others don't.
+//!
+//! A forged outcome is refused here. The kernel's header alone says that this radio sent a frame, and what became of it.
+//! So a frame that was heard is never an outcome, whatever addresses it has: one in the name of these networks is left
+//! out.
 use std::collections::VecDeque;
 use std::fmt;
 

@@ -1,4 +1,5 @@
-//! What the program answers is sent, and who asks the bridge is answered.
+//! What the program answers is sent, and who asks the bridge is answered: for the status, for events, or to forget a
+//! station.
 use super::running::Running;
 use super::{Bridge, Phase, ALIVE_EVERY, IN_A_ROW};
 use crate::apctl::feeder::Feeder;

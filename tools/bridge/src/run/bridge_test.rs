@@ -17,11 +17,11 @@ use super::*;
 use crate::apctl::recording::Recording;
 use crate::control::log;
 use crate::formats::radiotap::sending_header;
-use crate::handover::state::State;
 use crate::network::Network;
 use crate::os::handed::hand;
 use crate::os::link::Link;
 use crate::os::port::Port;
+use crate::restart::state::State;
 use crate::stations::own_frames::{deauthentication, departure, INACTIVITY};
 use crate::testing::samples::{at, data, network, radiotap, Unit, OTHER, OURS, STATION};
 

@@ -1,11 +1,14 @@
 //! The program is told when an interval begins, and is given what waits, as far as it has read what came before.
-use super::running::{FirstBeacon, TO_BEACON};
+use super::running::{FirstBeacon, Running, TO_BEACON};
 use super::{Bridge, Phase, TO_READY};
+use crate::apctl::feeder::Feeder;
 use crate::apctl::protocol::Event;
 use crate::apctl::tables::Asker;
 use crate::control::faults::Fault;
+use crate::inbound::frame::{InboundFrame, Source};
+use crate::os::clock::Instant;
 use crate::os::poller::Token;
-use crate::os::port::OfSocket;
+use crate::os::port::{OfSocket, Port};
 
 impl<P: OfSocket> Bridge<P> {
     /// Begins a beacon interval where it is time, and asks for the tables where that was asked for. An interval begins
@@ -68,5 +71,58 @@ impl<P: OfSocket> Bridge<P> {
             }
         }
         Ok(())
+    }
+}
+
+impl<P: Port> Running<P> {
+    /// Says to the program what waits, as far as it has read what was said before; answers how much that was.
+    pub(super) fn give(&mut self, feeder: &mut Feeder, time: Instant) -> usize {
+        let mut said = 0;
+        let room = if self.has_to_give() { feeder.room() } else { 0 };
+        while said < room && self.feed_next(feeder, time) {
+            said += 1;
+        }
+        self.end_handing_back(feeder);
+        said
+    }
+
+    /// Whether something waits for the program, be it for what goes before.
+    pub(super) fn has_rest(&self) -> bool {
+        self.has_to_give() || self.waiting.has_held()
+    }
+
+    /// Says what is next to the program: what goes back to it before what waits. Answers whether there was something.
+    fn feed_next(&mut self, feeder: &mut Feeder, time: Instant) -> bool {
+        if self.hand_back(feeder) {
+            return true;
+        }
+        self.end_handing_back(feeder);
+        while let Some((source, frame)) = self.waiting.pop(time) {
+            match self.wakes_too_late(&frame, time) {
+                Some(member) => self.wait_for_beacons(member, source, frame, time),
+                None => {
+                    self.feed(source, &frame, feeder, time);
+                    return true;
+                }
+            }
+        }
+        false
+    }
+
+    /// Says a frame to the program.
+    fn feed(&mut self, source: Source, frame: &InboundFrame, feeder: &mut Feeder, time: Instant) {
+        match source {
+            Source::AirForAll | Source::Air(_) => {
+                self.given.air += 1;
+                self.stations.fed(&frame.octets, time);
+                feeder.feed(Event::Air(&frame.octets));
+                self.take_moves(feeder, time);
+            }
+            Source::Wire(place) => {
+                self.given.wires += 1;
+                feeder.feed(Event::Wire(self.networks[place].bssid, &frame.octets))
+            }
+        }
+        self.note_kept(source, frame);
     }
 }

@@ -1,7 +1,7 @@
 //! The bridge while it runs: one thread that waits for what comes first, and does it. `phase` says how far it is.
 //! `requests` is what `tools/live` asks for, `opening` how frames begin to go, `reading` what comes by the interfaces,
 //! `wires` how wires come and go, `feeding` what the program is given, `moving` what comes of stations that doze, and
-//! `answering` what it answers and others ask. `sending` is when what waits is sent, `beacon_timing` what beacons go
+//! `answering` what it answers, and what others ask: the status above all. `sending` is when what waits is sent, `beacon_timing` what beacons go
 //! before, and `wake_timing` which answers of the program they don't wait for. `radio` looks whether the radio does what
 //! it has to, `staying` has stations stay from one bridge to the next, `telling` tells people, and `ending` ends.
 //! `running` has what all of these change.
@@ -37,15 +37,15 @@ use crate::control::notices::{say, Notice};
 use crate::control::parent::{Handed, Requests};
 use crate::control::status::Faults;
 use crate::control::status_line::StatusLine;
-use crate::handover::state::Setting;
-use crate::handover::state_draft::StateDraft;
-use crate::handover::state_files::StateFiles;
 use crate::network::Network;
 use crate::os::batch::Batch;
 use crate::os::clock::{now, Duration, Instant, SECOND};
 use crate::os::interfaces::Interfaces;
 use crate::os::poller::{Poller, Ready, Token};
 use crate::os::port::OfSocket;
+use crate::restart::state::Setting;
+use crate::restart::state_draft::StateDraft;
+use crate::restart::state_files::StateFiles;
 
 const TO_END: Duration = Duration::from_secs(20);
 const TO_READY: Duration = Duration::from_secs(20);

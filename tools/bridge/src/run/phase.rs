@@ -1,9 +1,9 @@
 //! How far the bridge is. Each phase has what belongs to it alone.
 use super::running::Running;
 use crate::control::parent::{Handed, Request};
-use crate::handover::replay::Replay;
 use crate::os::clock::Instant;
 use crate::os::interfaces::Interfaces;
+use crate::restart::replay::Replay;
 
 /// How far the bridge is.
 pub(super) enum Phase<P> {

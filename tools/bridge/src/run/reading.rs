@@ -3,7 +3,7 @@ use super::running::{FirstBeacon, Running, Way};
 use super::{Bridge, Phase, IN_A_ROW};
 use crate::control::faults::{is_down, Fault};
 use crate::control::notices::{say, Notice};
-use crate::formats::frames::{Address, BEACON};
+use crate::formats::frames::{Address, Frame, BEACON};
 use crate::formats::radiotap::{reception, Reception};
 use crate::inbound::frame::{InboundFrame, Source};
 use crate::inbound::judging::{judge_wired, Judged, LeftOut};
@@ -143,6 +143,14 @@ impl<P: Port> Running<P> {
                 let changes_mode = self.stations.heard(frame, reception, arrived);
                 self.wait_of_air(frame.octets(), changes_mode, arrived);
             }
+        }
+    }
+
+    /// A frame of the air waits for the program, and changes the mode of its station or doesn't.
+    pub(super) fn wait_of_air(&mut self, octets: &[u8], changes_mode: bool, arrived: Instant) {
+        if let Some(frame) = Frame::of(octets) {
+            let source = Source::of_air(self.judge.place_of(&frame.receiver()));
+            self.waiting.push(source, InboundFrame::of_air(frame, changes_mode, arrived));
         }
     }
 

@@ -2,8 +2,8 @@
 use super::{Bridge, Phase};
 use crate::control::faults::Fault;
 use crate::control::parent::Request;
-use crate::handover::state_files::StateFiles;
 use crate::os::port::OfSocket;
+use crate::restart::state_files::StateFiles;
 
 impl<P: OfSocket> Bridge<P> {
     pub(super) fn take_requests(&mut self) -> Result<(), Fault> {

@@ -3,13 +3,9 @@ use std::collections::{BTreeMap, VecDeque};
 
 use super::radio::Radio;
 use super::Manner;
-use crate::apctl::feeder::Feeder;
-use crate::apctl::protocol::Event;
 use crate::apctl::tables::Tables;
 use crate::control::events::Events;
-use crate::formats::frames::Frame;
 use crate::inbound::batching::Batching;
-use crate::inbound::frame::{InboundFrame, Source};
 use crate::inbound::judging::{Judge, LeftOut};
 use crate::inbound::queue::InboundQueue;
 use crate::network::Network;
@@ -195,14 +191,6 @@ impl<P: Port> Running<P> {
         }
     }
 
-    /// A frame of the air waits for the program, and changes the mode of its station or doesn't.
-    pub(super) fn wait_of_air(&mut self, octets: &[u8], changes_mode: bool, arrived: Instant) {
-        if let Some(frame) = Frame::of(octets) {
-            let source = Source::of_air(self.judge.place_of(&frame.receiver()));
-            self.waiting.push(source, InboundFrame::of_air(frame, changes_mode, arrived));
-        }
-    }
-
     pub(super) fn unblock(&mut self, token: Token) {
         match token {
             Token::Monitor => self.interfaces.monitor.unblock(),
@@ -213,56 +201,5 @@ impl<P: Port> Running<P> {
             }
             _ => {}
         }
-    }
-
-    /// Says to the program what waits, as far as it has read what was said before; answers how much that was.
-    pub(super) fn give(&mut self, feeder: &mut Feeder, time: Instant) -> usize {
-        let mut said = 0;
-        let room = if self.has_to_give() { feeder.room() } else { 0 };
-        while said < room && self.feed_next(feeder, time) {
-            said += 1;
-        }
-        self.end_handing_back(feeder);
-        said
-    }
-
-    /// Whether something waits for the program, be it for what goes before.
-    pub(super) fn has_rest(&self) -> bool {
-        self.has_to_give() || self.waiting.has_held()
-    }
-
-    /// Says what is next to the program: what goes back to it before what waits. Answers whether there was something.
-    pub(super) fn feed_next(&mut self, feeder: &mut Feeder, time: Instant) -> bool {
-        if self.hand_back(feeder) {
-            return true;
-        }
-        self.end_handing_back(feeder);
-        while let Some((source, frame)) = self.waiting.pop(time) {
-            match self.wakes_too_late(&frame, time) {
-                Some(member) => self.wait_for_beacons(member, source, frame, time),
-                None => {
-                    self.feed(source, &frame, feeder, time);
-                    return true;
-                }
-            }
-        }
-        false
-    }
-
-    /// Says a frame to the program.
-    pub(super) fn feed(&mut self, source: Source, frame: &InboundFrame, feeder: &mut Feeder, time: Instant) {
-        match source {
-            Source::AirForAll | Source::Air(_) => {
-                self.given.air += 1;
-                self.stations.fed(&frame.octets, time);
-                feeder.feed(Event::Air(&frame.octets));
-                self.take_moves(feeder, time);
-            }
-            Source::Wire(place) => {
-                self.given.wires += 1;
-                feeder.feed(Event::Wire(self.networks[place].bssid, &frame.octets))
-            }
-        }
-        self.note_kept(source, frame);
     }
 }

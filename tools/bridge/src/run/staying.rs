@@ -1,19 +1,19 @@
 //! Stations that an earlier bridge served stay: the program is told of them before frames go, and what the next bridge
-//! has to know of them is left for it (`handover`).
+//! has to know of them is left for it (`restart`).
 use super::phase::{Phase, Replaying};
 use super::running::Running;
 use super::{Bridge, TO_READY};
 use crate::control::faults::Fault;
 use crate::control::log::{self, Level};
 use crate::formats::frames::Frame;
-use crate::handover::replay::{Replay, Restored};
-use crate::handover::state::{self, NetworkState, NotUsed, Setting, State};
-use crate::handover::state_draft::{Made, StateDraft};
-use crate::handover::state_files::StateFiles;
 use crate::network::Network;
 use crate::os::clock::{boot_now, now, Instant};
 use crate::os::interfaces::Interfaces;
 use crate::os::port::{OfSocket, Port};
+use crate::restart::replay::{Replay, Restored};
+use crate::restart::state::{self, NetworkState, NotUsed, Setting, State};
+use crate::restart::state_draft::{Made, StateDraft};
+use crate::restart::state_files::StateFiles;
 
 /// Marks in the record around the events by which a new program comes to know stations: what it answers to these was
 /// swallowed.

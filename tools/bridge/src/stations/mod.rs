@@ -17,9 +17,9 @@ use crate::control::log::{self, Bounded, Level};
 use crate::formats::ethernet::test_command;
 use crate::formats::frames::{Address, Frame};
 use crate::formats::radiotap::{Outcome, Reception};
-use crate::handover::replay::Restored;
 use crate::network::Network;
 use crate::os::clock::{wall_now, Duration, Instant};
+use crate::restart::replay::Restored;
 use crate::stations::keep_alive::{KeepAlive, Step};
 use crate::stations::news::{sentence, Forgotten, News};
 use crate::stations::own_frames::{

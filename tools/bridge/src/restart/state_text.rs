@@ -3,8 +3,8 @@
 use std::fmt::Write;
 
 use crate::formats::frames::{Address, Frame};
-use crate::handover::state::{NetworkState, Setting, State};
 use crate::os::clock::Instant;
+use crate::restart::state::{NetworkState, Setting, State};
 use crate::stations::meaning::{from_station, FromStation};
 use crate::stations::station::KeptStation;
 

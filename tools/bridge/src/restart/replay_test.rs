@@ -3,9 +3,9 @@ use std::path::PathBuf;
 
 use super::*;
 use crate::apctl::program::Program;
-use crate::handover::state::{choose, NetworkState, Setting};
-use crate::handover::state_text::MOST_AID;
 use crate::os::clock::{now, Duration, Instant, SECOND};
+use crate::restart::state::{choose, NetworkState, Setting};
+use crate::restart::state_text::MOST_AID;
 use crate::stations::meaning::{from_station, FromStation};
 use crate::testing::samples::{at, network, Seeded, NANOSECOND, OTHER, OURS, STATION, STRANGER};
 

@@ -10,8 +10,8 @@ use std::collections::{HashSet, VecDeque};
 
 use crate::apctl::protocol::{Answer, Event};
 use crate::formats::frames::{Address, AddressMap, Frame};
-use crate::handover::state::{NotUsed, State};
 use crate::network::Network;
+use crate::restart::state::{NotUsed, State};
 use crate::stations::meaning::{from_network, FromNetwork};
 use crate::stations::own_frames::{association_request, authentication, departure, mode_of_station};
 use crate::stations::station::{KeptStation, Member};

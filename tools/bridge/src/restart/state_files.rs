@@ -152,8 +152,8 @@ fn read_whole(file: &mut File) -> io::Result<Vec<u8>> {
 #[cfg(test)]
 mod tests {
     use super::*;
-    use crate::handover::state::{NetworkState, Setting, State};
-    use crate::handover::state_text::MOST_AID;
+    use crate::restart::state::{NetworkState, Setting, State};
+    use crate::restart::state_text::MOST_AID;
     use crate::stations::station::KeptStation;
     use crate::testing::samples::{at, NANOSECOND, OURS, STATION};
     use std::fs::OpenOptions;

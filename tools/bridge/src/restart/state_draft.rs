@@ -2,9 +2,9 @@
 //! network is as it is in one step; between networks stations may come and go.
 use std::vec::IntoIter;
 
-use crate::handover::state::{NetworkState, Setting};
-use crate::handover::state_text::Lines;
 use crate::os::clock::Instant;
+use crate::restart::state::{NetworkState, Setting};
+use crate::restart::state_text::Lines;
 use crate::stations::station::KeptStation;
 
 /// How many stations are put in a step.
@@ -57,8 +57,8 @@ impl StateDraft {
 mod tests {
     use super::*;
     use crate::formats::frames::Address;
-    use crate::handover::state::State;
     use crate::os::clock::SECOND;
+    use crate::restart::state::State;
     use crate::stations::own_frames::association_request;
     use crate::testing::samples::{at, network, OTHER, OURS};
 
