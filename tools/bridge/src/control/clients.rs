@@ -212,6 +212,11 @@ impl Clients {
         }
     }
 
+    /// Whether nobody is connected, and whoever wants to can.
+    pub fn are_away(&self) -> bool {
+        self.closed_until.is_none() && self.clients.iter().all(Option::is_none)
+    }
+
     /// The next question, with the place of who asks; of one client the next comes once it took the answer before.
     pub fn next(&mut self) -> Option<(usize, Question)> {
         let asking = self.clients.iter_mut().enumerate().filter_map(|(place, client)| Some((place, client.as_mut()?)));
@@ -221,8 +226,11 @@ impl Clients {
 
     /// Whether a question was read that nobody has looked at, or one waits for events.
     pub fn has_questions(&self) -> bool {
-        let asks = |client: &Client| client.is_free() && client.has_line();
-        self.clients.iter().flatten().any(asks) || self.waits_longest_for_events().is_some()
+        let asks = |client: &Client| match client.waits {
+            Some((Question::Events { .. }, _)) => true,
+            _ => client.is_free() && client.has_line(),
+        };
+        self.clients.iter().flatten().any(asks)
     }
 
     /// Whether a client is root's.

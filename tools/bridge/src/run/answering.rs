@@ -132,6 +132,9 @@ impl<P: OfSocket> Bridge<P> {
             _ => return Ok(()),
         };
         running.gather_events();
+        if clients.are_away() && !self.status_line.is_being_made() {
+            return Ok(());
+        }
         while let Some((place, question)) = clients.next() {
             match running.answer(question, clients.is_root(place), time) {
                 Some(answer) => clients.answer(place, Line::of(answer), time),

@@ -36,17 +36,14 @@ impl<P: OfSocket> Bridge<P> {
         Ok(())
     }
 
-    /// Reads the frames that the radio shows as acknowledged, once there may be many; where frames wait for them, they
-    /// are waited for.
+    /// Reads the frames that the radio shows as acknowledged, once there may be many, and sends what waited for that, some
+    /// times at most; where frames wait for them still, they are waited for.
     pub(super) fn take_acknowledged(&mut self) -> Result<(), Fault> {
-        let running = match self.phase.running() {
-            Some(running) => running,
-            None => return Ok(()),
-        };
-        let given = running.outbound.air.sent() - running.reading.sent_before;
-        if running.outbound.air.wants_outcomes(given) {
-            running.receive(Token::Acknowledged, &mut self.batch, self.time)?;
-            running.outbound.air.reports_read();
+        for _ in 0..IN_A_ROW {
+            match self.phase.running() {
+                Some(running) if running.wants_outcomes() => running.read_outcomes(&mut self.batch, self.time)?,
+                _ => break,
+            }
             self.send()?;
         }
         if let Some(running) = self.phase.running() {
@@ -64,43 +61,73 @@ impl<P: OfSocket> Bridge<P> {
 }
 
 impl<P: Port> Running<P> {
+    /// Whether what the radio tells of frames is to be read.
+    fn wants_outcomes(&self) -> bool {
+        let given = self.outbound.air.sent() - self.reading.sent_before;
+        self.outbound.air.wants_outcomes(given)
+    }
+
+    /// Reads what the radio tells of frames that were acknowledged, some batches of it at most, and no more once it told of
+    /// all that it was given: a question for one more that isn't there costs as much as reading one.
+    pub(super) fn read_outcomes(&mut self, batch: &mut Batch, time: Instant) -> Result<(), Fault> {
+        self.reading.sent_before = self.outbound.air.sent();
+        let mut most = match self.outbound.air.in_flight() {
+            0 => AT_A_TIME,
+            frames => frames.min(AT_A_TIME),
+        };
+        for _ in 0..IN_A_ROW {
+            batch.ask_for(most);
+            if self.receive_batch(Token::Acknowledged, batch, time)? < most || self.outbound.air.in_flight() == 0 {
+                break;
+            }
+            most = AT_A_TIME;
+        }
+        self.outbound.air.reports_read();
+        Ok(())
+    }
+
     /// Reads what waits at an interface, some batches of it at most.
     pub(super) fn receive(&mut self, token: Token, batch: &mut Batch, time: Instant) -> Result<(), Fault> {
         batch.ask_for(self.most_to_ask_for(token));
         for _ in 0..IN_A_ROW {
-            let port = match token {
-                Token::Wire(place) => match self.interfaces.wire(place) {
-                    Some(wire) => &mut wire.port,
-                    None => return Ok(()),
-                },
-                Token::Acknowledged => match &mut self.interfaces.acknowledged {
-                    Some(port) => port,
-                    None => return Ok(()),
-                },
-                _ => &mut self.interfaces.monitor.port,
-            };
-            let number = match port.receive(batch) {
-                Ok(number) => number,
-                Err(fault) if is_down(&fault) && !matches!(token, Token::Wire(_)) => return self.went_down(time),
-                Err(fault) => return Err(Fault::of_interface(port.interface(), &fault)),
-            };
-            if token != Token::Acknowledged {
-                self.batching.count(number);
-            }
-            let arrival = self.reading.arrivals.read(wall_now(), now());
-            for packet in batch.packets() {
-                let arrived = arrival(packet.arrived).min(time);
-                match token {
-                    Token::Wire(place) => self.take_wired(place, &packet, arrived),
-                    _ => self.take_air(&packet, arrived),
-                }
-            }
-            if number < AT_A_TIME {
+            if self.receive_batch(token, batch, time)? < AT_A_TIME {
                 break;
             }
         }
         self.tell_of_drops();
         Ok(())
+    }
+
+    /// Reads a batch of what waits at an interface, and answers how many packets that was.
+    fn receive_batch(&mut self, token: Token, batch: &mut Batch, time: Instant) -> Result<usize, Fault> {
+        let port = match token {
+            Token::Wire(place) => self.interfaces.wire(place).map(|wire| &mut wire.port),
+            Token::Acknowledged => self.interfaces.acknowledged.as_mut(),
+            _ => Some(&mut self.interfaces.monitor.port),
+        };
+        let port = match port {
+            Some(port) => port,
+            None => return Ok(0),
+        };
+        let number = match port.receive(batch) {
+            Ok(number) => number,
+            Err(fault) if is_down(&fault) && !matches!(token, Token::Wire(_)) => {
+                return self.went_down(time).map(|()| 0);
+            }
+            Err(fault) => return Err(Fault::of_interface(port.interface(), &fault)),
+        };
+        if token != Token::Acknowledged {
+            self.batching.count(number);
+        }
+        let arrival = self.reading.arrivals.read(wall_now(), now());
+        for packet in batch.packets() {
+            let arrived = arrival(packet.arrived).min(time);
+            match token {
+                Token::Wire(place) => self.take_wired(place, &packet, arrived),
+                _ => self.take_air(&packet, arrived),
+            }
+        }
+        Ok(number)
     }
 
     /// How many packets are asked for at a time: one where an interface had nothing at the last waking, since a

@@ -2,6 +2,7 @@
 use super::running::Running;
 use super::{Bridge, Phase};
 use crate::control::faults::Fault;
+use crate::os::batch::Batch;
 use crate::os::clock::Instant;
 use crate::os::poller::{Poller, Token};
 use crate::os::port::{OfSocket, Port};
@@ -12,7 +13,7 @@ impl<P: OfSocket> Bridge<P> {
         let reads = matches!(self.phase, Phase::Running(_));
         match self.phase.still_running() {
             Some(running) if !running.outbound.is_idle(&running.interfaces) => {
-                running.send(self.time, &self.poller, reads)
+                running.send(self.time, &self.poller, &mut self.batch, reads)
             }
             _ => Ok(()),
         }
@@ -26,11 +27,15 @@ impl<P: Port> Running<P> {
     }
 
     /// Sends what waits, and waits for the room of interfaces that have lost it. While they are read beacons go before
-    /// all else.
-    fn send(&mut self, time: Instant, poller: &Poller, reads: bool) -> Result<(), Fault> {
+    /// all else, and what became of frames that seem to be out for long is read before others go: that costs no more than
+    /// to ask the radio's socket for them.
+    fn send(&mut self, time: Instant, poller: &Poller, batch: &mut Batch, reads: bool) -> Result<(), Fault> {
         self.outbound.flush_beacons(&mut self.interfaces);
         let while_it_is = if reads { self.timing.sends_while(time) } else { Instant::START..Instant::NEVER };
         if while_it_is.contains(&time) {
+            if reads && self.outbound.air.is_doubtful(time) {
+                self.read_outcomes(batch, time)?;
+            }
             self.outbound.flush(&mut self.interfaces, time, while_it_is.end);
         }
         for token in std::iter::once(Token::Monitor).chain((0..self.networks.len()).map(Token::Wire)) {
@@ -46,3 +51,7 @@ impl<P: Port> Running<P> {
         Ok(())
     }
 }
+
+#[cfg(test)]
+#[path = "sending_test.rs"]
+mod tests;

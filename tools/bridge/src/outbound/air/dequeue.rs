@@ -49,10 +49,11 @@ impl Transmitter {
     fn is_worthless(links: &Links, lateness: &mut Lateness, place: Place, frame: &OutboundFrame, now: Instant) -> bool {
         let is_late = now > frame.since + frame.kind.lifetime();
         match frame.kind {
+            FrameKind::Unit | FrameKind::Again if !is_late => lateness.look(place, frame.address, false, now),
             FrameKind::Unit | FrameKind::Again => {
                 let since = links.had_kept(place, frame.address).max(frame.since);
                 let could_go = links.goes_since(place, frame.address).max(since);
-                let is_late = is_late && now > could_go + frame.kind.lifetime();
+                let is_late = now > could_go + frame.kind.lifetime();
                 lateness.look(place, frame.address, is_late, now) || now > since + MOST_LIFETIME
             }
             FrameKind::Kept => is_late && now > links.acknowledged(place, frame.address) + MOST_UNDRAINED,
@@ -125,10 +126,14 @@ impl Transmitter {
             self.queue.admit_notice(now);
         }
         loop {
-            self.pass_over();
             let (place, receiver, frame) = match self.queue.scheduler.first() {
                 Some(first) => first,
-                None => return false,
+                None => {
+                    if self.pass_over() {
+                        continue;
+                    }
+                    return false;
+                }
             };
             let address = frame.address;
             if Self::is_worthless(&self.links, &mut self.lateness, place, frame, now) {
@@ -162,7 +167,7 @@ impl Transmitter {
         cost: Cost,
         now: Instant,
     ) -> Option<Duration> {
-        let others = self.in_flight.longest_of(place, now, Sent::longest);
+        let others = self.in_flight.longest_of(place, now, |sent| sent.longest);
         if others.is_zero() {
             return Some(MOST_TRYING);
         }
@@ -174,14 +179,12 @@ impl Transmitter {
     }
 
     /// If all is held of the network whose turn it is, the others wait with it until the radio told of its frames. Where
-    /// the radio has none of them, that may take long, and it is passed over.
-    fn pass_over(&mut self) {
-        while let Some(held) = self.queue.scheduler.held() {
-            if self.in_flight.has_any(held) && self.intake != Intake::Unbounded {
-                break;
-            }
-            self.queue.scheduler.pass_over(held);
-        }
+    /// the radio has none of them, that may take long, and it is passed over. Answers whether it is.
+    fn pass_over(&mut self) -> bool {
+        let held = self.queue.scheduler.held();
+        let passed = held.filter(|held| !self.in_flight.has_any(*held) || self.intake == Intake::Unbounded);
+        passed.into_iter().for_each(|place| self.queue.scheduler.pass_over(place));
+        passed.is_some()
     }
 
     /// Whether what comes next for a station waits for what became of a frame before: of one that takes long, and of
@@ -226,7 +229,8 @@ impl Transmitter {
         // A sample is likely to need both of its tries.
         let reckoned = cost.tries(1 + u32::from(choice.is_sample));
         let (size, retries) = (Size { rate: choice.rate, ..expected.size }, choice.retries);
-        let sent = Sent { size, cost, retries, receiver, kind, octets: Rc::clone(octets) };
+        let longest = cost.tries(1 + u32::from(retries));
+        let sent = Sent { size, cost, retries, longest, receiver, kind, octets: Rc::clone(octets) };
         self.in_flight.give(name, sent, reckoned, now);
         let mut packet = self.spare.pop().unwrap_or_default();
         packet.clear();

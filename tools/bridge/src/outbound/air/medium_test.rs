@@ -1,6 +1,6 @@
 //! A simulated air: a radio of one queue sends what it is given, a try after the other. Each try takes DIFS, as many
 //! slots as are drawn, and the time of `tx_time`. What became of frames is told as Linux tells it, and is read as the
-//! bridge reads it: acknowledged ones once many are unread, or frames wait for them.
+//! bridge reads it: acknowledged ones once many are unread, or frames wait for them or behind such as are out for long.
 use super::*;
 use crate::testing::samples::Seeded;
 
@@ -9,6 +9,8 @@ pub(super) const THIRD: Address = Address::of([2, 0, 0, 0, 1, 3]);
 pub(super) const BSSIDS: [Address; 3] = [OURS, OTHER, THIRD];
 const LEAST_WINDOW: [usize; 2] = [15, 31];
 const MOST_WINDOW: usize = 1023;
+/// How often the bridge reads at a waking what was acknowledged.
+const IN_A_ROW: usize = 4;
 
 /// A frame that is on the air, and when this try of it ends.
 struct Try {
@@ -107,12 +109,19 @@ impl Medium {
         }
         self.driver.expire(self.driver.now);
         self.give();
-        if self.driver.air.wants_outcomes(self.driver.air.sent() - self.sent_before) {
-            self.read();
-            self.sent_before = self.driver.air.sent();
-            self.driver.air.reports_read();
+        for _ in 0..IN_A_ROW {
+            if !self.driver.air.wants_outcomes(self.driver.air.sent() - self.sent_before) {
+                break;
+            }
+            self.read_outcomes();
             self.give();
         }
+    }
+
+    fn read_outcomes(&mut self) {
+        self.read();
+        self.sent_before = self.driver.air.sent();
+        self.driver.air.reports_read();
     }
 
     fn read(&mut self) {
@@ -130,6 +139,9 @@ impl Medium {
     fn give(&mut self) {
         let has_any = self.on_air.is_some() || !self.radio.is_empty();
         self.driver.interfaces.monitor.port.unsent = usize::from(has_any);
+        if self.driver.air.is_doubtful(self.driver.now) {
+            self.read_outcomes();
+        }
         let given = self.driver.flush();
         given.iter().for_each(|seen| self.turn[place_of(seen)] = size_of(seen).cost().tries(1));
         self.radio.extend(given);

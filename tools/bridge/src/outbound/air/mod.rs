@@ -129,8 +129,9 @@ struct Sent {
     /// As it was to be sent.
     size: Size,
     cost: Cost,
-    /// How often it was to be tried again at most.
+    /// How often it was to be tried again at most, and how long the radio takes for it if nobody acknowledges it.
     retries: u8,
+    longest: Duration,
     receiver: Receiver,
     kind: FrameKind,
     octets: Octets,
@@ -140,11 +141,6 @@ impl Sent {
     /// Whether the bridge made it.
     fn is_own(&self) -> bool {
         matches!(self.kind, FrameKind::Own { .. })
-    }
-
-    /// How long the radio takes for it if nobody acknowledges it.
-    fn longest(&self) -> Duration {
-        self.cost.tries(1 + u32::from(self.retries))
     }
 
     /// How it went, without tries that it wasn't asked for.

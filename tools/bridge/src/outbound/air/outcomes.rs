@@ -33,6 +33,11 @@ impl Transmitter {
         given >= MOST_UNREAD || given > 0 && are_waited_for || self.in_flight.any_unknown()
     }
 
+    /// Of how many frames that it was given the radio hasn't told yet.
+    pub fn in_flight(&self) -> usize {
+        self.in_flight.len()
+    }
+
     /// What the radio told so far was looked at.
     pub fn reports_read(&mut self) {
         self.reports = Reports::Read;

@@ -121,10 +121,11 @@ impl Queue {
     /// One frame for a receiver is gone: where more wait apart and few in its queue, the next one waits in its place.
     fn refill(&mut self, place: Place, receiver: Receiver) {
         let address = match receiver {
-            Receiver::Station(address) if self.has_room_before_backlog(place, receiver) => address,
+            Receiver::Station(address) if self.backlogs[place].waits(address) => address,
             _ => return,
         };
-        if let Some(frame) = self.backlogs[place].pop(address) {
+        let may_wait = self.has_room_before_backlog(place, receiver);
+        if let Some(frame) = may_wait.then(|| self.backlogs[place].pop(address)).flatten() {
             // It is counted as one that waits already.
             if frame.kind != FrameKind::Kept {
                 self.accounts[place].octets += frame.octets.len();
