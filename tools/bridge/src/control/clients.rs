@@ -121,6 +121,8 @@ struct Client {
 pub struct Clients {
     listener: UnixListener,
     clients: Vec<Option<Client>>,
+    /// How many they are.
+    connected: usize,
     /// When it is tried again whether somebody can connect, where nobody could.
     closed_until: Option<Instant>,
     /// Whether it was told that nobody can connect.
@@ -132,7 +134,7 @@ impl Clients {
     pub fn new(listener: UnixListener) -> Result<Clients, Fault> {
         listener.set_nonblocking(true).map_err(|fault| Fault::of("the bridge's socket", &fault))?;
         let clients = (0..MOST_CLIENTS).map(|_| None).collect();
-        Ok(Clients { listener, clients, closed_until: None, has_told: false })
+        Ok(Clients { listener, clients, connected: 0, closed_until: None, has_told: false })
     }
 
     /// By which one waits for somebody who connects.
@@ -187,7 +189,12 @@ impl Clients {
         let Awaited { reads, writes } = client.awaited;
         if poller.add(client.stream.as_fd(), Token::Client(place), reads, writes).is_ok() {
             self.clients[place] = Some(client);
+            self.count();
         }
+    }
+
+    fn count(&mut self) {
+        self.connected = self.clients.iter().flatten().count();
     }
 
     /// The place for one more client of a user: one that is free, or that of the client which wrote longest ago, which
@@ -208,13 +215,14 @@ impl Clients {
             let is_there = !can_read || client.awaited.reads && client.read(now);
             if !is_there {
                 self.clients[place] = None;
+                self.count();
             }
         }
     }
 
     /// Whether nobody is connected, and whoever wants to can.
     pub fn are_away(&self) -> bool {
-        self.closed_until.is_none() && self.clients.iter().all(Option::is_none)
+        self.closed_until.is_none() && self.connected == 0
     }
 
     /// The next question, with the place of who asks; of one client the next comes once it took the answer before.
@@ -230,7 +238,7 @@ impl Clients {
             Some((Question::Events { .. }, _)) => true,
             _ => client.is_free() && client.has_line(),
         };
-        self.clients.iter().flatten().any(asks)
+        self.connected > 0 && self.clients.iter().flatten().any(asks)
     }
 
     /// Whether a client is root's.
@@ -294,6 +302,7 @@ impl Clients {
                 }
             }
         }
+        self.count();
         Ok(())
     }
 }

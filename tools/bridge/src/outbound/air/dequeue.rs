@@ -10,7 +10,7 @@ use crate::outbound::air::air_time::{Cost, Size};
 use crate::outbound::air::frame::{FrameKind, OutboundFrame, Receiver, MOST_LIFETIME, MOST_UNDRAINED};
 use crate::outbound::air::in_flight::FrameName;
 use crate::outbound::air::lateness::Lateness;
-use crate::outbound::air::links::Links;
+use crate::outbound::air::links::{Links, Outlook};
 use crate::outbound::air::rate_control::Choice;
 use crate::outbound::air::scheduler::Place;
 
@@ -136,15 +136,16 @@ impl Transmitter {
                 }
             };
             let address = frame.address;
+            let outlook = self.links.outlook(place, address);
             if Self::is_worthless(&self.links, &mut self.lateness, place, frame, now) {
                 self.give_up(place, receiver, now);
-            } else if matches!(receiver, Receiver::Station(_)) && self.awaits(place, address, now) {
+            } else if matches!(receiver, Receiver::Station(_)) && self.awaits(place, address, outlook, now) {
                 self.queue.scheduler.hold(place, receiver);
             } else {
-                let rate = self.links.expected_rate(place, address, frame.kind.is_unit());
+                let rate = if frame.kind.is_unit() { outlook.unit_rate } else { self.links.lowest(place) };
                 let size = Size { octets: frame.octets.len(), rate, is_acknowledged: !address.is_group() };
                 let (cost, octets, kind) = (size.cost(), Rc::clone(&frame.octets), frame.kind);
-                let trying = self.most_trying((place, receiver), frame, cost, now);
+                let trying = self.most_trying((place, receiver), frame, outlook, cost, now);
                 let has_room = trying.is_some() && self.in_flight.has_room(cost.tries(1), now);
                 if self.intake != Intake::Unbounded && !has_room {
                     self.intake = Intake::Closed;
@@ -164,6 +165,7 @@ impl Transmitter {
         &self,
         (place, receiver): (Place, Receiver),
         frame: &OutboundFrame,
+        outlook: Outlook,
         cost: Cost,
         now: Instant,
     ) -> Option<Duration> {
@@ -171,7 +173,7 @@ impl Transmitter {
         if others.is_zero() {
             return Some(MOST_TRYING);
         }
-        let is_sure = frame.kind.is_unit() && self.links.is_sure(place, frame.address);
+        let is_sure = frame.kind.is_unit() && outlook.is_sure;
         let most = if is_sure { MOST_TRIES_BEHIND - 1 } else { most_retries(frame) };
         let most = most.min(self.retries_beside_others(place, receiver, frame.kind));
         let trying = cost.tries(u32::from(tries_within(cost, MOST_TRYING, most)));
@@ -190,12 +192,12 @@ impl Transmitter {
     /// Whether what comes next for a station waits for what became of a frame before: of one that takes long, and of
     /// one that may be lost, since a unit is sent once more only where nothing went to its station since. Where many
     /// wait, the radio has several of them all the same, unless the last one was lost.
-    fn awaits(&self, place: Place, address: Address, now: Instant) -> bool {
-        if self.links.is_sure(place, address) {
+    fn awaits(&self, place: Place, address: Address, outlook: Outlook, now: Instant) -> bool {
+        if outlook.is_sure {
             return self.in_flight.is_overdue(place, address, now);
         }
-        let goes_alone = self.queue.scheduler.waiting(place, Receiver::Station(address)) <= FEW
-            || self.links.is_in_doubt(place, address);
+        let few_wait = self.queue.scheduler.waiting(place, Receiver::Station(address)) <= FEW;
+        let goes_alone = few_wait || outlook.is_in_doubt;
         self.in_flight.is_overdue(place, address, now)
             || self.in_flight.is_unknown(place, address)
             || goes_alone && self.in_flight.has(place, address)

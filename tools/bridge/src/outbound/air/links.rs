@@ -52,6 +52,17 @@ pub(super) enum Next {
     GivenUp,
 }
 
+/// How the next unit to a station is expected to go.
+#[derive(Debug, Clone, Copy)]
+pub(super) struct Outlook {
+    /// Whether it comes through as good as surely, as far as one knows.
+    pub is_sure: bool,
+    /// Whether the last unit was lost.
+    pub is_in_doubt: bool,
+    /// At which rate a unit goes, unless it is a sample.
+    pub unit_rate: u8,
+}
+
 /// The frame that was sent to a station last.
 #[derive(Debug)]
 struct Last {
@@ -197,20 +208,15 @@ impl Links {
         self.networks[place].links.get(&address).map_or(Instant::START, |station| station.acknowledged)
     }
 
-    /// Whether what is sent to a station comes through as good as surely, as far as one knows.
-    pub fn is_sure(&self, place: Place, address: Address) -> bool {
-        self.networks[place].links.get(&address).map_or(true, |station| station.rates.are_sure())
-    }
-
-    /// Whether the last unit to a station was lost.
-    pub fn is_in_doubt(&self, place: Place, address: Address) -> bool {
-        self.networks[place].links.get(&address).map_or(false, |station| station.rates.is_in_doubt())
-    }
-
-    /// At which rate the next frame goes to a station, unless it is a sample.
-    pub fn expected_rate(&self, place: Place, address: Address, is_unit: bool) -> u8 {
-        let station = self.networks[place].links.get(&address).filter(|_| is_unit && self.is_told());
-        station.map_or_else(|| self.lowest(place), |station| station.rates.plainly().rate)
+    /// How the next unit to a station is expected to go.
+    pub fn outlook(&self, place: Place, address: Address) -> Outlook {
+        let NetworkLinks { lowest, links, .. } = &self.networks[place];
+        let unknown = Outlook { is_sure: true, is_in_doubt: false, unit_rate: *lowest };
+        links.get(&address).map_or(unknown, |Link { rates, .. }| Outlook {
+            is_sure: rates.are_sure(),
+            is_in_doubt: rates.is_in_doubt(),
+            unit_rate: if self.is_told() { rates.plainly().rate } else { *lowest },
+        })
     }
 
     /// How a frame is sent to a station now, where the radio is busy or isn't, and whether what comes next for it waits
