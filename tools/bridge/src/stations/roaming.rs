@@ -4,12 +4,15 @@
 //! elsewhere. An *update* is the frame that an access point puts on its wire for a station that has just joined
 //! (`formats::ethernet`). The rules, of any order of calls:
 //!
-//! 1. By an update a station moves that was associated here for a second, once nothing was heard of it for 100 ms.
+//! 1. By an update a station moves that was associated here for a second, once nothing was heard of it for 100 ms. So
+//!    unasked it moves at most once in ten seconds.
 //! 2. By any other frame, and by an update within that second, the station is asked. It moves if nothing is heard of it
-//!    within a second. One that dozes is asked by a unit, and has five seconds.
+//!    within a second. By a second update within ten seconds it is asked too, and moves if nothing is heard of it within
+//!    half a second. One that dozes is asked by a unit, and has five seconds.
 //! 3. An echo is no hint (`echoes`), unless it is an update: another access point's looks like one of this.
 //! 4. What is heard of a station meanwhile, its acknowledgement too, shows that it is here.
-//! 5. A station moves at most once in ten seconds. A hint within these is only told of, once.
+//! 5. Of a station that moved within the last ten seconds and turns out to be here it is told, once, that the wire shows
+//!    it elsewhere.
 //! 6. At most two stations are asked in 100 ms, and of at most 256 is it awaited whether they are here. A hint beyond
 //!    that counts for nothing. Where the radio tells of no acknowledgement, nobody is asked.
 //!
@@ -26,10 +29,11 @@ use crate::stations::table::StationTable;
 const TO_SETTLE: Duration = SECOND;
 /// For how long nothing must have been heard of it then.
 const QUIET: Duration = Duration::from_millis(100);
-/// How long an answer is awaited, and that of a station that dozes.
+/// How long an answer is awaited, by a second update, and that of a station that dozes.
 const TO_ANSWER: Duration = SECOND;
+const TO_ANSWER_TO_UPDATE: Duration = Duration::from_millis(500);
 const TO_ANSWER_OF_DOZING: Duration = Duration::from_secs(5);
-/// A station moves at most once in this time.
+/// Unasked a station moves at most once in this time.
 const BETWEEN_MOVES: Duration = Duration::from_secs(10);
 /// How many stations are asked in how long.
 const MOST_ASKED: u32 = 2;
@@ -48,7 +52,7 @@ pub(super) enum Step {
     AskByUnit(Member),
     /// It has moved.
     Move(Member),
-    /// The wire shows it elsewhere again, so soon that it stays.
+    /// The wire shows it elsewhere again soon after it moved, and it is here.
     Stay(Member),
 }
 
@@ -105,14 +109,14 @@ impl Roaming {
         now: Instant,
     ) -> Option<Step> {
         let is_update = is_update(frame, member.1);
-        let moves = is_update && now >= station.since + TO_SETTLE;
+        let is_settled = is_update && now >= station.since + TO_SETTLE;
+        let moves = is_settled && self.moved_lately(member, now).is_none();
+        if is_settled && !moves && !answers {
+            return self.stays(member, now);
+        }
         let is_known = self.awaited.contains_key(&member) || !is_update && self.echoes[member.0].may_be(frame, now);
         if !moves && (is_known || !answers) {
             return None;
-        }
-        if let Some(moved) = self.moved_lately(member, now) {
-            let was_told = std::mem::replace(&mut moved.is_told, true);
-            return (!was_told).then_some(Step::Stay(member));
         }
         match (moves, station.dozes) {
             (true, _) if now >= station.heard + QUIET => Some(self.moves(member, now)),
@@ -121,7 +125,10 @@ impl Roaming {
                 None
             }
             (false, true) => self.asks(member, now, TO_ANSWER_OF_DOZING).then_some(Step::AskByUnit(member)),
-            (false, false) => self.asks(member, now, TO_ANSWER).then_some(Step::Ask(member)),
+            (false, false) => {
+                let to_answer = if is_settled { TO_ANSWER_TO_UPDATE } else { TO_ANSWER };
+                self.asks(member, now, to_answer).then_some(Step::Ask(member))
+            }
         }
     }
 
@@ -133,12 +140,13 @@ impl Roaming {
         let mut steps = Vec::new();
         for (member, Awaited { since, .. }) in over {
             self.awaited.remove(&member);
-            let is_gone = |station: &Station| {
-                let is_associated = matches!(station.state, State::Associated(_)) && !station.is_leaving;
-                is_associated && station.since <= since && station.heard <= since
+            let is_associated = |station: &&Station| {
+                matches!(station.state, State::Associated(_)) && !station.is_leaving && station.since <= since
             };
-            if table.station(&member).map_or(false, is_gone) {
-                steps.push(self.moves(member, now));
+            match table.station(&member).filter(is_associated) {
+                Some(station) if station.heard <= since => steps.push(self.moves(member, now)),
+                Some(_) => steps.extend(self.stays(member, now)),
+                None => {}
             }
         }
         steps
@@ -153,11 +161,19 @@ impl Roaming {
         Step::Move(member)
     }
 
+    /// A station is here: if it moved lately, that is told once.
+    fn stays(&mut self, member: Member, now: Instant) -> Option<Step> {
+        let moved = self.moved_lately(member, now).filter(|moved| !moved.is_told)?;
+        moved.is_told = true;
+        Some(Step::Stay(member))
+    }
+
+    /// Its last move, if it moved lately.
     fn moved_lately(&mut self, member: Member, now: Instant) -> Option<&mut Moved> {
         while self.moved.front().map_or(false, |moved| moved.at + BETWEEN_MOVES <= now) {
             self.moved.pop_front();
         }
-        self.moved.iter_mut().find(|moved| moved.member == member)
+        self.moved.iter_mut().rev().find(|moved| moved.member == member)
     }
 
     /// Whether there is room for one more that is awaited, which is from now on.

@@ -157,15 +157,48 @@ fn one_that_left_or_joined_anew_is_awaited_no_more() {
     assert_eq!(site.look(at(80 * SECOND)), []);
 }
 
+/// It came back and is shown elsewhere again: one that answers stays, however often the wire claims it.
 #[test]
-fn it_moves_once_in_ten_seconds_and_the_second_time_is_told_once() {
+fn unasked_it_moves_once_in_ten_seconds_and_stays_if_it_answers_which_is_told_once() {
     let mut site = Site::new();
     assert_eq!(site.hint(MEMBER, &update(STATION), at(10 * SECOND)), Some(Step::Move(MEMBER)));
     site.table.associate(MEMBER, 1, at(11 * SECOND));
-    assert_eq!(site.hint(MEMBER, &update(STATION), at(13 * SECOND)), Some(Step::Stay(MEMBER)));
-    assert_eq!(site.hint(MEMBER, &frame(), at(14 * SECOND)), None);
-    assert_eq!(site.look(at(19 * SECOND)), []);
+    for (second, told) in [(13, vec![Step::Stay(MEMBER)]), (15, vec![]), (17, vec![])] {
+        let now = second * SECOND;
+        assert_eq!(site.hint(MEMBER, &update(STATION), at(now)), Some(Step::Ask(MEMBER)));
+        assert_eq!(site.hint(MEMBER, &update(STATION), at(now)), None);
+        site.is_heard(at(now + MILLISECOND));
+        assert_eq!(site.look(at(now + TO_ANSWER_TO_UPDATE - MILLISECOND)), []);
+        assert_eq!(site.look(at(now + TO_ANSWER_TO_UPDATE)), told);
+    }
     assert_eq!(site.hint(MEMBER, &update(STATION), at(20 * SECOND)), Some(Step::Move(MEMBER)));
+}
+
+/// A station that roams to and fro is in one table alone soon after each roam.
+#[test]
+fn one_that_roams_again_within_ten_seconds_moves_if_it_is_silent() {
+    let mut site = Site::new();
+    for second in [10, 16, 22, 28] {
+        site.table.associate(MEMBER, 1, at((second - 3) * SECOND));
+        let now = second * SECOND;
+        let step = site.hint(MEMBER, &update(STATION), at(now));
+        let was_asked = step == Some(Step::Ask(MEMBER));
+        assert_eq!(was_asked, second > 10, "{second}");
+        let steps: Vec<Step> = step.into_iter().chain(site.look(at(now + TO_ANSWER_TO_UPDATE))).collect();
+        assert_eq!(steps.last(), Some(&Step::Move(MEMBER)), "{second}");
+    }
+}
+
+#[test]
+fn where_no_answer_would_be_told_a_second_update_is_only_told_of_once() {
+    let mut site = Site::new();
+    assert_eq!(site.hint(MEMBER, &update(STATION), at(10 * SECOND)), Some(Step::Move(MEMBER)));
+    site.table.associate(MEMBER, 1, at(11 * SECOND));
+    let station = site.table.station(&MEMBER).unwrap();
+    for (second, told) in [(13, Some(Step::Stay(MEMBER))), (14, None), (20, Some(Step::Move(MEMBER)))] {
+        let step = site.roaming.hint(MEMBER, station, &update(STATION), false, at(second * SECOND));
+        assert_eq!(step, told, "{second}");
+    }
 }
 
 #[test]
