@@ -184,8 +184,16 @@ class WhatIsInstalled(SmallRepository):
         self.assertGreater(shown, 3)
 
     def test_networks_are_examples(self):
-        """Each file of share/networks is installed as it stands, where docs/NETWORKS.md copies it from."""
+        """Each file of share/networks is installed as it stands, where docs/NETWORKS.md copies it from. So are those of
+        share/ansible, with their folders."""
         self.install()
+        role = os.path.join(ROOT, "share", "ansible")
+        paths = [path for path in glob.glob(os.path.join(role, "**"), recursive=True) if os.path.isfile(path)]
+        self.assertGreater(len(paths), 6)
+        for path in paths:
+            with open(path, encoding="utf-8") as file:
+                name = f"share/doc/waltigon/examples/ansible/{os.path.relpath(path, role)}"
+                self.assertEqual(self.read(name), file.read())
         for path in glob.glob(os.path.join(ROOT, "share", "networks", "*")):
             with open(path, encoding="utf-8") as file:
                 self.assertEqual(self.read(f"share/doc/waltigon/examples/networks/{os.path.basename(path)}"),
