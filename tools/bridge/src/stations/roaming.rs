@@ -13,8 +13,9 @@
 //! 4. What is heard of a station meanwhile, its acknowledgement too, shows that it is here.
 //! 5. Of a station that moved within the last ten seconds and turns out to be here it is told, once, that the wire shows
 //!    it elsewhere.
-//! 6. At most two stations are asked in 100 ms, and of at most 256 is it awaited whether they are here. A hint beyond
-//!    that counts for nothing. Where the radio tells of no acknowledgement, nobody is asked.
+//! 6. At most two stations are asked in 100 ms, and of at most 256 is it awaited whether they are here. A second update
+//!    within ten seconds waits until its station may be asked; any other hint beyond that counts for nothing. Where the
+//!    radio tells of no acknowledgement, nobody is asked.
 //!
 //! Nothing is sent or timed here.
 use std::collections::{BTreeMap, VecDeque};
@@ -61,6 +62,8 @@ pub(super) enum Step {
 struct Awaited {
     since: Instant,
     until: Instant,
+    /// Whether it has still to be asked, since too many were.
+    is_unasked: bool,
 }
 
 /// A station that moved.
@@ -118,18 +121,18 @@ impl Roaming {
         if !moves && (is_known || !answers) {
             return None;
         }
-        match (moves, station.dozes) {
-            (true, _) if now >= station.heard + QUIET => Some(self.moves(member, now)),
-            (true, _) => {
-                self.awaits(member, now, station.heard + QUIET);
-                None
-            }
-            (false, true) => self.asks(member, now, TO_ANSWER_OF_DOZING).then_some(Step::AskByUnit(member)),
-            (false, false) => {
-                let to_answer = if is_settled { TO_ANSWER_TO_UPDATE } else { TO_ANSWER };
-                self.asks(member, now, to_answer).then_some(Step::Ask(member))
-            }
+        if moves && now >= station.heard + QUIET {
+            return Some(self.moves(member, now));
         }
+        if moves {
+            self.awaits(member, Awaited { since: now, until: station.heard + QUIET, is_unasked: false });
+            return None;
+        }
+        let step = self.asks(member, station, if is_settled { TO_ANSWER_TO_UPDATE } else { TO_ANSWER }, now);
+        if step.is_none() && is_settled {
+            self.awaits(member, Awaited { since: now, until: now + ASKED_IN, is_unasked: true });
+        }
+        step
     }
 
     /// What is to be done of those that were awaited for long enough.
@@ -138,14 +141,21 @@ impl Roaming {
         let over: Vec<(Member, Awaited)> =
             self.awaited.iter().filter(|(_, awaited)| is_over(awaited)).map(|(member, one)| (*member, *one)).collect();
         let mut steps = Vec::new();
-        for (member, Awaited { since, .. }) in over {
+        for (member, awaited) in over {
             self.awaited.remove(&member);
             let is_associated = |station: &&Station| {
-                matches!(station.state, State::Associated(_)) && !station.is_leaving && station.since <= since
+                matches!(station.state, State::Associated(_)) && !station.is_leaving && station.since <= awaited.since
             };
             match table.station(&member).filter(is_associated) {
-                Some(station) if station.heard <= since => steps.push(self.moves(member, now)),
-                Some(_) => steps.extend(self.stays(member, now)),
+                Some(station) if station.heard > awaited.since => steps.extend(self.stays(member, now)),
+                Some(station) if awaited.is_unasked => {
+                    let step = self.asks(member, station, TO_ANSWER_TO_UPDATE, now);
+                    if step.is_none() {
+                        self.awaits(member, Awaited { until: now + ASKED_IN, ..awaited });
+                    }
+                    steps.extend(step);
+                }
+                Some(_) => steps.push(self.moves(member, now)),
                 None => {}
             }
         }
@@ -177,22 +187,27 @@ impl Roaming {
     }
 
     /// Whether there is room for one more that is awaited, which is from now on.
-    fn awaits(&mut self, member: Member, since: Instant, until: Instant) -> bool {
+    fn awaits(&mut self, member: Member, awaited: Awaited) -> bool {
         let has_room = self.awaited.len() < MOST_AWAITED || self.awaited.contains_key(&member);
         if has_room {
-            self.awaited.insert(member, Awaited { since, until });
+            self.awaited.insert(member, awaited);
         }
         has_room
     }
 
-    /// The same of one that is asked, if it may be asked now.
-    fn asks(&mut self, member: Member, now: Instant, to_answer: Duration) -> bool {
+    /// A station is asked and awaited, if it may be asked now.
+    fn asks(&mut self, member: Member, station: &Station, to_answer: Duration, now: Instant) -> Option<Step> {
+        let (to_answer, step) = match station.dozes {
+            true => (TO_ANSWER_OF_DOZING, Step::AskByUnit(member)),
+            false => (to_answer, Step::Ask(member)),
+        };
         if now >= self.asked.0 + ASKED_IN {
             self.asked = (now, 0);
         }
-        let may = self.asked.1 < MOST_ASKED && self.awaits(member, now, now + to_answer);
+        let awaited = Awaited { since: now, until: now + to_answer, is_unasked: false };
+        let may = self.asked.1 < MOST_ASKED && self.awaits(member, awaited);
         self.asked.1 += u32::from(may);
-        may
+        may.then_some(step)
     }
 }
 

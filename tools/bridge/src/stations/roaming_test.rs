@@ -189,6 +189,43 @@ fn one_that_roams_again_within_ten_seconds_moves_if_it_is_silent() {
     }
 }
 
+/// Where many roam to and fro at once, each is asked in its turn.
+#[test]
+fn many_that_roam_again_at_once_are_asked_one_after_the_other() {
+    let (mut site, members) = Site::with_many(8);
+    for member in &members {
+        assert_eq!(site.hint(*member, &update(member.1), at(10 * SECOND)), Some(Step::Move(*member)));
+        site.table.associate(*member, 1, at(11 * SECOND));
+    }
+    let begin = 14 * SECOND;
+    let asked = members.iter().filter_map(|member| site.hint(*member, &update(member.1), at(begin))).count();
+    assert_eq!(asked, 2);
+    let mut steps = Vec::new();
+    for milliseconds in (0..=1000).step_by(20) {
+        steps.extend(site.look(at(begin + Duration::from_millis(milliseconds))));
+    }
+    for member in &members {
+        assert_eq!(steps.iter().filter(|step| **step == Step::Move(*member)).count(), 1, "{member:?}");
+    }
+    assert_eq!(steps.iter().filter(|step| matches!(step, Step::Ask(_))).count(), members.len() - asked);
+}
+
+/// One that was heard before its turn came isn't asked any more.
+#[test]
+fn one_that_waits_to_be_asked_and_is_heard_stays() {
+    let (mut site, members) = Site::with_many(2);
+    for member in members.iter().chain([&MEMBER]) {
+        assert_eq!(site.hint(*member, &update(member.1), at(10 * SECOND)), Some(Step::Move(*member)));
+        site.table.associate(*member, 1, at(11 * SECOND));
+    }
+    let now = 14 * SECOND;
+    for (member, wanted) in members.iter().map(|member| (*member, Some(Step::Ask(*member)))).chain([(MEMBER, None)]) {
+        assert_eq!(site.hint(member, &update(member.1), at(now)), wanted);
+    }
+    site.is_heard(at(now + MILLISECOND));
+    assert_eq!(site.look(at(now + ASKED_IN)), [Step::Stay(MEMBER)]);
+}
+
 #[test]
 fn where_no_answer_would_be_told_a_second_update_is_only_told_of_once() {
     let mut site = Site::new();
