@@ -113,9 +113,9 @@ def wait_until(moment: float) -> None:
 class Receiving:
     """Datagrams that a Linux station takes from now on."""
 
-    def __init__(self, station: Station | Host, sent: int, address: str = "0.0.0.0") -> None:
+    def __init__(self, station: Station | Host, sent: int, address: str = "0.0.0.0", port: int = PORT) -> None:
         self.sent = sent
-        words = "receive", address, str(PORT), str(UNLIMITED), str(SECONDS_OF_SILENCE), "--stamps"
+        words = "receive", address, str(port), str(UNLIMITED), str(SECONDS_OF_SILENCE), "--stamps"
         self.process = start_stamped(station, *words)
 
     def result(self) -> Came:

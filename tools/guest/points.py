@@ -1,5 +1,5 @@
-"""Two access points of several networks each: this one, and Debian's hostapd with the kernel's own. Both serve the same
-wired hosts by the same radio, one after the other."""
+"""Two kinds of access points of several networks each: this one, and Debian's hostapd with the kernel's own. Both kinds
+serve the same wires, one after the other. Of one kind several may serve a site, each with a number and a radio."""
 import os
 import signal
 import subprocess
@@ -7,17 +7,17 @@ from dataclasses import dataclass
 
 from airing import RATES
 from stage import BY, NETWORK_TEXT, RADIO_TEXT, READY, TIMEOUT
-from stations import Failed, Host, run, wait_for
+from stations import Failed, run, wait_for
 
 SECONDS_TO_END = 60
-AP = "ap0"
+CHANNEL = 6
 HOSTAPD_TEXT = """interface={interface}
 driver=nl80211
 ctrl_interface={folder}/control
 bridge={bridge}
 ssid={ssid}
 hw_mode=g
-channel=6
+channel={channel}
 beacon_int=100
 dtim_period=1
 auth_algs=1
@@ -37,10 +37,10 @@ wmm_enabled=0
 
 @dataclass(frozen=True)
 class Served:
-    """A network that an access point has to serve: its name, and the host at its wire."""
+    """A network that an access point has to serve: its name, and the interface of its wire."""
 
     ssid: str
-    host: Host
+    port: str
 
 
 class Point:
@@ -49,16 +49,18 @@ class Point:
     name = ""
     # The address of its first network; those of the others follow.
     first_bssid = 0
+    number, channel = 0, CHANNEL
 
-    def __init__(self, folder: str, phy: str) -> None:
-        self.folder, self.phy = os.path.join(folder, self.name), phy
+    def __init__(self, folder: str, phy: str, number: int = 0, channel: int = CHANNEL) -> None:
+        self.phy, self.number, self.channel = phy, number, channel
+        self.folder = os.path.join(folder, f"{self.name}{number or ''}")
         os.makedirs(self.folder, exist_ok=True)
         self.config, self.log = (os.path.join(self.folder, file) for file in ("config", "log"))
         self.process: subprocess.Popen | None = None
 
     def bssid(self, place: int) -> str:
         """The address of the network at this place."""
-        return f"02:00:00:00:01:{self.first_bssid + place:02x}"
+        return f"02:00:00:00:{16 * self.number + 1:02x}:{self.first_bssid + place:02x}"
 
     def start(self, words: list[str], says: str) -> None:
         """Starts the process, and waits until it says that it has begun."""
@@ -92,20 +94,21 @@ class Own(Point):
     name = "waltigon"
     first_bssid = 1
 
-    def __init__(self, folder: str, phy: str, live: str, program: str, bridge: str | None) -> None:
-        super().__init__(folder, phy)
-        self.words = [live, self.config, "--phy", phy, "--program", program, *BY]
+    def __init__(self, folder: str, phy: str, live: str, program: str, bridge: str | None, number: int = 0,
+                 channel: int = CHANNEL) -> None:
+        super().__init__(folder, phy, number, channel)
+        self.words = [live, self.config, "--phy", phy, "--program", program, "--monitor", f"mon{number}", *BY]
         self.words += ["--bridge", bridge] if bridge else []
 
     def begin(self, networks: list[Served], more: tuple[str, ...] = ()) -> None:
         """Begins it with these networks, and with more words of tools/live."""
         words = [*self.words, *more]
         with open(self.config, "w", encoding="utf-8") as file:
-            file.write(RADIO_TEXT.format(version=1))
+            file.write(RADIO_TEXT.format(version=1).replace(f"channel = {CHANNEL}\n", f"channel = {self.channel}\n"))
             for place, network in enumerate(networks):
                 bssid = self.bssid(place)
                 file.write(NETWORK_TEXT.format(bssid=bssid, ssid=network.ssid, rates=RATES, dtim=1, more=""))
-                words += ["--wire", f"{bssid}={network.host.port}"]
+                words += ["--wire", f"{bssid}={network.port}"]
         self.start(words, READY)
 
 
@@ -114,22 +117,27 @@ class Hostapd(Point):
 
     name = "hostapd"
 
-    def __init__(self, folder: str, phy: str) -> None:
-        super().__init__(folder, phy)
+    def __init__(self, folder: str, phy: str, number: int = 0, channel: int = CHANNEL) -> None:
+        super().__init__(folder, phy, number, channel)
+        self.interface = f"ap{number}"
         self.bridges: list[str] = []
 
     def begin(self, networks: list[Served], more: tuple[str, ...] = ()) -> None:
         """Begins it with these networks; there are no more words."""
         assert not more
-        run("iw", "phy", self.phy, "interface", "add", AP, "type", "managed", "addr", self.bssid(0))
-        self.bridges = [f"br{place}" for place, _ in enumerate(networks)]
+        run("iw", "phy", self.phy, "interface", "add", self.interface, "type", "managed", "addr", self.bssid(0))
+        self.bridges = [f"br{self.number}-{place}" for place, _ in enumerate(networks)]
         with open(self.config, "w", encoding="utf-8") as file:
             for place, (network, bridge) in enumerate(zip(networks, self.bridges)):
                 text = MORE_HOSTAPD_TEXT if place else HOSTAPD_TEXT
-                file.write(text.format(interface=f"{AP}_{place}" if place else AP, folder=self.folder, bridge=bridge,
-                                       ssid=network.ssid, bssid=self.bssid(place)))
-                self.join_wire(bridge, network.host.port)
+                file.write(text.format(interface=self.interface_of(place), folder=self.folder, bridge=bridge,
+                                       ssid=network.ssid, bssid=self.bssid(place), channel=self.channel))
+                self.join_wire(bridge, network.port)
         self.start(["hostapd", self.config], "AP-ENABLED")
+
+    def interface_of(self, place: int) -> str:
+        """The interface of the network at this place."""
+        return f"{self.interface}_{place}" if place else self.interface
 
     def join_wire(self, bridge: str, port: str) -> None:
         """Makes a bridge of the kernel, with a wire in it."""
@@ -145,4 +153,4 @@ class Hostapd(Point):
         for bridge in self.bridges:
             run("ip", "link", "del", bridge)
         self.bridges = []
-        run("iw", "dev", AP, "del")
+        run("iw", "dev", self.interface, "del")

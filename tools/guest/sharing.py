@@ -207,7 +207,7 @@ class Stage:
         parties = self.parties[:number]
         self.air.lose()
         self.air.queue_by(AP_RADIO, discipline)
-        point.begin([Served(party.ssid, party.host) for party in parties], more)
+        point.begin([Served(party.ssid, party.host.port) for party in parties], more)
         for place, party in enumerate(parties):
             party.station.begin(party.ssid, point.bssid(place))
         for place, party in enumerate(parties):

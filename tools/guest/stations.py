@@ -186,7 +186,8 @@ class Station(Namespace):
     """An unmodified Linux station: a radio, the kernel's mac80211 and wpa_supplicant."""
 
     phy: str = ""
-    frequency: int = 2437
+    # Where it looks for networks: one frequency, or several with spaces between.
+    frequency: int | str = 2437
     folder: str = field(default_factory=lambda: tempfile.mkdtemp(prefix="station-"))
     supplicant: subprocess.Popen | None = None
 
