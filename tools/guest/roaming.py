@@ -132,8 +132,11 @@ class Site:
             run("ip", "link", "add", f"site{net}", "type", "bridge")
             for number in (HERE, THERE):
                 run("ip", "link", "add", wire(number, net), "type", "veth", "peer", "name", port(number, net))
+                run("ip", "link", "set", wire(number, net), "addrgenmode", "none")
             self.join_bridge(net, host.port, *(port(number, net) for number in (HERE, THERE)))
         run("ip", "link", "add", STRANGER, "type", "veth", "peer", "name", "lan-stranger")
+        run("ip", "link", "set", STRANGER, "addrgenmode", "none")
+        run("ip", "link", "set", STRANGER, "up")
         self.join_bridge(GUEST, "lan-stranger")
         self.stations = [Station(f"sta{place}", radio.interface, f"10.0.{self.net_of(place)}.{10 + place}", radio.phy,
                                  FREQUENCIES) for place, radio in enumerate(radios[2:])]
@@ -172,9 +175,8 @@ class Site:
         self.points = [kind.make(phy, number, channel)
                        for number, (phy, channel) in enumerate(zip(self.phys, channels))]
         for number, point in enumerate(self.points):
-            run("ip", "link", "set", STRANGER, "up")
             for net, _ in enumerate(SSIDS):
-                run("ip", "link", "set", wire(number, net), "addrgenmode", "none", "up")
+                run("ip", "link", "set", wire(number, net), "up")
             point.begin([Served(ssid, wire(number, net)) for net, ssid in enumerate(SSIDS)], more)
 
     def end(self) -> None:
