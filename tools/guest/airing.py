@@ -15,6 +15,7 @@ TRIED = re.compile(r"from (?P<sender>\d+) to (?P<to>\S+) (?P<kind>\S+) at (?P<ra
 TIMED = re.compile(r"from (?P<sender>\S+) to (?P<to>\S+) (?P<kind>\S+) tries (?P<tries>\d+) sending (?P<sending>\d+) "
                    r"spaces (?P<spaces>\d+) dropped (?P<dropped>\d+)")
 BRIDGE, AP = "br0", "ap0"
+OTHER_BRIDGE, OTHER_AP = "br1", "ap0_1"
 HOSTAPD_TEXT = """interface={interface}
 bridge={bridge}
 driver=nl80211
@@ -28,6 +29,14 @@ auth_algs=1
 wmm_enabled=0
 basic_rates=10 20
 supported_rates=10 20 55 110 60 90 120 180 240 360 480 540
+"""
+MORE_HOSTAPD_TEXT = """bss={interface}
+bssid={bssid}
+bridge={bridge}
+ssid={ssid}
+dtim_period=1
+auth_algs=1
+wmm_enabled=0
 """
 # The same rates as the octets of elements.
 RATES = "82840b160c1218243048606c"
@@ -137,19 +146,29 @@ class PowerSave:
     aging: bool = False
 
 
+@dataclass(frozen=True)
+class Other:
+    """Another network of an access point: its address, its name, and the host at its wire."""
+
+    bssid: str
+    ssid: str
+    host: Host
+
+
 class Own:
     """This access point: the bridge and the program."""
 
     name = "waltigon"
 
     def __init__(self, folder: str, bridge: str, program: str, phy: str, bssid: str, ssid: str, host: Host,
-                 power_save: PowerSave = PowerSave(), max_known: int = 128) -> None:
+                 power_save: PowerSave = PowerSave(), max_known: int = 128, other: Other | None = None) -> None:
         self.bssid, self.ssid = bssid, ssid
         # Version 2 of the configuration asks for both words.
         more = f"relay = true\naging = {str(power_save.aging).lower()}\n"
         net = Net(bssid, ssid, host.port, rates=RATES, dtim=power_save.dtim, quota=power_save.quota, more=more,
                   max_known=max_known)
-        self.start = Start(self.name, folder, bridge, program, phy, (net,), version=2)
+        others = [Net(other.bssid, other.ssid, other.host.port, rates=RATES, more=more)] if other else []
+        self.start = Start(self.name, folder, bridge, program, phy, (net, *others), version=2)
 
     def begin(self) -> None:
         """Begins it."""
@@ -171,9 +190,9 @@ class Hostapd:
     name = "hostapd"
 
     def __init__(self, folder: str, phy: str, bssid: str, ssid: str, host: Host,
-                 power_save: PowerSave = PowerSave()) -> None:
+                 power_save: PowerSave = PowerSave(), other: Other | None = None) -> None:
         self.folder = new_folder(folder, self.name)
-        self.power_save = power_save
+        self.power_save, self.other = power_save, other
         self.phy, self.bssid, self.ssid, self.host = phy, bssid, ssid, host
         self.config, self.log = os.path.join(self.folder, "config"), os.path.join(self.folder, "log")
         self.process: subprocess.Popen | None = None
@@ -183,13 +202,21 @@ class Hostapd:
         with open(self.config, "w", encoding="utf-8") as file:
             file.write(HOSTAPD_TEXT.format(interface=AP, bridge=BRIDGE, folder=self.folder, ssid=self.ssid,
                                            dtim=self.power_save.dtim))
+            if self.other:
+                file.write(MORE_HOSTAPD_TEXT.format(interface=OTHER_AP, bridge=OTHER_BRIDGE, ssid=self.other.ssid,
+                                                    bssid=self.other.bssid))
         run("iw", "phy", self.phy, "interface", "add", AP, "type", "managed", "addr", self.bssid)
-        run("ip", "link", "add", BRIDGE, "type", "bridge")
-        for name in (self.host.port, BRIDGE):
-            run("ip", "link", "set", name, "addrgenmode", "none")
-        run("ip", "link", "set", self.host.port, "master", BRIDGE, "up")
-        run("ip", "link", "set", BRIDGE, "up")
+        for bridge, port in self.wires():
+            run("ip", "link", "add", bridge, "type", "bridge")
+            for name in (port, bridge):
+                run("ip", "link", "set", name, "addrgenmode", "none")
+            run("ip", "link", "set", port, "master", bridge, "up")
+            run("ip", "link", "set", bridge, "up")
         self.begin_process()
+
+    def wires(self) -> list[tuple[str, str]]:
+        """The kernel's bridge of each network, and the wire in it."""
+        return [(BRIDGE, self.host.port)] + ([(OTHER_BRIDGE, self.other.host.port)] if self.other else [])
 
     def begin_process(self) -> None:
         """Begins hostapd alone; all else is there."""
@@ -222,7 +249,8 @@ class Hostapd:
         """Ends it, and takes down what it needed."""
         self.process.terminate()
         self.process.wait(20)
-        run("ip", "link", "del", BRIDGE)
+        for bridge, _ in self.wires():
+            run("ip", "link", "del", bridge)
         run("iw", "dev", AP, "del")
         return ""
 

@@ -5,18 +5,21 @@ import statistics
 import time
 from dataclasses import dataclass, field
 
-from airing import Air, Hostapd, Own, PowerSave, live_with
+from airing import Air, Hostapd, Other, Own, PowerSave, live_with
 from made_up import ALL_RATES, Habit, MadeUp, play
 from sharing import Flow, know_each_other, start_stamped
-from stage import Observer
+from stage import HANDED_BACK_FROM, HANDED_BACK_TO, Observer
 from stations import Failed, Host, Radio, Station, load_radios, run, unload_radios, wait_for
 
 HERE = os.path.dirname(os.path.realpath(__file__))
 LIVE = os.path.join(os.path.dirname(HERE), "live")
 BSSID, SSID, FREQUENCY, PORT, UNCOUNTED = "02:00:00:00:01:01", "doze", 2437, 9000, 9001
+# Another network: hostapd wants each bit of the first address in that of the others.
+OTHER_BSSID, OTHER_SSID = "02:00:00:00:01:03", "beside"
 # The radios' numbers: the access point, one that hears all and sends as a stranger, then stations.
 AP_RADIO, OBSERVER, FIRST = 0, 1, 2
 ADDRESS, EVERYBODY, HOST_ADDRESS = "10.0.1.{}", "10.0.1.255", "10.0.1.1"
+OTHER_ADDRESS, OTHER_HOST_ADDRESS = "10.0.2.{}", "10.0.2.1"
 # So long before they send the senders are started, since starting a program takes the processor.
 SECONDS_TO_START = 2.0
 WARMING_UNITS, WARMING_RATE = 60, 50
@@ -65,8 +68,9 @@ class Figures:
     delays: list[float]
     # What the program counts as lost; None of hostapd.
     counted: int | None = None
-    # More that the row counts, in words.
+    # More that the row counts, in words, and what of that doesn't hold.
     more: str = ""
+    more_misses: list[str] = field(default_factory=list)
 
     @classmethod
     def of(cls, parts: list[Came], since: int = 0) -> "Figures":
@@ -91,13 +95,13 @@ class Figures:
 
     def misses(self, slowest: float) -> list[str]:
         """What doesn't hold of the aims: none lost but what the program counted, at most one in a thousand twice or out
-        of order, and no delay above so many milliseconds."""
+        of order, no delay above so many milliseconds, and what the row asks for besides."""
         lost = self.sent - self.came - (self.counted or 0)
         odd = self.twice + self.out_of_order
         found = ((lost > 0, f"{lost} lost that the program didn't count"),
                  (odd > self.sent / 1000, f"{odd} twice or out of order"),
                  (self.at(100) > slowest, f"a delay of {self.at(100):,.0f} ms, not {slowest:,.0f}"))
-        return [what for is_missed, what in found if is_missed]
+        return [what for is_missed, what in found if is_missed] + self.more_misses
 
 
 def intervals(number: int) -> float:
@@ -129,7 +133,8 @@ class Receiving:
 
 @dataclass
 class Stage:
-    """The air, the access point's radio, the host at its wire, and the radios of stations."""
+    """The air, the access point's radio, the hosts at the wires of its network and of another one, and the radios of
+    stations. Those of the other network are made up, and stand in both lists."""
 
     air_program: str
     seed: int
@@ -137,6 +142,7 @@ class Stage:
     radios: list[Radio] = field(default_factory=list)
     linux: list[Station] = field(default_factory=list)
     made_up: list[MadeUp] = field(default_factory=list)
+    of_other: list[MadeUp] = field(default_factory=list)
 
     def set_up(self, stations: int, sleepers: str) -> None:
         """Loads the radios, with so many for stations, and lets the air carry: each frame goes to all of them."""
@@ -148,11 +154,14 @@ class Stage:
         run("iw", "dev", self.radios[AP_RADIO].interface, "del")
         Observer(self.radios[OBSERVER], FREQUENCY)
         self.host = Host("host1", "eth0", HOST_ADDRESS, "wire1")
-        self.host.create()
+        self.other_host = Host("host2", "eth0", OTHER_HOST_ADDRESS, "wire2")
+        for host in (self.host, self.other_host):
+            host.create()
 
     def take_down(self) -> None:
-        """Takes host, air and radios away."""
-        self.host.delete()
+        """Takes hosts, air and radios away."""
+        for host in (self.host, self.other_host):
+            host.delete()
         self.air.end()
         unload_radios()
 
@@ -170,8 +179,9 @@ class Stage:
                 f"/sys/class/ieee80211/{station.phy}"), 0.05)
         for made_up in self.made_up:
             made_up.delete()
-        self.linux, self.made_up = [], []
-        self.host.end_all()
+        self.linux, self.made_up, self.of_other = [], [], []
+        for host in (self.host, self.other_host):
+            host.end_all()
         return point.end()
 
     def add_linux(self, number: int) -> list[Station]:
@@ -188,20 +198,24 @@ class Stage:
             know_each_other(station, self.host)
         return added
 
-    def add_made_up(self, number: int, listen_interval: int = 1, rates: bytes = ALL_RATES) -> list[MadeUp]:
-        """So many made-up stations join, beside those that are there."""
+    def add_made_up(self, number: int, listen_interval: int = 1, rates: bytes = ALL_RATES,
+                    to_other: bool = False) -> list[MadeUp]:
+        """So many made-up stations join, beside those that are there: the network or the other one."""
         first = len(self.linux) + len(self.made_up)
+        host, address = (self.other_host, OTHER_ADDRESS) if to_other else (self.host, ADDRESS)
         added = []
         for place in range(first, first + number):
             station = MadeUp(self.radios[FIRST + place], FIRST + place, f"02:00:00:00:03:{place:02x}",
-                             ADDRESS.format(10 + place), FREQUENCY, PORT)
+                             address.format(10 + place), FREQUENCY, PORT)
             self.air.give(station.radio_number, station.hardware)
             station.create()
             self.made_up.append(station)
             added.append(station)
-            station.join(BSSID, SSID, listen_interval, rates)
-            self.host.run("ip", "neighbour", "replace", station.address, "lladdr", station.hardware, "dev",
-                          self.host.interface, "nud", "permanent")
+            network = (OTHER_BSSID, OTHER_SSID) if to_other else (BSSID, SSID)
+            station.join(*network, listen_interval, rates)
+            host.run("ip", "neighbour", "replace", station.address, "lladdr", station.hardware, "dev", host.interface,
+                     "nud", "permanent")
+        self.of_other += added if to_other else []
         return added
 
     def hear_at_most(self, rate: float, *radios: int) -> None:
@@ -216,9 +230,11 @@ class Stage:
             self.flow(station.address, begin, WARMING_RATE, 1400, seconds, UNCOUNTED)
         self.play(begin + seconds + 0.5)
 
-    def flow(self, to: str, begin: float, rate: float, octets: int, seconds: float, port: int = PORT) -> None:
-        """Lets the host send units from a moment on."""
-        Flow(rate, octets, seconds).start(self.host, to, port, begin)
+    def flow(self, to: str, begin: float, rate: float, octets: int, seconds: float, port: int = PORT,
+             burst: int = 1) -> None:
+        """Lets the host of an address's network send units from a moment on, so many at a time."""
+        is_of_other = any(station.address == to for station in self.of_other)
+        Flow(rate, octets, seconds, burst).start(self.other_host if is_of_other else self.host, to, port, begin)
 
     def habits(self, habits: list[Habit]) -> None:
         """From now on the made-up stations have these habits."""
@@ -234,6 +250,19 @@ class Stage:
         gone = [station.hardware for station in self.made_up if station.was_sent_away]
         if gone:
             raise Failed(f"sent away: {', '.join(gone)}")
+
+
+def most_handed_back(lines: list[str]) -> int:
+    """The most units of a record that went back to the program together."""
+    most = together = 0
+    is_between = False
+    for line in lines:
+        if line.startswith((HANDED_BACK_FROM, HANDED_BACK_TO)):
+            is_between, together = line.startswith(HANDED_BACK_FROM), 0
+        elif is_between:
+            together += line.startswith("W ")
+            most = max(most, together)
+    return most
 
 
 def counted_as_lost(point: Own | Hostapd) -> int | None:
@@ -254,9 +283,10 @@ class Column:
     program: str | None = None
     bridge: str | None = None
 
-    def make(self, stage: Stage, power_save: PowerSave) -> Own | Hostapd:
-        """An access point."""
+    def make(self, stage: Stage, power_save: PowerSave, has_other: bool) -> Own | Hostapd:
+        """An access point of one network, or of this and another one."""
+        other = Other(OTHER_BSSID, OTHER_SSID, stage.other_host) if has_other else None
         if self.program is None:
-            return Hostapd(self.folder, stage.phy, BSSID, SSID, stage.host, power_save)
+            return Hostapd(self.folder, stage.phy, BSSID, SSID, stage.host, power_save, other)
         live = live_with(self.folder, LIVE, self.bridge)
-        return Own(self.folder, live, self.program, stage.phy, BSSID, SSID, stage.host, power_save)
+        return Own(self.folder, live, self.program, stage.phy, BSSID, SSID, stage.host, power_save, other=other)

@@ -164,6 +164,21 @@ class WakesOnce(Habit):
         self.due = NEVER
 
 
+class Turns(Habit):
+    """Dozes or wakes at moments that are given, whatever beacons say: each with whether it dozes then."""
+
+    def __init__(self, *turns: tuple[float, bool]) -> None:
+        self.turns = list(turns)
+
+    def begin(self, station: "MadeUp") -> None:
+        self.due = self.turns[0][0] if self.turns else NEVER
+
+    def act(self, station: "MadeUp") -> None:
+        _, dozes = self.turns.pop(0)
+        station.say(dozes)
+        self.begin(station)
+
+
 class Naps(Habit):
     """Dozes and wakes at moments that are drawn, whatever beacons say; each time lasts so many seconds. With `to` it
     says so by datagrams to a host, given by its addresses and a port, and else by Null frames."""

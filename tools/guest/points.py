@@ -5,7 +5,7 @@ import signal
 import subprocess
 from dataclasses import dataclass
 
-from airing import RATES
+from airing import MORE_HOSTAPD_TEXT, RATES
 from stage import BY, NETWORK_TEXT, RADIO_TEXT, READY, TIMEOUT
 from stations import Failed, run, wait_for
 
@@ -24,14 +24,6 @@ auth_algs=1
 wmm_enabled=0
 basic_rates=10 20
 supported_rates=10 20 55 110 60 90 120 180 240 360 480 540
-"""
-MORE_HOSTAPD_TEXT = """bss={interface}
-bssid={bssid}
-bridge={bridge}
-ssid={ssid}
-dtim_period=1
-auth_algs=1
-wmm_enabled=0
 """
 
 

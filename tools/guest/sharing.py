@@ -83,52 +83,43 @@ class Receiving:
 
 @dataclass(frozen=True)
 class Flow:
-    """Datagrams of so many octets each, so many a second, or with rate 0 as many as there is room for."""
+    """Datagrams of so many octets each, so many a second, or with rate 0 as many as there is room for; so many go at a
+    time."""
 
     rate: float
     octets: int
     seconds: float
+    burst: int = 1
 
     def start(self, sender: Station | Host, to: str, port: int, begin: float) -> subprocess.Popen:
         """Lets a part send them from a moment on, for which it has to be ready; an address that ends in 255 is that of
         all."""
         words = ["--broadcast"] if to.endswith(".255") else []
         process = start_stamped(sender, "send", to, str(port), str(begin), str(self.seconds), str(self.rate),
-                                str(self.octets - HEADERS_LEN), *words)
+                                str(self.octets - HEADERS_LEN), "--burst", str(self.burst), *words)
         if time.monotonic() > begin:
             raise Failed(f"{sender.name} was too late to send")
         return process
 
 
-class Beacons:
-    """The beacons that another radio hears from now on."""
+class Heard:
+    """What another radio hears from now on, as far as a filter of tcpdump lets it through: the first octets of it."""
 
-    def __init__(self, folder: str) -> None:
-        self.path = os.path.join(folder, "beacons.pcap")
+    def __init__(self, folder: str, only: str) -> None:
+        self.path = os.path.join(folder, "heard.pcap")
         if os.path.exists(self.path):
             os.remove(self.path)
-        self.begun = 0.0
-        words = ["tcpdump", "-i", OBSERVED, "-w", self.path, "-U", "-Z", "root", "--immediate-mode",
-                 "wlan type mgt subtype beacon"]
+        # Each packet takes a place in the buffer as long as the longest that is asked for.
+        words = ["tcpdump", "-i", OBSERVED, "-w", self.path, "-s", "512", "-B", "4096", "-U", "-Z", "root",
+                 "--immediate-mode", only]
         self.process = subprocess.Popen(words, stdin=subprocess.DEVNULL, stderr=subprocess.DEVNULL)
         wait_for("tcpdump", 20, lambda: os.path.exists(self.path) and os.path.getsize(self.path) >= PCAP_HEADER, 0.05)
 
-    def begin(self) -> None:
-        """What was heard before isn't looked at."""
-        self.begun = time.time()
-
-    def end(self, bssids: list[str]) -> float:
-        """The longest time in milliseconds in which a network sent no beacon."""
-        ended = time.time()
+    def end(self) -> list[tuple[float, Frame]]:
+        """The frames that it heard, each with its time in seconds."""
         time.sleep(0.2)
         self.process.terminate()
         self.process.wait()
-        heard = self.heard()
-        return 1000 * max(longest_silence([moment for moment, frame in heard if frame.transmitter == address_of(bssid)],
-                                          self.begun, ended) for bssid in bssids)
-
-    def heard(self) -> list[tuple[float, Frame]]:
-        """The frames that were captured, each with its time in seconds."""
         with open(self.path, "rb") as file:
             octets = file.read()
         found, place = [], PCAP_HEADER
@@ -140,6 +131,25 @@ class Beacons:
             if packet:
                 found.append((seconds + microseconds / 1e6, Frame(packet.frame)))
         return found
+
+
+class Beacons:
+    """The beacons that another radio hears from now on."""
+
+    def __init__(self, folder: str) -> None:
+        self.heard = Heard(folder, "wlan type mgt subtype beacon")
+        self.begun = 0.0
+
+    def begin(self) -> None:
+        """What was heard before isn't looked at."""
+        self.begun = time.time()
+
+    def end(self, bssids: list[str]) -> float:
+        """The longest time in milliseconds in which a network sent no beacon."""
+        ended = time.time()
+        heard = self.heard.end()
+        return 1000 * max(longest_silence([moment for moment, frame in heard if frame.transmitter == address_of(bssid)],
+                                          self.begun, ended) for bssid in bssids)
 
 
 def longest_silence(moments: list[float], begun: float, ended: float) -> float:

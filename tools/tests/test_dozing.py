@@ -4,12 +4,15 @@ import importlib.machinery
 import importlib.util
 import os
 import socket
+import subprocess
 import sys
+import time
 import unittest
 
 GUEST = os.path.join(os.path.dirname(os.path.dirname(os.path.realpath(__file__))), "guest")
 sys.path.append(GUEST)
 import dozing  # noqa: E402
+import following  # noqa: E402
 import made_up  # noqa: E402
 from frames import Frame, address_of  # noqa: E402
 from stations import Radio  # noqa: E402
@@ -66,6 +69,26 @@ class Counted(unittest.TestCase):
         self.assertEqual(figures.misses(100), ["3 lost that the program didn't count"])
         self.assertEqual(str(figures), "0 of 3; 0, 0; nan, nan, nan")
 
+    def test_what_a_row_asks_for_besides_is_told_too(self):
+        """Behind the aims of all rows."""
+        figures = dozing.Figures(1, 0, 0, 0, [], more_misses=["too few went back"])
+        self.assertEqual(figures.misses(100), ["1 lost that the program didn't count", "too few went back"])
+
+    def test_units_that_went_back_together_are_counted(self):
+        """Those between two comments, and no marks of other lines."""
+        since = "# handed back: the lines from here on are units of stations that doze"
+        up_to = "# handed back: up to here"
+        unit = "W 02:00:00:00:01:01 00"
+        lines = [unit, unit, unit, since, unit, up_to, "T", since, unit, unit, "A 00", up_to, unit]
+        self.assertEqual(dozing.most_handed_back(lines), 2)
+        self.assertEqual(dozing.most_handed_back([]), 0)
+
+    def test_the_largest_wakes_come_in_different_parts_of_the_beacon_interval(self):
+        """None before the last one's round has ended."""
+        moments = load_cases().rounds_of(7.0, 5.0)
+        self.assertEqual([round((moment - 7) / 0.1024 % 1, 6) for moment in moments], [0, 0.25, 0.5, 0.75])
+        self.assertTrue(all(later - moment >= 5 for moment, later in zip(moments, moments[1:])))
+
     def test_no_row_is_asked_for_by_the_name_of_another(self):
         """But rows beside a download, and those whose units age."""
         names = [row.name for row in load_cases().rows()]
@@ -73,6 +96,104 @@ class Counted(unittest.TestCase):
         for name in names:
             others = [other for other in names if name in other and other != name]
             self.assertTrue(all(other.startswith(f"{name}, ") for other in others), name)
+
+
+class Followed(unittest.TestCase):
+    """What goes on the air behind DTIM beacons."""
+
+    OTHER, STATION = "02:00:00:00:01:03", "02:00:00:00:03:00"
+
+    def setUp(self):
+        self.heard = []
+
+    def beacon(self, moment, count, has_group, sender=BSSID):
+        """A beacon with a TIM."""
+        tim = bytes([5, 4, count, 3, has_group, 0])
+        self.hear(moment, 0x80, 0, ALL, sender, bytes(12) + bytes([0, 1, 0x61]) + tim)
+
+    def unit(self, moment, receiver, has_more=False, number=0, sender=BSSID):
+        """A unit of a network."""
+        self.hear(moment, 0x08, FROM_NETWORK | (MORE if has_more else 0), receiver, sender, b"", number)
+
+    def hear(self, moment, control, flags, receiver, sender, body, number=0):
+        """A frame that another radio hears."""
+        addresses = address_of(receiver) + address_of(sender) + address_of(sender)
+        self.heard.append((moment, Frame(bytes([control, flags, 0, 0]) + addresses + (number << 4).to_bytes(2, "little")
+                                         + body)))
+
+    def found(self):
+        """What followed the network's beacons."""
+        return following.following(self.heard, address_of(BSSID))
+
+    def test_the_last_unit_and_what_goes_before_it_are_found(self):
+        """A unit that is tried again is one; another network's and a Null frame are none."""
+        self.unit(0.9, ALL)
+        self.beacon(1.0, 0, True)
+        self.unit(1.005, self.STATION, number=7)
+        self.unit(1.006, self.STATION, number=7)
+        self.unit(1.007, ALL, has_more=True, number=8)
+        self.unit(1.008, self.STATION, number=9, sender=self.OTHER)
+        self.unit(1.009, self.STATION, number=9)
+        self.hear(1.01, 0x48, FROM_NETWORK, self.STATION, BSSID, b"", 20)
+        self.unit(1.02, ALL, number=10)
+        self.unit(1.03, self.STATION, number=11)
+        self.unit(1.04, ALL, number=12)
+        self.beacon(1.1, 2, False)
+        self.unit(1.11, ALL)
+        each, = self.found()
+        self.assertEqual((each.is_whole, round(each.wait, 3), len(each.before)), (True, 20.0, 2))
+        self.assertEqual(following.misses([each], 2), [])
+        self.assertEqual(following.misses([each], 1), ["2 units to stations between a beacon and its last unit for the "
+                                                       "group"])
+
+    def test_units_behind_the_last_one_of_the_group_that_came_do_not_count(self):
+        """Where the very last one is lost, the one before it ends what is counted."""
+        self.beacon(1.0, 0, True)
+        self.unit(1.01, ALL, has_more=True)
+        self.unit(1.02, self.STATION, number=3)
+        self.beacon(1.1, 0, True)
+        self.unit(1.115, ALL)
+        cut, whole = self.found()
+        self.assertEqual((cut.is_whole, len(cut.before), whole.is_whole), (False, 0, True))
+        self.assertEqual(following.misses([cut, whole], 0), ["1 beacons without the last unit for the group"])
+        self.assertEqual(following.told([cut, whole]), "the last one 12 ms behind its beacon, 15 at worst, and at most "
+                                                       "0 to stations of its network between")
+
+    def test_a_beacon_that_is_no_dtim_or_tells_of_no_group_is_followed_by_nothing(self):
+        """Which is told where there is no other."""
+        self.beacon(1.0, 1, True)
+        self.unit(1.01, ALL)
+        self.beacon(1.1, 0, False)
+        self.unit(1.11, ALL)
+        self.beacon(1.2, 0, True, sender=self.OTHER)
+        self.unit(1.21, ALL)
+        self.assertEqual(self.found(), [])
+        self.assertEqual(following.misses([], 1), ["no beacon told of units for the group"])
+        self.assertEqual(following.told([]), "no beacon told of any")
+
+    def test_the_worst_interval_counts_early_late_and_missing(self):
+        """By how much it differs."""
+        self.assertAlmostEqual(following.unevenness([0.1, 0.2, 0.3015, 0.4], 100), 1.5)
+        self.assertAlmostEqual(following.unevenness([0.1, 0.3], 100), 100)
+        self.assertEqual(following.unevenness([0.1], 100), float("inf"))
+
+
+class Sent(unittest.TestCase):
+    """What the program `stamped` sends."""
+
+    def test_bursts_go_at_their_times(self):
+        """All of a burst at once, and no burst early."""
+        with socket.socket(socket.AF_INET, socket.SOCK_DGRAM) as taken:
+            taken.bind(("127.0.0.1", 0))
+            taken.settimeout(20)
+            begin = time.monotonic() + 0.5
+            words = ["send", "127.0.0.1", str(taken.getsockname()[1]), str(begin), "1", "10", "100", "--burst", "5"]
+            subprocess.run([os.path.join(GUEST, "stamped"), *words], check=True, capture_output=True, timeout=60)
+            stamps = [int.from_bytes(taken.recv(200)[:8], "big") / 1e9 - begin for _ in range(10)]
+        self.assertGreaterEqual(stamps[0], 0)
+        self.assertLess(stamps[4] - stamps[0], 0.4)
+        self.assertGreaterEqual(stamps[5], 0.5)
+        self.assertEqual(stamps, sorted(stamps))
 
 
 class Heard(made_up.Habit):
@@ -171,6 +292,17 @@ class Stations(unittest.TestCase):
         habit.act(self.station)
         self.assertEqual((habit.due, [frame.power_management for frame in self.sent]),
                          (made_up.NEVER, [True, False, True]))
+
+    def test_turns_come_at_their_moments(self):
+        """And end."""
+        habit = made_up.Turns((5.0, True), (7.0, False))
+        habit.begin(self.station)
+        dues = [habit.due]
+        for _ in range(2):
+            habit.act(self.station)
+            dues.append(habit.due)
+        self.assertEqual(dues, [5.0, 7.0, made_up.NEVER])
+        self.assertEqual([frame.power_management for frame in self.sent], [True, False])
 
     def test_naps_alternate_and_are_told_by_datagrams_where_that_is_asked(self):
         """With the bit in them."""
