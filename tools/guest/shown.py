@@ -65,7 +65,7 @@ class Page(Part):
 
     def __init__(self, cases) -> None:
         self.nets = Net(GUESTS, "guests", "wire1"), Net(OFFICE, "office", "wire2", 2)
-        super().__init__(cases, cases.start("shown", self.nets, more=("--status", str(PORT))))
+        super().__init__(cases, cases.start("shown", self.nets, more=("--status", str(PORT), "--station-metrics")))
         self.stations = cases.stations[:3]
         self.places = dict(zip((station.name for station in self.stations), (0, 0, 1)))
         self.hosts = cases.hosts
@@ -192,7 +192,7 @@ class Page(Part):
                 for way in ("to", "from"):
                     each = frozenset(labels | {("direction", way)})
                     wanted["waltigon_station_frames_total", each] = told[f"frames_{way}"]
-                    wanted["waltigon_station_octets_total", each] = told[f"octets_{way}"]
+                    wanted["waltigon_station_bytes_total", each] = told[f"octets_{way}"]
                 wanted["waltigon_station_signal_dbm", frozenset(labels)] = told["signal"]
         return wanted
 

@@ -21,7 +21,11 @@ def only_known(number):
 def network(number, ssid, stations=(), **other):
     """A network with these stations; `ssid` in octets."""
     return {"bssid": f"02:00:00:00:01:{number:02x}", "ssid": ssid.hex(), "wire": f"wire{number}", "wire_down": None,
-            "air": {"weight": 1, "seconds": 1.5, "waiting": 0, "unsent": {}},
+            "updates": 4,
+            "air": {"weight": 1, "seconds": 1.5, "waiting": 0, "waiting_octets": 0, "most_waiting_octets": 2097152,
+                    "sent_again": 6, "unacknowledged": 5, "unsent": {}},
+            "joins": 9, "leaves": {"said": 3, "silent": 2, "unassociated": 1, "kicked": 0, "moved": 1}, "moved_in": 2,
+            "moved_out": 1, "claims": 1, "max_stations": 100, "max_known": 256,
             "counts": {"events": 84, "clock": 46, "unread": 3, "lost": 2, "kept": 1}, "refusals": {},
             "stations": list(stations), **other}
 
@@ -29,8 +33,10 @@ def network(number, ssid, stations=(), **other):
 def document(*networks, **other):
     """A status document of these networks."""
     return {"version": "e4965d3", "since": 12.345, "phy": "phy0", "format": 1, "channel": 6, "faults": [],
-            "beacons": {"sent": 1234, "late_ms_mean": 0.412, "late_ms_worst": 7.9, "missed": 0}, "drops": {},
-            "left_out": {}, "networks": list(networks), **other}
+            "radio": {"down": None, "unsent": None, "elsewhere": None, "heard_elsewhere": 0},
+            "beacons": {"sent": 1234, "late_ms_mean": 0.412, "late_ms_worst": 7.9, "missed": 0, "late_seconds": 0.508,
+                        "late_up_to_ms": [[1, 1200], [10, 1234], [200, 1234]]},
+            "drops": {}, "left_out": {}, "networks": list(networks), **other}
 
 
 def busy(networks, seconds):

@@ -40,10 +40,11 @@ class JsonPage(unittest.TestCase):
 
     def test_members_of_the_status(self):
         """Those that the bridge writes, by the names in its source, and those that the page adds."""
-        source = text_of("tools", "bridge", "src", "control", "status.rs").partition("#[cfg(test)]")[0]
+        folder = ("tools", "bridge", "src", "control")
+        source = text_of(*folder, "status.rs").partition("#[cfg(test)]")[0] + text_of(*folder, "network_part.rs")
         written = set(re.findall(r'serialize_entry\("(\w+)"|^ +"(\w+)": ', source, re.M))
         written = {one or other for one, other in written}
-        self.assertGreater(len(written), 40)
+        self.assertGreater(len(written), 60)
         self.named(written)
         made = complete(document(network(1, b"guests", [station(1)])), 0, {station(1)["address"]: "x"})
         self.named(members(made))
@@ -61,9 +62,9 @@ class JsonPage(unittest.TestCase):
 
     def test_metrics(self):
         made = document(network(1, b"guests", [station(1)], refusals={"1": 1}, quota=256,
-                                air={"weight": 1, "seconds": 1, "waiting": 0, "unsent": {"late": 1}}),
+                                air={**network(1, b"")["air"], "unsent": {"late": 1}}),
                         drops={"x": 1}, left_out={"x": 1}, record={"octets": 1, "fault": None})
-        told = set(re.findall(r"^# TYPE (\w+)", metrics_of(complete(made, 0)), re.M))
+        told = set(re.findall(r"^# TYPE (\w+)", metrics_of(complete(made, 0), of_each_station=True), re.M))
         self.assertEqual(told, set(re.findall(r"`(waltigon_\w+)`", self.page)))
 
 

@@ -31,7 +31,7 @@ THREE = document(
     network(2, MARKUP, counts=None, wire=None),
     network(3, b"\xff\n\x00", wire_down=12.5),
     drops={'the air: "late"\nframes': 3}, left_out={"the air: sent again": 12},
-    faults=[{"seconds": 3.2, "text": "fault L2 line 3"}])
+    faults=[{"seconds": 3.2, "text": "fault L2 line 3"}], by="active-monitors")
 SAMPLE = re.compile(r"([a-z_]+)(?:\{(.*)\})? (\S+)")
 NEVER = 3600.0  # so many seconds lie between points of the history where a test adds none
 LABEL = re.compile(r'([a-z_]+)="((?:[^"\\\n]|\\["\\n])*)"(?:,|$)')
@@ -49,6 +49,11 @@ def parse(text):
             family[word.lower()] = rest
             continue
         name, inner, number = SAMPLE.fullmatch(line).groups()
+        if name not in families:  # a sample of a histogram
+            base, ending = name.rsplit("_", 1)
+            assert families[base]["type"] == "histogram" and ending in ("bucket", "sum", "count"), line
+            families[base]["samples"][ending, inner] = float(number)
+            continue
         labels, at = {}, 0
         while at < len(inner or ""):
             label = LABEL.match(inner, at)
@@ -103,18 +108,20 @@ class Metrics(unittest.TestCase):
     """The text format of Prometheus."""
 
     def setUp(self):
-        self.text = metrics_of(complete(THREE, 0))
+        self.text = metrics_of(complete(THREE, 0), of_each_station=True)
         self.families = parse(self.text)
 
     def test_each_family_has_a_help_a_type_and_a_right_name(self):
         for name, family in self.families.items():
             self.assertRegex(name, r"^waltigon_[a-z_]+$")
             self.assertTrue(family["help"].endswith("."), name)
-            self.assertEqual(family["type"], "counter" if name.endswith("_total") else "gauge", name)
+            kind = "histogram" if name == "waltigon_beacon_lateness_seconds" else "gauge"
+            self.assertEqual(family["type"], "counter" if name.endswith("_total") else kind, name)
             self.assertTrue(family["samples"], name)
 
     def test_the_numbers_of_all(self):
-        self.assertEqual(samples(self.families, "info", version="e4965d3"), [1])
+        info = {"version": "e4965d3", "phy": "phy0", "channel": "6", "by": "active-monitors"}
+        self.assertEqual(self.families["waltigon_info"]["samples"], {tuple(info.items()): 1})
         self.assertEqual(samples(self.families, "uptime_seconds"), [12.345])
         self.assertEqual(samples(self.families, "beacons_sent_total"), [1234])
         self.assertAlmostEqual(samples(self.families, "beacon_lateness_mean_seconds")[0], 0.000412)
@@ -131,6 +138,46 @@ class Metrics(unittest.TestCase):
         self.assertEqual(samples(self.families, "network_wire_up"), [1, 0], "one has no wire")
         self.assertEqual(samples(self.families, "network_events_total", ssid=MARKUP.decode()), [], "not known yet")
         self.assertEqual(samples(self.families, "network_stations", ssid=MARKUP.decode()), [0, 0])
+
+    def test_how_late_beacons_were(self):
+        """A histogram: its bounds in seconds, the last of them without end."""
+        self.assertEqual(self.families["waltigon_beacon_lateness_seconds"]["samples"], {
+            ("bucket", 'le="0.001"'): 1200, ("bucket", 'le="0.01"'): 1234, ("bucket", 'le="0.2"'): 1234,
+            ("bucket", 'le="+Inf"'): 1234, ("sum", None): 0.508, ("count", None): 1234})
+
+    def test_how_the_radio_does(self):
+        for radio, wanted in (({"down": None, "unsent": None, "elsewhere": None}, [1, 1, 1]),
+                              ({"down": 2.5, "unsent": None, "elsewhere": None}, [0, 1, 1]),
+                              ({"down": None, "unsent": 6.0, "elsewhere": 2412}, [1, 0, 0])):
+            families = parse(metrics_of(complete(document(radio=radio), 0)))
+            found = [samples(families, f"radio_{name}")[0] for name in ("up", "sends", "on_channel")]
+            self.assertEqual(found, wanted, radio)
+
+    def test_how_stations_came_and_went(self):
+        guests = {"bssid": "02:00:00:00:01:01", "ssid": "guests"}
+        self.assertEqual(samples(self.families, "network_joins_total", **guests), [9])
+        for reason, number in (("said", 3), ("silent", 2), ("unassociated", 1), ("kicked", 0), ("moved", 1)):
+            self.assertEqual(samples(self.families, "network_leaves_total", **guests, reason=reason), [number])
+        self.assertEqual(samples(self.families, "network_moves_total", **guests, direction="in"), [2])
+        self.assertEqual(samples(self.families, "network_moves_total", **guests, direction="out"), [1])
+        self.assertEqual(samples(self.families, "network_claims_total", **guests), [1])
+        self.assertEqual(samples(self.families, "network_wire_updates_total"), [4, 4], "one has no wire")
+
+    def test_limits_and_what_comes_near_them(self):
+        told = document(network(1, b"x", quota=500, max_stations=2007, max_known=10000, air={
+            "weight": 1, "seconds": 1.5, "waiting": 3, "waiting_octets": 4200, "most_waiting_octets": 2097152,
+            "sent_again": 8, "unacknowledged": 7, "unsent": {}}))
+        families = parse(metrics_of(complete(told, 0)))
+        for name, number in (("max_stations", 2007), ("max_known_stations", 10000), ("quota_units", 500),
+                             ("air_waiting_frames", 3), ("air_waiting_bytes", 4200), ("air_max_waiting_bytes", 2097152),
+                             ("repeated_units_total", 8), ("unacknowledged_units_total", 7)):
+            self.assertEqual(samples(families, f"network_{name}"), [number], name)
+
+    def test_single_stations_are_left_out_unless_asked_for(self):
+        text = metrics_of(complete(THREE, 0))
+        self.assertNotIn("station=", text)
+        self.assertNotIn("02:aa", text)
+        self.assertEqual([line for line in self.text.splitlines() if "waltigon_station_" not in line], text.splitlines())
 
     def test_stations_that_are_not_listed_are_counted(self):
         listed = [station(number, dozes=number < 300) for number in range(1000)]
@@ -149,7 +196,7 @@ class Metrics(unittest.TestCase):
 
     def test_the_numbers_of_stations(self):
         first, second = ({"bssid": "02:00:00:00:01:01", "station": f"02:aa:00:00:00:0{number}"} for number in (1, 2))
-        self.assertEqual(samples(self.families, "station_octets_total", **first, direction="to"), [10240])
+        self.assertEqual(samples(self.families, "station_bytes_total", **first, direction="to"), [10240])
         self.assertEqual(samples(self.families, "station_frames_total", **first, direction="from"), [1])
         self.assertEqual(samples(self.families, "station_rate_bytes_per_second", **first), [54e6 / 8, 5.5e6 / 8])
         self.assertEqual(samples(self.families, "station_signal_dbm", **first), [-30])

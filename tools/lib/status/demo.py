@@ -30,9 +30,15 @@ def network_of(place: int, seconds: float) -> dict[str, Any]:
     name, number, wire = NETWORKS[place]
     stations = [station_of(place, each, seconds) for each in range(number)]
     intervals = int(seconds / INTERVAL)
+    waiting, turns = int(seconds) % 3 * place, int(seconds * number / STAY_SECONDS)
+    leaves = {"said": turns // 2, "silent": turns - turns // 2, "unassociated": 0, "kicked": 0, "moved": 0}
     return {"bssid": f"02:00:00:00:01:{place + 1:02x}", "ssid": name.encode().hex(), "wire": wire, "wire_down": None,
-            "air": {"weight": 1, "seconds": seconds * (0.31, 0.22, 0.04)[place], "waiting": int(seconds) % 3 * place,
-                    "unsent": {}},
+            "updates": turns + number if wire else 0,
+            "air": {"weight": 1, "seconds": seconds * (0.31, 0.22, 0.04)[place], "waiting": waiting,
+                    "waiting_octets": 1200 * waiting, "most_waiting_octets": 2 << 20, "sent_again": int(seconds / 9),
+                    "unacknowledged": int(seconds / 90), "unsent": {}},
+            "quota": 256, "holder": None, "joins": turns + number, "leaves": leaves, "moved_in": 0, "moved_out": 0,
+            "claims": 0, "max_stations": 64, "max_known": 256,
             "counts": {"events": intervals + int(seconds * 340), "clock": intervals, "unread": int(seconds / 60),
                        "lost": 0, "kept": sum(station["kept"] for station in stations)},
             "refusals": {"1": 3} if place == 0 else {}, "stations": stations}
@@ -41,8 +47,10 @@ def network_of(place: int, seconds: float) -> dict[str, Any]:
 def demo_of(started: float, now: float | None = None) -> dict[str, Any]:
     """The document at a time, of an access point that seems to run since an hour before the start."""
     seconds = (time.monotonic() if now is None else now) - started + 3600.0
+    sent = int(seconds / INTERVAL) * len(NETWORKS)
+    late = [[1, sent - sent // 20], *([bound, sent] for bound in (2, 5, 10, 20, 50, 100, 200))]
     return {"version": "a demonstration without a radio", "format": 1, "since": seconds, "phy": "no radio", "channel": 6,
-            "faults": [], "beacons": {"sent": int(seconds / INTERVAL) * len(NETWORKS), "late_ms_mean": 0.4,
-                                                    "late_ms_worst": 7.9, "missed": 0},
+            "faults": [], "beacons": {"sent": sent, "late_ms_mean": 0.4, "late_ms_worst": 7.9, "missed": 0,
+                                      "late_seconds": 4e-4 * sent, "late_up_to_ms": late},
             "drops": {}, "left_out": {"the air: sent again, and taken before": int(seconds / 40)},
             "networks": [network_of(place, seconds) for place in range(len(NETWORKS))]}

@@ -6,6 +6,7 @@ pub mod clients;
 pub mod events;
 pub mod faults;
 pub mod log;
+mod network_part;
 pub mod notices;
 pub mod parent;
 pub mod status;

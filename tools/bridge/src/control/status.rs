@@ -6,17 +6,17 @@ use serde::ser::{Serialize, SerializeMap, Serializer};
 use serde_json::ser::Formatter;
 
 use crate::apctl::recording::Recording;
-use crate::apctl::tables::{Table, Tables};
+use crate::apctl::tables::Tables;
 use crate::control::by::By;
 use crate::control::log::Bounded;
-use crate::formats::frames::Address;
+use crate::control::network_part::NetworkPart;
 use crate::network::Network;
 use crate::os::clock::{Duration, Instant};
 use crate::outbound::air::account::Account;
-use crate::outbound::air::backlog::MOST_KEPT;
-use crate::run::intervals::BeaconDelays;
-use crate::stations::station::{State, Station};
+use crate::outbound::air::links::Unacknowledged;
+use crate::run::intervals::{BeaconDelays, LATE_UP_TO};
 use crate::stations::table::StationTable;
+use crate::stations::tally::Tally;
 
 /// Which version runs.
 pub const VERSION: &str = match option_env!("BRIDGE_VERSION") {
@@ -27,8 +27,6 @@ pub const VERSION: &str = match option_env!("BRIDGE_VERSION") {
 const FORMAT: u32 = 1;
 /// What follows the last network.
 pub const END: &str = "]}";
-/// How many stations of a network are listed at most.
-const MOST_STATIONS: usize = 1000;
 /// How many faults of the program are kept.
 const MOST_FAULTS: usize = 32;
 
@@ -105,8 +103,12 @@ pub struct Status<'a> {
     pub updates: &'a [u64],
     /// What the air was to each.
     pub accounts: &'a [Account],
+    /// What became of units of each that nobody acknowledged.
+    pub unacknowledged: &'a [Unacknowledged],
     /// Their stations.
     pub table: &'a StationTable,
+    /// How often stations of each came and went.
+    pub tallies: &'a [Tally],
     /// What the program said of them.
     pub tables: &'a Tables,
     /// The time.
@@ -129,7 +131,8 @@ impl Status<'_> {
         to.push_str(&line_of(&NetworkPart { status: self, place }));
     }
 
-    fn ago(&self, moment: Instant) -> Decimal {
+    /// How long ago a moment was.
+    pub(super) fn ago(&self, moment: Instant) -> Decimal {
         Decimal::seconds(self.now.since(moment))
     }
 }
@@ -196,8 +199,10 @@ macro_rules! object {
     }};
 }
 
+pub(super) use object;
+
 /// A list of what this gives.
-struct List<I>(I);
+pub(super) struct List<I>(pub(super) I);
 
 impl<I: Iterator + Clone> Serialize for List<I>
 where
@@ -271,124 +276,9 @@ impl Serialize for BeaconsPart<'_> {
             "sent": self.0.sent,
             "late_ms_mean": Decimal::milliseconds(self.0.mean()),
             "late_ms_worst": Decimal::milliseconds(self.0.worst),
+            "late_seconds": Decimal::seconds(self.0.total),
+            "late_up_to_ms": List(LATE_UP_TO.iter().zip(self.0.up_to)),
             "missed": self.0.missed,
-        )
-    }
-}
-
-/// The network of this place.
-#[derive(Clone, Copy)]
-struct NetworkPart<'a> {
-    status: &'a Status<'a>,
-    place: usize,
-}
-
-impl<'a> NetworkPart<'a> {
-    fn network(&self) -> &'a Network {
-        &self.status.networks[self.place]
-    }
-
-    /// What the program said of it last.
-    fn table(&self) -> Option<&'a Table> {
-        self.status.tables.last().and_then(|tables| tables.get(self.place))
-    }
-}
-
-impl Serialize for NetworkPart<'_> {
-    fn serialize<S: Serializer>(&self, to: S) -> Result<S::Ok, S::Error> {
-        let (network, table, place) = (self.network(), self.table(), self.place);
-        let down_since = self.status.wires_down.get(place).copied().flatten();
-        let refusals = self.status.table.refusals(place).iter();
-        let stations = self.status.table.stations_of(place);
-        let associated = || stations.iter().map(|(_, station)| station).filter(|station| station.is_associated());
-        object!(to,
-            "bssid": network.bssid.to_string(),
-            "ssid": table.map(|table| &table.ssid),
-            "wire": network.wire,
-            "wire_down": down_since.map(|since| self.status.ago(since)),
-            "updates": self.status.updates[place],
-            "air": AirPart(*self),
-            "quota": network.quota,
-            "holder": table.and_then(Table::holder).map(|(address, kept)| HolderPart { network: *self, address, kept }),
-            "counts": table.map(|table| table.counts.iter().cloned().collect::<Named>()),
-            "refusals": refusals.map(|(status, number)| (status.to_string(), *number)).collect::<Named>(),
-            "known": stations.len(),
-            "associated": associated().count(),
-            "dozing": associated().filter(|station| station.dozes).count(),
-            "stations": List(stations.iter().take(MOST_STATIONS).map(|(address, station)| StationPart {
-                network: *self,
-                address: *address,
-                station,
-            })),
-        )
-    }
-}
-
-/// The station for which most units of a network's quota are kept.
-struct HolderPart<'a> {
-    network: NetworkPart<'a>,
-    address: Address,
-    kept: u64,
-}
-
-impl Serialize for HolderPart<'_> {
-    fn serialize<S: Serializer>(&self, to: S) -> Result<S::Ok, S::Error> {
-        let station = self.network.status.table.station(&(self.network.place, self.address));
-        object!(to,
-            "address": self.address.to_string(),
-            "kept": self.kept,
-            "listen": station.map(|station| station.listen),
-        )
-    }
-}
-
-struct AirPart<'a>(NetworkPart<'a>);
-
-impl Serialize for AirPart<'_> {
-    fn serialize<S: Serializer>(&self, to: S) -> Result<S::Ok, S::Error> {
-        let Account { used, waiting, unsent, handed_back, .. } = &self.0.status.accounts[self.0.place];
-        object!(to,
-            "weight": self.0.network().weight,
-            "seconds": Decimal::seconds(*used),
-            "waiting": waiting,
-            "unsent": unsent.iter().map(|(why, number)| (why.to_string(), *number)).collect::<Named>(),
-            "most_kept": (self.0.network().quota as usize > MOST_KEPT).then_some(MOST_KEPT),
-            "handed_back": handed_back.units,
-            "handed_back_out_of_order": handed_back.out_of_order,
-        )
-    }
-}
-
-struct StationPart<'a> {
-    network: NetworkPart<'a>,
-    address: Address,
-    station: &'a Station,
-}
-
-impl Serialize for StationPart<'_> {
-    fn serialize<S: Serializer>(&self, to: S) -> Result<S::Ok, S::Error> {
-        let (station, status) = (self.station, self.network.status);
-        let (state, aid) = match station.state {
-            State::Authenticated => ("authenticated", None),
-            State::Associated(aid) => ("associated", Some(aid)),
-        };
-        let kept = self.network.table().and_then(|table| table.stations.get(&self.address)).map(|(_, kept)| kept);
-        object!(to,
-            "address": self.address.to_string(),
-            "state": state,
-            "aid": aid,
-            "listen": aid.map(|_| station.listen),
-            "dozes": station.dozes,
-            "since": status.ago(station.since),
-            "heard": status.ago(station.heard),
-            "signal": station.signal,
-            "rate_to": station.to.rate,
-            "rate_from": station.from.rate,
-            "octets_to": station.to.octets,
-            "octets_from": station.from.octets,
-            "frames_to": station.to.frames,
-            "frames_from": station.from.frames,
-            "kept": kept,
         )
     }
 }

@@ -1,5 +1,6 @@
 use super::*;
 use crate::apctl::tables::Asker;
+use crate::formats::frames::Address;
 use crate::os::clock::{MILLISECOND, SECOND};
 use crate::outbound::air::account::{HandedBack, Unsent};
 use crate::testing::samples::{at, network, OTHER, OURS, STATION};
@@ -59,6 +60,8 @@ pub struct Known {
     faults: Faults,
     beacons: BeaconDelays,
     accounts: Vec<Account>,
+    unacknowledged: Vec<Unacknowledged>,
+    tallies: Vec<Tally>,
     table: StationTable,
     tables: Tables,
 }
@@ -69,6 +72,8 @@ impl Known {
             faults: Faults::default(),
             beacons: BeaconDelays::default(),
             accounts: vec![Account::default(); networks.len()],
+            unacknowledged: vec![Unacknowledged::default(); networks.len()],
+            tallies: vec![Tally::default(); networks.len()],
             table: StationTable::new(networks.iter().map(|network| network.bssid).collect()),
             tables: Tables::new(networks.len()),
             networks,
@@ -96,7 +101,9 @@ impl Known {
             wires_down: Vec::new(),
             updates: &[0; 16],
             accounts: &self.accounts,
+            unacknowledged: &self.unacknowledged,
             table: &self.table,
+            tallies: &self.tallies,
             tables: &self.tables,
             now,
         }
@@ -137,6 +144,10 @@ fn all_stands_in_one_line() {
     accounts.fill(Account { used: 2500 * MILLISECOND, waiting: 7, ..Account::default() });
     accounts[0].unsent.insert(Unsent::Late, 5);
     accounts[0].handed_back = HandedBack { units: 9, out_of_order: 1 };
+    accounts[0].octets = 8400;
+    known.unacknowledged[0] = Unacknowledged { again: 6, lost: 4 };
+    known.tallies[0] =
+        Tally { joins: 12, moved_in: 2, said: 3, silent: 4, unassociated: 5, kicked: 1, moved_out: 7, claims: 8 };
     let status = Status {
         radio: OfRadio { down_since: None, unsent_since: Some(at(SECOND)), elsewhere: Some(2412), heard_elsewhere: 3 },
         record: Some(&record),
@@ -150,21 +161,28 @@ fn all_stands_in_one_line() {
         r#""radio":{"down":null,"unsent":2.000,"elsewhere":2412,"heard_elsewhere":3},"#,
         r#""faults":[{"seconds":2.000,"text":"fault L2 line 3"},{"seconds":1.000,"text":"fault L1 line 4"}],"#,
         r#""record":{"octets":0,"fault":null},"#,
-        r#""beacons":{"sent":2,"late_ms_mean":3.000,"late_ms_worst":4.000,"missed":0},"#,
+        r#""beacons":{"sent":2,"late_ms_mean":3.000,"late_ms_worst":4.000,"late_seconds":0.006,"#,
+        r#""late_up_to_ms":[[1,0],[2,1],[5,2],[10,2],[20,2],[50,2],[100,2],[200,2]],"missed":0},"#,
         r#""drops":{"the air: late":3},"left_out":{},"networks":["#,
         r#"{"bssid":"02:00:00:00:01:01","ssid":"6c","wire":"wire1","wire_down":2.500,"updates":2,"#,
-        r#""air":{"weight":1,"seconds":2.500,"waiting":7,"unsent":{"had waited too long":5},"#,
+        r#""air":{"weight":1,"seconds":2.500,"waiting":7,"waiting_octets":8400,"most_waiting_octets":2097152,"#,
+        r#""sent_again":6,"unacknowledged":4,"unsent":{"had waited too long":5},"#,
         r#""most_kept":1801,"handed_back":9,"handed_back_out_of_order":1},"#,
         r#""quota":2000,"holder":{"address":"02:aa:00:00:00:01","kept":2,"listen":5},"#,
-        r#""counts":{"clock":1,"events":4,"kept":2,"lost":0,"unread":0},"refusals":{},"#,
+        r#""counts":{"clock":1,"events":4,"kept":2,"lost":0,"unread":0},"joins":12,"#,
+        r#""leaves":{"said":3,"silent":4,"unassociated":5,"kicked":1,"moved":7},"moved_in":2,"moved_out":7,"claims":8,"#,
+        r#""refusals":{},"max_stations":100,"max_known":100,"#,
         r#""known":1,"associated":1,"dozing":0,"stations":[{"address":"02:aa:00:00:00:01","state":"associated","aid":3,"listen":5,"dozes":false,"#,
         r#""since":2.000,"heard":2.000,"signal":null,"rate_to":null,"rate_from":null,"#,
         r#""octets_to":0,"octets_from":0,"frames_to":0,"frames_from":0,"kept":2}]},"#,
         r#"{"bssid":"02:00:00:00:01:02","ssid":"6d","wire":null,"wire_down":null,"updates":0,"#,
-        r#""air":{"weight":1,"seconds":2.500,"waiting":7,"unsent":{},"#,
+        r#""air":{"weight":1,"seconds":2.500,"waiting":7,"waiting_octets":0,"most_waiting_octets":2097152,"#,
+        r#""sent_again":0,"unacknowledged":0,"unsent":{},"#,
         r#""most_kept":null,"handed_back":0,"handed_back_out_of_order":0},"#,
         r#""quota":100,"holder":null,"#,
-        r#""counts":{},"refusals":{"1":1},"known":0,"associated":0,"dozing":0,"stations":[]}]}"#,
+        r#""counts":{},"joins":0,"#,
+        r#""leaves":{"said":0,"silent":0,"unassociated":0,"kicked":0,"moved":0},"moved_in":0,"moved_out":0,"claims":0,"#,
+        r#""refusals":{"1":1},"max_stations":100,"max_known":100,"known":0,"associated":0,"dozing":0,"stations":[]}]}"#,
     ];
     let (line, wanted) = (line_of_whole(&status), wanted.concat());
     assert!(line.starts_with(&format!("{{\"version\":{}", line_of(&VERSION))), "{line}");

@@ -1,8 +1,11 @@
 //! When beacon intervals begin, and how late beacons were.
 
-use crate::os::clock::{nanos, Duration, Instant};
+use crate::os::clock::{nanos, Duration, Instant, MILLISECOND};
 
 const TIME_UNIT: Duration = Duration::from_micros(1024);
+
+/// Up to how many milliseconds late beacons are counted together.
+pub const LATE_UP_TO: [u32; 8] = [1, 2, 5, 10, 20, 50, 100, 200];
 
 /// How late beacons were given to the radio.
 #[derive(Debug, Clone, Default, PartialEq, Eq)]
@@ -13,7 +16,10 @@ pub struct BeaconDelays {
     pub worst: Duration,
     /// How many beacon intervals were never made.
     pub missed: u64,
-    total: Duration,
+    /// How late all of them were together.
+    pub total: Duration,
+    /// How many were at most as late as each of `LATE_UP_TO` says.
+    pub up_to: [u64; LATE_UP_TO.len()],
 }
 
 impl BeaconDelays {
@@ -22,6 +28,9 @@ impl BeaconDelays {
         self.sent += 1;
         self.worst = self.worst.max(late);
         self.total += late;
+        for (number, milliseconds) in self.up_to.iter_mut().zip(LATE_UP_TO) {
+            *number += u64::from(late <= MILLISECOND * milliseconds);
+        }
     }
 
     /// How late they were on the average.
@@ -115,5 +124,16 @@ mod tests {
         assert_eq!(late.mean(), Duration::ZERO);
         [3, 5, 1].into_iter().for_each(|nanos| late.count(Duration::from_nanos(nanos)));
         assert_eq!((late.sent, late.worst, late.mean()), (3, Duration::from_nanos(5), Duration::from_nanos(3)));
+        assert_eq!((late.total, late.up_to), (Duration::from_nanos(9), [3; 8]));
+    }
+
+    /// Each bound has those that were at most so late, and none has one that was later than all of them.
+    #[test]
+    fn lateness_is_counted_by_bounds() {
+        let mut late = BeaconDelays::default();
+        [MILLISECOND, MILLISECOND + NANOSECOND, 30 * MILLISECOND, 200 * MILLISECOND, 201 * MILLISECOND]
+            .into_iter()
+            .for_each(|moment| late.count(moment));
+        assert_eq!((late.sent, late.up_to), (5, [1, 2, 2, 2, 2, 3, 3, 4]));
     }
 }

@@ -59,6 +59,7 @@ impl<P: Port> Running<P> {
         now: Instant,
     ) -> Status<'a> {
         let (drops, left_out) = (self.drops(), self.left_out());
+        let (table, tallies) = self.stations.known();
         Status {
             phy: &manner.setting.phy,
             channel: manner.setting.channel,
@@ -74,7 +75,9 @@ impl<P: Port> Running<P> {
             wires_down: (0..self.networks.len()).map(|place| self.ended.get(&place)?.since).collect(),
             updates: &self.updates,
             accounts: self.outbound.air.accounts(),
-            table: self.stations.table(),
+            unacknowledged: self.outbound.air.unacknowledged_by_network(),
+            table,
+            tallies,
             tables: &self.tables,
             now,
         }

@@ -11,6 +11,7 @@ pub mod own_frames;
 mod roaming;
 pub mod station;
 pub mod table;
+pub mod tally;
 
 use crate::control::events::Happened;
 use crate::control::log::{self, Bounded, Level};
@@ -28,6 +29,7 @@ use crate::stations::own_frames::{
 use crate::stations::roaming::Roaming;
 use crate::stations::station::{KeptStation, Member, Move, State};
 use crate::stations::table::StationTable;
+use crate::stations::tally::Tally;
 
 /// How often a question is tried again where nobody acknowledges it, and how often what a station is told that is
 /// there.
@@ -57,6 +59,8 @@ pub struct Stations {
     log: Bounded,
     /// What happened since it was taken last, in which network, and how long after 1970.
     events: Vec<(usize, Duration, Happened)>,
+    /// Of each network.
+    tallies: Vec<Tally>,
     /// Of each network the sequence number of its last frame.
     numbers: Vec<u16>,
     /// The networks whose stations have still to be told that they have to join again.
@@ -75,6 +79,7 @@ impl Stations {
             roaming: Roaming::new(bssids.len()),
             log: Bounded::new(bssids.len()),
             events: Vec::new(),
+            tallies: vec![Tally::default(); bssids.len()],
             numbers: vec![0; bssids.len()],
             to_dismiss: Vec::new(),
             is_dismissed: vec![false; bssids.len()],
@@ -91,6 +96,11 @@ impl Stations {
     /// The stations.
     pub fn table(&mut self) -> &mut StationTable {
         &mut self.table
+    }
+
+    /// The stations, and of each network how often they came and went.
+    pub fn known(&self) -> (&StationTable, &[Tally]) {
+        (&self.table, &self.tallies)
     }
 
     /// A frame was heard that goes on to the program. Answers whether it changes the mode of its station.
@@ -300,18 +310,24 @@ impl Stations {
         }
         for (member, news) in self.table.take_news() {
             let (place, station) = member;
+            let happened = self.happened(member, news);
+            self.tallies[place].count(&happened);
             if self.log.takes(place) {
                 let (level, text) = sentence(station, self.bssids[place], news);
                 log::write_event(level, text);
-                self.events.push((place, wall_now(), self.happened(member, news)));
+                self.events.push((place, wall_now(), happened));
             }
         }
     }
 
     fn happened(&self, (place, station): Member, news: News) -> Happened {
-        match (news, self.other_network_of((place, station))) {
-            (News::Joins { aid, listen }, Some(from)) => Happened::Moved { station, from, aid, listen },
-            _ => Happened::Station { station, news },
+        let moved = match news {
+            News::Joins { aid, listen } => self.other_network_of((place, station)).map(|from| (from, aid, listen)),
+            _ => None,
+        };
+        match moved {
+            Some((from, aid, listen)) => Happened::Moved { station, from, aid, listen },
+            None => Happened::Station { station, news },
         }
     }
 

@@ -1,4 +1,5 @@
 use super::*;
+use crate::formats::ethernet::update;
 use crate::os::clock::{Instant, SECOND};
 use crate::stations::news::News;
 use crate::stations::own_frames::association_request;
@@ -146,6 +147,45 @@ fn who_joins_another_network_has_moved() {
     stations.answered(OTHER, &of_other(0x10, &[1, 0, 0, 0, 7, 0xc0]), Instant::START);
     let joins = News::Joins { aid: 7, listen: 0 };
     assert_eq!(happened(&mut stations), [(0, Happened::Station { station: STATION, news: joins })]);
+}
+
+/// Each network counts its own, however often, and also what the log and the events leave out.
+#[test]
+fn who_comes_and_goes_is_counted() {
+    let mut stations = joined();
+    let joins_again = |stations: &mut Stations| {
+        stations.answered(OURS, &of_network(0x10, STATION, 2, &[1, 0, 0, 0, 1, 0xc0]), at(SECOND));
+    };
+    stations.kick(OURS, STATION, at(SECOND)).unwrap();
+    stations.fed(&departure(OURS, STATION), at(SECOND));
+    (0..99).for_each(|_| joins_again(&mut stations));
+    let leaves = [&[0xa0, 0, 0, 0][..], OURS.octets(), STATION.octets(), OURS.octets(), &[0, 0, 8, 0]].concat();
+    stations.fed(&leaves, at(SECOND));
+    joins_again(&mut stations);
+    assert!(stations.take_events().len() < 60);
+    let of_other = |control, body: &[u8]| {
+        let mut frame = of_network(control, STATION, 1, body);
+        frame[10..16].copy_from_slice(OTHER.octets());
+        frame
+    };
+    stations.answered(OTHER, &of_other(0x10, &[1, 0, 0, 0, 7, 0xc0]), at(SECOND));
+    let claim = update(STATION);
+    assert_eq!(stations.wired(1, &claim, true, at(3 * SECOND)), Some(Errand::Say(departure(OURS, STATION))));
+    let (_, tallies) = stations.known();
+    let ours = Tally { joins: 101, said: 1, kicked: 1, moved_out: 1, ..Tally::default() };
+    assert_eq!(tallies, [Tally { joins: 1, moved_in: 1, ..Tally::default() }, ours]);
+}
+
+/// Who is silent, and who makes room in a network that is nearly full.
+#[test]
+fn who_is_forgotten_is_counted_by_why() {
+    let mut stations = joined();
+    stations.answered(OURS, &of_network(0xb0, STRANGER, 3, &[0, 0, 2, 0, 0, 0]), Instant::START);
+    (4..10).for_each(|number| {
+        behind_beacon(&mut stations, number, at(u32::from(number) * SECOND));
+    });
+    let (_, tallies) = stations.known();
+    assert_eq!(tallies[1], Tally { joins: 1, silent: 1, unassociated: 1, ..Tally::default() });
 }
 
 /// As many events as lines of the log: what is left out there is one event with their number.

@@ -66,6 +66,22 @@ fn a_unit_that_is_lost_twice_is_given_up_and_the_next_goes() {
     assert_eq!(driver.air.unacknowledged(), Unacknowledged { again: 1, lost: 1 });
 }
 
+/// Each network has its own count, which the radio's other networks don't change.
+#[test]
+fn units_that_nobody_acknowledges_count_for_their_network() {
+    let mut driver = driver([1, 1]);
+    driver.at_54();
+    driver.join(1, STATION);
+    for (number, place, bssid, acknowledges) in [(9, 0, OURS, true), (10, 1, OTHER, false), (11, 1, OTHER, false)] {
+        driver.send(place, unit(bssid, STATION, number));
+        let sent = driver.flush();
+        driver.reported(place, &sent[0], 1, acknowledges);
+        driver.flush().iter().for_each(|again| driver.reported(place, again, 1, acknowledges));
+    }
+    let wanted = [Unacknowledged::default(), Unacknowledged { again: 2, lost: 2 }];
+    assert_eq!((driver.air.unacknowledged_by_network(), driver.air.unacknowledged()), (&wanted[..], wanted[1]));
+}
+
 #[test]
 fn while_a_sample_is_on_the_air_frames_wait_in_order_and_not_for_ever() {
     let mut driver = driver([1, 1]);

@@ -30,7 +30,7 @@ const MOST_STATIONS: usize = 2007;
 const FLAGS_AT: usize = 1;
 const RETRY: u8 = 0x08;
 
-/// What is done with units that nobody acknowledged.
+/// What is done with units of a network that nobody acknowledged.
 #[derive(Debug, Clone, Copy, Default, PartialEq, Eq)]
 pub struct Unacknowledged {
     /// Units that were sent once more.
@@ -109,7 +109,8 @@ pub(super) struct Links {
     waits: VecDeque<(Instant, Place, Address)>,
     turns: u64,
     reporting: Reporting,
-    unacknowledged: Unacknowledged,
+    /// Of each network.
+    unacknowledged: Vec<Unacknowledged>,
 }
 
 impl Links {
@@ -126,7 +127,7 @@ impl Links {
             waits: VecDeque::new(),
             turns: 0,
             reporting: Reporting::Unknown { vain: 0 },
-            unacknowledged: Unacknowledged::default(),
+            unacknowledged: vec![Unacknowledged::default(); networks.len()],
         }
     }
 
@@ -290,7 +291,7 @@ impl Links {
             Some(last) if is_lost && listens && !last.was_again => {
                 last.was_again = true;
                 last.frame = Rc::new(again(&last.frame));
-                self.unacknowledged.again += 1;
+                self.unacknowledged[place].again += 1;
                 Next::Again(Rc::clone(&last.frame))
             }
             _ if is_lost => Next::GivenUp,
@@ -303,9 +304,9 @@ impl Links {
         next
     }
 
-    /// A unit that nobody acknowledged is sent no more.
-    pub fn count_lost(&mut self) {
-        self.unacknowledged.lost += 1;
+    /// A unit of a network that nobody acknowledged is sent no more.
+    pub fn count_lost(&mut self, place: Place) {
+        self.unacknowledged[place].lost += 1;
     }
 
     /// The first of the waits is one that hasn't ended, or there is none: nobody is woken for one that has.
@@ -348,9 +349,18 @@ impl Links {
         self.reporting != Reporting::Silent
     }
 
-    /// What became so far of units that nobody acknowledged.
+    /// What became so far of units that nobody acknowledged, of each network.
+    pub fn unacknowledged_by_network(&self) -> &[Unacknowledged] {
+        &self.unacknowledged
+    }
+
+    /// The same of all networks.
     pub fn unacknowledged(&self) -> Unacknowledged {
-        self.unacknowledged
+        let sum = |all: Unacknowledged, one: &Unacknowledged| Unacknowledged {
+            again: all.again + one.again,
+            lost: all.lost + one.lost,
+        };
+        self.unacknowledged.iter().fold(Unacknowledged::default(), sum)
     }
 }
 

@@ -103,6 +103,7 @@ pub mod scheduler;
 mod sleeping;
 mod station_requests;
 
+pub use crate::outbound::air::queue::MOST_OCTETS;
 pub use crate::outbound::air::sleeping::Mark;
 
 use std::collections::VecDeque;
@@ -251,6 +252,11 @@ impl Transmitter {
     /// What became so far of units that nobody acknowledged.
     pub fn unacknowledged(&self) -> Unacknowledged {
         self.links.unacknowledged()
+    }
+
+    /// The same, of each network.
+    pub fn unacknowledged_by_network(&self) -> &[Unacknowledged] {
+        self.links.unacknowledged_by_network()
     }
 
     /// A frame was heard that is for this network alone.

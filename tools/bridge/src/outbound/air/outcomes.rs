@@ -91,7 +91,7 @@ impl Transmitter {
             Next::GivenUp if !is_awaited => {
                 let goes_back = sent.map_or(false, |sent| self.hand_back_late(place, address, &sent.octets, now));
                 if !goes_back {
-                    self.links.count_lost();
+                    self.links.count_lost(place);
                 }
             }
             Next::GivenUp | Next::Goes | Next::Nothing => {}
