@@ -15,7 +15,7 @@ _waltigon() {
         offered='probe auth join rejoin disassoc deauth data null poll wired' takes_files=''
         ;;
     waltigon-live)
-        options='--phy --wire --wires --share --monitor --by --country --idle --no-update --program --bridge --record --record-limit --tables --status --names --as-root --json --watch --since'
+        options='--phy --wire --wires --share --monitor --by --country --idle --no-update --program --bridge --record --record-limit --tables --status --status-host --status-from --station-metrics --names --as-root --json --watch --since'
         offered='kick reload status events check-networks check-radio'
         if [ "$COMP_CWORD" != 1 ]; then
             case ${COMP_WORDS[1]} in
@@ -30,7 +30,7 @@ _waltigon() {
     waltigon-live-demo) options='--program --stay' takes_files='' ;;
     waltigon-picture) options='--out --from --to --station --network --overview --stations' ;;
     waltigon-report-to-json) options='--without-frames' ;;
-    waltigon-status) options='--demo --names' ;;
+    waltigon-status) options='--demo --names --host --from --station-metrics' ;;
     waltigon-trace-from-capture)
         options='--wire --config --networks-of --network --channel --beacons-of --every --heard-only --fcs'
         ;;
@@ -44,7 +44,7 @@ _waltigon() {
     --ssid | --rates | --listen | --current | --algorithm | --number | --reason | --payload | --aid | --aid-octets | \
         --body | --duration | --sequence) ;;
     --network | --beacons-of | --station | --stations | --from | --to | --channel | --every | --said | --wire | --share | \
-        --monitor | --country | --idle | --tables | --status | --since) ;;
+        --monitor | --country | --idle | --tables | --status | --status-host | --status-from | --host | --since) ;;
     *)
         if [[ $word == -* ]]; then
             mapfile -t COMPREPLY < <(compgen -W "$options --help --version" -- "$word")

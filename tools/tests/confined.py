@@ -28,6 +28,7 @@ from live.faults import Fault  # noqa: E402
 from live.setting_up import SettingUp, WirePart  # noqa: E402
 from live.settings import read_settings  # noqa: E402
 from stations import run, wait_for  # noqa: E402
+from status.endpoint import Endpoint  # noqa: E402
 
 OURS = address_of("02:00:00:00:01:01")
 USERS = "waltigon:x:930:930::/:/usr/sbin/nologin\nwaltigon-status:x:931:931::/:/usr/sbin/nologin\n"
@@ -247,7 +248,7 @@ def main():
     set_up(folder)
     config, found = os.path.join(folder, "radio.toml"), {}
     wires = ((OURS, "wire1"),)
-    wanted = Wanted(config, program, bridge, "phy0", "mon0", wires, os.path.join(folder, "record"), None, status=9617)
+    wanted = Wanted(config, program, bridge, "phy0", "mon0", wires, os.path.join(folder, "record"), None, status=Endpoint(9617))
     plan = Plan(read_settings(config), wires)
     log = os.open(os.path.join(folder, "log"), os.O_WRONLY | os.O_CREAT | os.O_APPEND, 0o644)
     os.dup2(log, 2)

@@ -183,21 +183,18 @@ class WhatIsInstalled(SmallRepository):
                     shown += 1
         self.assertGreater(shown, 3)
 
-    def test_networks_are_examples(self):
-        """Each file of share/networks is installed as it stands, where docs/NETWORKS.md copies it from. So are those of
-        share/ansible, with their folders."""
+    def test_examples_are_installed(self):
+        """Each file of share/networks, share/prometheus and share/ansible is installed as it stands, with its folders,
+        where docs/NETWORKS.md, docs/OPERATING.md and docs/SITES.md copy it from."""
         self.install()
-        role = os.path.join(ROOT, "share", "ansible")
-        paths = [path for path in glob.glob(os.path.join(role, "**"), recursive=True) if os.path.isfile(path)]
-        self.assertGreater(len(paths), 6)
-        for path in paths:
-            with open(path, encoding="utf-8") as file:
-                name = f"share/doc/waltigon/examples/ansible/{os.path.relpath(path, role)}"
-                self.assertEqual(self.read(name), file.read())
-        for path in glob.glob(os.path.join(ROOT, "share", "networks", "*")):
-            with open(path, encoding="utf-8") as file:
-                self.assertEqual(self.read(f"share/doc/waltigon/examples/networks/{os.path.basename(path)}"),
-                                 file.read())
+        for name, least in (("networks", 4), ("prometheus", 4), ("ansible", 7)):
+            folder = os.path.join(ROOT, "share", name)
+            paths = [path for path in glob.glob(os.path.join(folder, "**"), recursive=True) if os.path.isfile(path)]
+            self.assertGreaterEqual(len(paths), least)
+            for path in paths:
+                with open(path, encoding="utf-8") as file:
+                    installed = f"share/doc/waltigon/examples/{name}/{os.path.relpath(path, folder)}"
+                    self.assertEqual(self.read(installed), file.read())
 
     def test_package_is_refused_at_once(self):
         """Where no program is built, or nothing tells of what, packing says so before it builds anything."""
@@ -230,8 +227,11 @@ class WhatIsInstalled(SmallRepository):
         self.install()
         unit = self.read("lib/systemd/system/waltigon@.service")
         self.assertIn(f'\nExecStart="{self.path("usr")}/sbin/waltigon-live" /etc/waltigon/%i.toml', unit)
+        before = re.search(r'\nExecStartPre=-\+"(.*)" %n \$WORDS\n', unit)[1]
+        self.assertEqual(before, self.path("usr/lib/waltigon/tools/open-status"))
+        self.assertTrue(os.access(before, os.X_OK))
         with open(os.path.join(TOOLS, "systemd", "waltigon@.service"), encoding="utf-8") as file:
-            self.assertEqual(unit.replace(f"{self.path('usr')}/sbin", "/usr/local/sbin"), file.read())
+            self.assertEqual(unit.replace(f"{self.path('usr')}/", "/usr/local/"), file.read())
 
 
 class WithoutPackages(ToolTest):

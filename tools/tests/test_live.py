@@ -39,6 +39,7 @@ from live.settings import Network, Settings, read_settings
 from live.ways import Way
 from machines import OTHER, OURS, OnMachine
 from status import asking as asking_of_status
+from status.endpoint import Endpoint
 from statuses import document, network, only_known, station
 
 TOOLS = os.path.dirname(os.path.dirname(os.path.realpath(__file__)))
@@ -689,7 +690,9 @@ class FilesAndPrograms(WithFiles):
         for words in ([], [self.config], [*phy, "--wire", "x=y"], [*phy, "--tables", "0"], [*phy, "--idle", "-1"],
                       [*phy, "--country", "Germany"], [*phy, "--status", "70000"], ["kick"], ["kick", "x", "y"],
                       ["status", "more"], ["status", "--json", "--watch"], ["reload", "more"], [*phy, "--by", "cable"],
-                      ["check-radio"], ["check-radio", "phy0", "phy1"]):
+                      ["check-radio"], ["check-radio", "phy0", "phy1"], [*phy, "--status", "0.0.0.0:9617"],
+                      [*phy, "--status", "9617", "--status-host", "a b"], [*phy, "--status-host", "ap1.example"],
+                      [*phy, "--station-metrics"], [*phy, "--status", "9617", "--status-from", "192.0.2.1/24"]):
             self.assertEqual(subprocess.run([tool, *words], capture_output=True, check=False).returncode, 2, words)
         done = subprocess.run([tool, self.config, "--phy", "phy0", "--program", os.path.join(self.folder, "apctl")],
                               capture_output=True, text=True, check=False)
@@ -1117,13 +1120,14 @@ class Running(WithFiles):
         self.told = self.stack.enter_context(contextlib.redirect_stderr(io.StringIO()))
 
     def run_bridge(self, later=lambda: None, tables=None, does=SENDS, status=0, after="true", port=None,
-                   ways=(Way.ACTIVE_MONITORS,)):
+                   hosts=(), sources=(), ways=(Way.ACTIVE_MONITORS,)):
         """Runs it; `later` is called by another thread after a while. Of the machine nothing is changed: what is set up
         is only kept."""
         path = self.write("bridge", BRIDGE.format(folder=self.folder, does=does, status=status, after=after), 0o755)
         wires = ((OURS, "wire1"),)
         wanted = Wanted(self.config, "apctl", path, "phy0", "mon0", wires, self.path("a.trace"), tables,
-                        status=port)
+                        status=Endpoint(port, names=hosts, sources=sources) if port else None,
+                        station_metrics=bool(hosts))
         self.followed, self.outcomes = [], []
         setting_up = mock.Mock(follow=lambda plan, missing: self.followed.append(plan), radio_interfaces=lambda: [])
         with ExitStack() as stack:
@@ -1378,6 +1382,12 @@ class Running(WithFiles):
         with mock.patch.object(page_of, "PROGRAM", page):
             self.run_bridge(lambda: self.end_once(lambda: os.path.exists(self.path("page-words"))), port=9617)
         self.assertEqual(self.read("page-words"), f"9617 {self.folder}/phy0.sock\n")
+        os.unlink(self.path("page-words"))
+        with mock.patch.object(page_of, "PROGRAM", page):
+            self.run_bridge(lambda: self.end_once(lambda: os.path.exists(self.path("page-words"))), port=9617,
+                            hosts=("ap1.example", "ap2"), sources=("192.0.2.0/24",))
+        self.assertEqual(self.read("page-words"), f"9617 {self.folder}/phy0.sock --host ap1.example --host ap2 "
+                                                  "--from 192.0.2.0/24 --station-metrics\n")
         self.assertIn(" --alive ", self.read("words"))
         self.assertNotIn(" --sends ", self.read("words"))
         self.assertIn("--name live --phy ", self.read("words"))

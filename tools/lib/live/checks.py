@@ -19,6 +19,7 @@ from live.phys import Phy
 from live.settings import MOST_EVENTS, Settings, read_settings
 from live.telling import tell
 from live.ways import Way, this_kernel, ways_again, ways_of
+from status.endpoint import Endpoint
 from status.names import Names
 
 Wires = tuple[tuple[bytes, str], ...]
@@ -41,7 +42,8 @@ class Wanted:
     of which nothing was heard for `idle` seconds are asked, with 0 nobody is. With `as_root` the bridge and the program
     run as root, and the program without bounds. `way` forces the kind of interfaces that the networks have. The page has
     names of stations of the file `names`. A record has at most `record_limit` octets, where it has a limit. With
-    `tells_wires` a network's wire learns which stations join."""
+    `tells_wires` a network's wire learns which stations join. With `station_metrics` the page's metrics have those of each
+    station."""
 
     config: str
     program: str
@@ -54,13 +56,14 @@ class Wanted:
     idle: int = 300
     country: str | None = None
     wires_file: str | None = None
-    status: int | None = None
+    status: Endpoint | None = None
     shares: Shares = ()
     as_root: bool = False
     way: Way | None = None
     names: str | None = None
     record_limit: int | None = None
     tells_wires: bool = True
+    station_metrics: bool = False
 
     def network_interface(self, place: int) -> str:
         """The interface that stands for the network of this place, so that the radio acknowledges what comes to it."""

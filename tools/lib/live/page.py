@@ -2,7 +2,6 @@
 import os
 import pwd
 import signal
-import socket
 import subprocess
 import time
 from contextlib import ExitStack
@@ -15,7 +14,6 @@ from live.telling import WARNING, tell
 
 TOOLS = os.path.dirname(os.path.dirname(os.path.dirname(os.path.realpath(__file__))))
 PROGRAM = os.path.join(TOOLS, "status")
-LOCAL = "127.0.0.1"
 SECONDS_TO_END = 5.0
 AGAIN_SECONDS = 5.0  # how long after it didn't begin, or ended by itself, it is begun anew
 
@@ -24,7 +22,8 @@ class Page:
     """The page's process; `stack` ends it. While another program has its port it isn't there."""
 
     def __init__(self, wanted: Wanted, user: pwd.struct_passwd | None, stack: ExitStack) -> None:
-        self.port, self.phy, self.names = wanted.status, wanted.phy, wanted.names
+        self.endpoint, self.phy = wanted.status, wanted.phy
+        self.more = more_words(wanted)
         self.user = user
         self.process: subprocess.Popen[bytes] | None = None
         self.due = 0.0  # when it is begun next, if it isn't there
@@ -33,15 +32,14 @@ class Page:
 
     def begin(self) -> None:
         """Begins it, if one is wanted and its port is free. A fault where its program can't be run."""
-        if self.port is None:
+        if self.endpoint is None:
             return
         self.due = time.monotonic() + AGAIN_SECONDS
-        reason = port_fault(self.port)
+        reason = self.endpoint.fault()
         if reason is not None:
-            self.warn(f"{reason}: there is no page until this port is free; all else goes on")
+            self.warn(f"{reason}; all else goes on")
             return
-        names = [] if self.names is None else ["--names", self.names]
-        words = [PROGRAM, str(self.port), asking.socket_path(self.phy), *names]
+        words = [PROGRAM, self.endpoint.word, asking.socket_path(self.phy), *self.more]
         try:
             self.process = subprocess.Popen(words, stdin=subprocess.DEVNULL, stdout=subprocess.DEVNULL,
                                             start_new_session=True)
@@ -50,7 +48,7 @@ class Page:
 
     def look(self) -> None:
         """Tells of one that has ended by itself, and begins it anew some seconds later."""
-        if self.port is None:
+        if self.endpoint is None:
             return
         if self.process is not None and self.process.poll() is not None:
             self.warn(f"the page ended with status {self.process.returncode}, and is begun again")
@@ -64,9 +62,9 @@ class Page:
 
     def warn(self, text: str) -> None:
         """Tells why it isn't there, once for the same reason."""
-        if text != self.told:
+        if self.endpoint is not None and text != self.told:
             self.told = text
-            tell(f"--status {self.port}: {text}", WARNING)
+            tell(f"--status {self.endpoint.word}: {text}", WARNING)
 
     def end(self) -> None:
         """Ends it, also one that a stranger has taken over and that ignores it."""
@@ -80,12 +78,12 @@ class Page:
             self.process = None
 
 
-def port_fault(port: int) -> str | None:
-    """Why nothing can be served at a port of this machine now, if that is so."""
-    with socket.socket() as trying:
-        try:
-            trying.setsockopt(socket.SOL_SOCKET, socket.SO_REUSEADDR, 1)
-            trying.bind((LOCAL, port))
-        except OSError as fault:
-            return fault.strerror
-    return None
+def more_words(wanted: Wanted) -> list[str]:
+    """The words of the page's process behind those that say where it is, and of what."""
+    words = [] if wanted.names is None else ["--names", wanted.names]
+    if wanted.status is not None:
+        for name in wanted.status.names:
+            words += ["--host", name]
+        for source in wanted.status.sources:
+            words += ["--from", source]
+    return words + ["--station-metrics"] * wanted.station_metrics

@@ -1,8 +1,8 @@
 """The server: a page, the status document as JSON and in the text format of Prometheus, and the last ten minutes.
 
-It listens on 127.0.0.1 alone, reads only, and answers requests that name this machine as their host alone: a page of
-elsewhere, whose name leads to 127.0.0.1, is told nothing. Requests are bounded in number, length and time. What it
-serves each user of this machine can read.
+It listens at one address, 127.0.0.1 unless another one is asked for, and reads only. It answers requests alone that name
+that address, or a name that was given, as their host: a page of elsewhere, whose name leads here, is told nothing.
+Requests are bounded in number, length and time. What it serves everybody can read who reaches that address.
 """
 import hashlib
 import io
@@ -19,13 +19,12 @@ from http.server import BaseHTTPRequestHandler
 from urllib.parse import parse_qs
 
 from status.document import Untold, complete
+from status.endpoint import Endpoint
 from status.history import EACH_SECONDS, History
 from status.metrics import CONTENT_TYPE, metrics_of
 from status.names import Names
 from status.page import page_text
 
-ADDRESS = "127.0.0.1"
-HOST = re.compile(r"(?:localhost|127\.0\.0\.1)(?::[0-9]{1,5})?", re.IGNORECASE)
 MOST_CONNECTIONS = 16
 MOST_HEAD = 8192
 SECONDS = 5.0  # to read a request, to wait for the status, and to write an answer
@@ -109,8 +108,9 @@ class Handler(BaseHTTPRequestHandler):
     def answer(self) -> None:
         """Answers a request that was read."""
         hosts: list[str] = self.headers.get_all("Host", [])
-        if len(hosts) != 1 or not HOST.fullmatch(hosts[0].strip()):
-            self.send_error(HTTPStatus.MISDIRECTED_REQUEST, "ask for 127.0.0.1 or localhost")
+        endpoint = self.server.endpoint
+        if len(hosts) != 1 or not endpoint.answers(hosts[0].strip()):
+            self.send_error(HTTPStatus.MISDIRECTED_REQUEST, f"ask for {' or '.join(endpoint.hosts)}")
         elif self.command not in ALLOWED:
             self.send_error(HTTPStatus.METHOD_NOT_ALLOWED)
         elif self.path.partition("?")[0] == "/":
@@ -135,7 +135,7 @@ class Handler(BaseHTTPRequestHandler):
     def answer_with_status(self) -> None:
         """Answers with the status document in one of its forms, or says why there is none."""
         forms = {"/status.json": (JSON, lambda document: json.dumps(document, allow_nan=False)),
-                 "/metrics": (CONTENT_TYPE, metrics_of)}
+                 "/metrics": (CONTENT_TYPE, lambda document: metrics_of(document, self.server.of_each_station))}
         kind, form = forms.get(self.path.partition("?")[0], (PLAIN, None))
         if form is None:
             self.send_error(HTTPStatus.NOT_FOUND)
@@ -182,15 +182,17 @@ class Server(socketserver.ThreadingTCPServer):
     block_on_close = False
     request_queue_size = MOST_CONNECTIONS
 
-    def __init__(self, port: int, ask: Callable[[], dict], names: Names | None = None,
-                 each: float = EACH_SECONDS) -> None:
+    def __init__(self, endpoint: Endpoint, ask: Callable[[], dict], names: Names | None = None,
+                 each: float = EACH_SECONDS, of_each_station: bool = False) -> None:
+        self.endpoint, self.address_family = endpoint, endpoint.family
+        self.of_each_station = of_each_station
         self.status = Status(ask, names)
         self.history, self.each = History(), each
         self.page = page_text()
         self.policy = policy_of(self.page)
         self.closing = threading.Event()
         self.room = threading.BoundedSemaphore(MOST_CONNECTIONS)
-        super().__init__((ADDRESS, port), Handler)
+        super().__init__((endpoint.address, endpoint.port), Handler)
         self.serving = threading.Thread(target=self.serve_forever, kwargs={"poll_interval": 0.1}, daemon=True)
         self.watching = threading.Thread(target=self.watch, daemon=True)
 
@@ -213,6 +215,10 @@ class Server(socketserver.ThreadingTCPServer):
             except (KeyError, TypeError, AttributeError, ValueError):  # it isn't the status of an access point
                 self.history = History()
             wait = max(self.each, (time.monotonic() - began) / MOST_PART)
+
+    def verify_request(self, request: Request, client_address: tuple) -> bool:
+        """Whether a connection may come from there; else it is closed at once."""
+        return self.endpoint.serves(client_address[0])
 
     def process_request(self, request: Request, client_address: object) -> None:
         """Begins the thread of a connection, where there is room for it."""
@@ -238,7 +244,7 @@ class Server(socketserver.ThreadingTCPServer):
     @property
     def url(self) -> str:
         """Where the page is."""
-        return f"http://{ADDRESS}:{self.server_address[1]}/"
+        return f"http://{self.endpoint.host}:{self.server_address[1]}/"
 
     def close(self) -> None:
         """Ends it; the port is free then."""
@@ -256,6 +262,6 @@ def serve(port: int, ask: Callable[[], dict], names: Names | None = None, each: 
     `ask` gives the status document; it is called in one of these threads, by one at a time, and at most twice a second.
     What it raises is told to whoever asked. An OSError where the port is taken.
     """
-    server = Server(port, ask, names, each)
+    server = Server(Endpoint(port), ask, names, each)
     server.start()
     return server
