@@ -116,10 +116,9 @@ bridge: ## builds the bridge of tools/live, by Debian's cargo
 # try, then, in a guest, unmodified Linux stations that join the networks of the built program, the same as a service of
 # systemd, beside NetworkManager and iwd, and from the package of `make deb`, then on an air that loses frames, where
 # networks share the air of one radio, and where stations doze, and at last at a site of two access points, these four
-# with hostapd beside it.
-# SUITE=trixie takes a guest of Debian 13, SUITE='bookworm trixie' one after the other (tools/dev/test-live). Takes root
-# and Debian's packages debootstrap, e2fsprogs, qemu-system-x86 and python3, and those of `make deb`. Each run in a
-# guest ends with 'N passed, M failed'.
+# with hostapd beside it. Then a real Prometheus scrapes the status page. SUITE=trixie takes a guest of Debian 13,
+# SUITE='bookworm trixie' one after the other (tools/dev/test-live). Takes root and Debian's packages debootstrap,
+# e2fsprogs, qemu-system-x86, python3 and prometheus, and those of `make deb`. Each run ends with 'N passed, M failed'.
 test-live: apctl ## tests the bridge with real stations in a guest; takes root
 	@tools/bridge/build test
 	@tools/guest/air/build test
@@ -135,6 +134,7 @@ test-live: apctl ## tests the bridge with real stations in a guest; takes root
 	@tools/dev/test-live shares
 	@tools/dev/test-live doze
 	@tools/dev/test-live site
+	@tools/dev/test-prometheus
 
 # Draws the example of three networks, the picture of README.md, and those of docs/EXAMPLES.md.
 picture: ## draws the pictures of README.md and docs/
