@@ -1,6 +1,6 @@
 //! What stands under a network's lock (*profile*).
 
-ghost use Rattle.std.specs.Prelude.{◌≡◌, ◌≤◌, length};
+ghost use Rattle.std.specs.Prelude.{◌≡◌, ◌≤◌, ◌+◌, length};
 ghost use Rattle.std.specs.Fn.{FnOnceTakesAt, FnOnceReturnsAt};
 ghost use Rattle.air_queue.specs.Passes.{NetPassView};
 ghost use Rattle.network.specs.BssView.{BssView};
@@ -88,7 +88,8 @@ impl<N: ApName> Seat<N> {
     /// Answers how many it pushed.
     pub(crate) fn hand_all<R: Wait>(&mut self, rt: &R, queue: &AirQueue, waiting: &Waiting) -> u32
         requires { queue.now.name ≡ N.queue }
-        ensures { self.new.network.history ≡ self.old.network.history }
+        ensures history { self.new.network.history ≡ self.old.network.history }
+        ensures count { result + length self.new.network.waiting ≡ length self.old.network.waiting }
     {
         for count in 0..u32::MAX {
             match self.hand(rt, queue) {
