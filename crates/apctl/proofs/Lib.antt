@@ -1,3 +1,4 @@
 pub mod FileLemmas
 pub mod InputLemmas
 pub mod PlayedLemmas
+pub mod RunLemmas

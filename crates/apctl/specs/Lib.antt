@@ -3,3 +3,4 @@ pub mod Faults
 pub mod Files
 pub mod Input
 pub mod PlayedFiles
+pub mod RunFiles

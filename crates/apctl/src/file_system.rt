@@ -7,7 +7,7 @@ use crate::input::read_to_end;
 use mac_frame::Octets;
 use std::alloc::Global;
 use std::fs::File;
-use std::io::{Error, ErrorKind};
+use std::io::{Error, ErrorKind, Read};
 
 /// Why nothing was read of a file.
 #[derive(Clone, Copy, Debug)]
@@ -30,7 +30,7 @@ impl Unread {
 }
 
 /// A file that was opened. Contracts see in it what reading it may give.
-pub trait OpenedFile: Send + Drop {
+pub trait OpenedFile: Read + Send + Drop {
     // Reading it may give this: octets, or none where it can't be read.
     ghost gives: { Self → Option (List ℕ) → Type 0 };
 
@@ -38,7 +38,7 @@ pub trait OpenedFile: Send + Drop {
     fn is_regular(&self) -> bool;
 
     /// All that it holds. `Failed` where it can't be read, and `NoMemory` where memory ran out.
-    fn read(self, alloc: Global) -> Result<Octets, Unread>
+    fn read_whole(self, alloc: Global) -> Result<Octets, Unread>
         ensures { MatchResult result (λ octets. gives self (Some octets)) (IsUnlessMemory (gives self None)) };
 }
 
@@ -95,7 +95,7 @@ impl OpenedFile for File {
         }
     }
 
-    fn read(mut self, alloc: Global) -> Result<Octets, Unread> {
+    fn read_whole(mut self, alloc: Global) -> Result<Octets, Unread> {
         let octets = read_to_end(alloc, &mut self)?;
         Ok(Octets::from_vec(octets))
     }

@@ -155,7 +155,7 @@ impl<'a, O: OpenedFile> Opened<'a, O> {
 fn read_named<O: OpenedFile>(alloc: Global, file: O, name: &str) -> Result<Octets, Fault>
     ensures { MatchResult result (λ octets. O.gives file (Some octets)) (IsOfUnread name.now (O.gives file None)) }
 {
-    match file.read(alloc) {
+    match file.read_whole(alloc) {
         Ok(octets) => Ok(octets),
         Err(why) => Err(fault_of(alloc, why, name)),
     }

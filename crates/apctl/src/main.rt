@@ -3,11 +3,11 @@
 //!
 //! It promises, on [`input::run_input`], of one text that is read and cut in two what [`replay::run_text`] promises of
 //! the two; on [`playing::play_files`], of files what [`play_text::play_owned`] promises of what they hold, and that the
-//! first that can't be read is told; and on [`fault::show_fault`] the exit status of a fault, and that `fault memory` is
-//! written without taking any.
+//! first that can't be read is told; on [`running::run_files`] the same of what [`replay::run_stream`] promises; and on
+//! [`fault::show_fault`] the exit status of a fault, and that `fault memory` is written without taking any.
 //!
-//! It promises nothing of words, of the process's streams and files, or of the lines of other faults. Those are shown by what the
-//! built program does (`tests/`), and so it has no tests of its own: a crate with tests is proved twice.
+//! It promises nothing of words, of the process's streams and files, or of the lines of other faults. Those are shown by
+//! what the built program does (`tests/`), and so it has no tests of its own: a crate with tests is proved twice.
 #![tactic(auto)]
 
 mod fault;
@@ -15,6 +15,7 @@ mod file_system;
 mod files;
 mod input;
 mod playing;
+mod running;
 mod tasks;
 
 use fault::{Fault, show_fault};

@@ -3,12 +3,13 @@
 
 use crate::fault::Fault;
 use crate::file_system::HostFiles;
-use crate::files::{open_file, read_file};
+use crate::files::read_file;
 use crate::input::{STANDARD_INPUT, run_input};
 use crate::playing::play_files;
+use crate::running::run_files;
 use live::{InFace, LiveIn};
 use mac_frame::Octets;
-use replay::{check_text, run_stream};
+use replay::check_text;
 use std::mem;
 use std::sync::Wait;
 use std::thread::Threads;
@@ -30,12 +31,8 @@ pub(crate) fn check_config(rt: &HostRuntime, config: &str) -> Result<(), Fault> 
 
 /// Runs the trace of a file, read as it comes, on the configuration of another.
 pub(crate) fn run_trace(rt: &HostRuntime, config: &str, trace: &str) -> Result<(), Fault> {
-    let alloc = rt.alloc();
     let mut out = Counted::new(rt.stdout());
-    let config = read_config(rt, config)?;
-    let mut source = Counted::new(open_file(&mut HostFiles::new(rt), alloc, trace)?);
-    let reported = run_stream(alloc, config.as_slice(), &mut source, &mut out);
-    reported.map_err(|fault| Fault::of_stream(alloc, fault, trace))
+    run_files(&mut HostFiles::new(rt), rt.alloc(), config, trace, &mut out)
 }
 
 /// Plays the traces of files, which are read whole, on the configuration of another, by threads that `threads` starts.
