@@ -101,7 +101,7 @@ def findings_of(texts: Texts, fault: Fault) -> list[Finding]:
     if fault.code == "C1":
         return no_toml.explain(texts.config, texts.is_joined) if texts.config else []
     if fault.code.startswith("C") and texts.config:
-        strange = other_programs.without_listed(config.Config(texts.config)) if fault.code == "C2" else None
+        strange = of_another_program(texts.config) if fault.code == "C2" else None
         return [strange] if strange else config.explain(texts.config, fault)
     if fault.code.startswith("L") and texts.records is not None:
         return octet_records.explain(texts.records, fault, list(names_of(texts)))
@@ -111,6 +111,14 @@ def findings_of(texts: Texts, fault: Fault) -> list[Finding]:
         is_live = texts.words[:1] == ["live"]
         return trace_lines.explain(trace, fault, names_of(texts), is_live) if trace else []
     return words.explain(fault, texts.words)
+
+
+def of_another_program(source: Source) -> Finding | None:
+    """A text of TOML that has none of the program's keys; nothing if it is no TOML."""
+    try:
+        return other_programs.without_listed(config.Config(source))
+    except (NoToml, RecursionError):
+        return None
 
 
 def of_order(texts: Texts) -> Finding | None:
