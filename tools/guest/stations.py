@@ -110,8 +110,11 @@ class Namespace:
         return subprocess.Popen(self.words(*words), stdin=subprocess.DEVNULL, stdout=output, stderr=subprocess.STDOUT)
 
     def give_address(self) -> None:
-        """Sets the interface up with the address."""
+        """Sets the interface up with the address, and with no other that an earlier row of cases gave it."""
         run("ip", "-n", self.name, "link", "set", self.interface, "up")
+        for other in run("ip", "-n", self.name, "-4", "-br", "address", "show", "dev", self.interface).split()[2:]:
+            if other != f"{self.address}/24":
+                run("ip", "-n", self.name, "address", "del", other, "dev", self.interface)
         run("ip", "-n", self.name, "address", "replace", f"{self.address}/24", "broadcast", "+", "dev", self.interface)
 
     def hardware_address(self) -> str:
