@@ -37,10 +37,9 @@ pub struct TakeInFault {
 }
 
 impl AirQueue {
-    /// Ends the queue, once all its passes are back, those of the networks in order of place: takes out what remains,
-    /// so that the answer begins with what had left and has of each network what its pass pushed, in that order, and
-    /// nothing else (*profile*). Where memory ran out, it hands all back unchanged. It may wait for other
-    /// threads.
+    /// Ends the queue, once all its passes are back, those of the networks in order of place: takes out what remains.
+    /// So the answer begins with what had left, and has of each network what its pass pushed, in that order, and
+    /// nothing else (*profile*). If memory ran out, it hands all back unchanged. It may wait for other threads.
     pub fn take_in<R: Wait>(
         self,
         rt: &R,

@@ -1,13 +1,13 @@
 //! The air queue: each network's frames, once and in order, on their way to the transmitter.
 //!
-//! Up to sixteen threads push, one for each network's pass, and one pops, all at the same time: a frame goes in by the
+//! Up to sixteen threads push, one for each network's pass, and one pops, all at the same time. A frame goes in by the
 //! network's own [`NetPass`] and leaves by the one [`RadioPass`] (*profile*; a frame is one of IEEE Std 802.11-2016,
-//! 9.2). However their steps fall, what left of a network and then what is queued of it is what its pass pushed, each
-//! frame once and in its order, and nothing else is there (`specs/Rule.antt`); [`AirQueue::take_in`] shows it, once
-//! all passes are back. A call may wait for other threads. That a thread gets on, or when, is promised by nothing
-//! here, nor that a push which gives its frame back found the queue full, or a pop that answers `false` found it
-//! empty. The library's queue says that it was so at one moment of the call. Other threads may have changed it by the
-//! time of the answer, so a fact about that moment would say nothing to a caller. Tests show both on one thread;
+//! 9.2). However their steps fall, what left of a network and then what is queued of it is what its pass pushed. Each
+//! frame is there once and in its order, and nothing else is there (`specs/Rule.antt`); [`AirQueue::take_in`] shows it,
+//! once all passes are back. A call may wait for other threads. Nothing here promises that a thread gets on, or when.
+//! Nor does it promise that a push which gives its frame back found the queue full, or that a pop which answers `false`
+//! found it empty. The library's queue says that it was so at one moment of the call. Other threads may have changed it
+//! by the time of the answer, so a fact about that moment would say nothing to a caller. Tests show both on one thread;
 //! between threads none does.
 //!
 //! Which frames are pushed, and when, is left to the crates above.

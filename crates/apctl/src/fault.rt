@@ -71,8 +71,8 @@ pub enum Fault {
 }
 
 impl Fault {
-    /// The exit status of the program that ends with it: 1 for a fault of what it read, 2 for its words, 3 where
-    /// it ran out of memory or threads, or could not end what it played, 4 for a file or a stream.
+    /// The exit status of the program that ends with it. 1: a fault of what it read. 2: its words. 3: it ran out of
+    /// memory or threads, or could not end what it played. 4: a file or a stream.
     pub fn status(&self) -> u8
         ensures { result ≡ status_of self.now }
     {

@@ -39,8 +39,8 @@ pub fn read_file<S: FileSystem>(system: &mut S, alloc: Global, name: &str) -> Re
 /// All that the files of these names hold, in their order. `File` with the name of the first that can't be opened or
 /// read; `Memory` where memory ran out.
 ///
-/// They are opened in their order. What comes as it is read, as of a pipe, is read before the next is opened; files that
-/// stand on a disk are read by threads then, as far as there are any.
+/// They are opened in their order. What comes as it is read, as of a pipe, is read before the next is opened. Then
+/// threads read the files that stand on a disk, as far as there are any threads.
 pub fn read_traces<S: FileSystem, T: Threads + Sync>(
     system: &mut S,
     threads: &T,

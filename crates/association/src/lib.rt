@@ -5,8 +5,8 @@
 //! a station are `station_state`'s `Class` and `Notice`. There is one file for each kind of request, with what is read
 //! and what is written of it.
 //!
-//! It promises which request a string of octets is for a network, if it is one, and of which class; which status a
-//! request is answered with; and that each answer and each notice is appended with exactly the octets of its frame.
+//! It promises which request a string of octets is for a network, if it is one, and of which class. It promises with
+//! which status a request is answered. Each answer and each notice is appended with exactly the octets of its frame.
 //!
 //! Whether there is room for a station, which identifier it is given, when a notice is sent, and what becomes of a unit
 //! or a poll, is left to the network.

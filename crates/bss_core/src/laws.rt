@@ -10,9 +10,9 @@ ghost use Rattle.bss_core.specs.Worlds.{AreAlike, AreCutFromOne};
 use events::own_frames;
 use network::sent_frames;
 
-/// No network of a radio can touch another. Whatever two radios are and whatever happens to them: where a network of
-/// the one and a network of the other have the same configuration, channel and interval and take the same events, their
-/// sections are the same, and of the frames that left one list begins with the other.
+/// No network of a radio can touch another. Take any two radios, whatever happens to them, and a network of each. If
+/// both networks have the same configuration, channel and interval and take the same events, their sections are the
+/// same. Of the frames that left, one list then begins with the other.
 pub fn two_worlds()
     ensures sections { (c d : RadioConfig) (steps others : List Step) (p q : ℕ) → AreAlike c d steps others p q →
         slice_get (sections_after c steps) p ≡ slice_get (sections_after d others) q }

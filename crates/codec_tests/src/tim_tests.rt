@@ -87,8 +87,8 @@ fn sets_are_shown_in_one_spelling(rt: HostRuntime) -> Result<(), Fail> {
     Ok(())
 }
 
-/// The TIM of two numbers, of which the first is not the greater, at DTIM Count 0 and DTIM Period 1: from the octet of
-/// the first, or the one before it where that stands at an odd place, to the octet of the other.
+/// The TIM of two numbers at DTIM Count 0 and DTIM Period 1. The first is not the greater. It goes from the octet of
+/// the first, or from the one before it if that stands at an odd place, to the octet of the other.
 fn plain_tim(
     rt: &impl Abort,
     alloc: Global,

@@ -34,9 +34,9 @@ pub fn to_air(out: &mut Octets, ether: &Ether<'_>) -> Result<(), NoMemory>
 }
 
 /// Appends the Ethernet frame from `source` to `to` that carries a body of an 802.11 frame, and answers true. A body
-/// that begins with the RFC 1042 header and a type of at least 0x0600 gives a frame that names the type; any other of 3
-/// to 1500 octets one that names its length; any other has no wired form: then the answer is false, and `out` is as it
-/// was (RFC 1042; which bodies have none is *profile*). After `NoMemory` `out` is as it was.
+/// that begins with the RFC 1042 header and a type of at least 0x0600 gives a frame that names the type. Any other of 3
+/// to 1500 octets gives one that names its length. Any other has no wired form: then the answer is false, and `out` is
+/// as it was (RFC 1042; which bodies have none is *profile*). After `NoMemory` `out` is as it was.
 pub fn to_wire(
     out: &mut Octets,
     to: MacAddr,

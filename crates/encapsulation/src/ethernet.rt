@@ -54,10 +54,10 @@ pub struct Ether<'a> {
 }
 
 impl<'a> Ether<'a> {
-    /// The Ethernet frame that a string of octets is, or its first fault: [`Unread::Short`] below 14 octets,
-    /// [`Unread::TooLong`] where more than 2296 octets follow a type, and [`Unread::Body`] where fewer octets follow
-    /// than the length says, or the field is neither a type nor a length of 3 to 1500 (IEEE Std 802.3, 3.2; the limits
-    /// are *profile*). It takes no memory.
+    /// The Ethernet frame that a string of octets is, or its first fault (IEEE Std 802.3, 3.2; the limits are
+    /// *profile*). [`Unread::Short`]: it has fewer than 14 octets. [`Unread::TooLong`]: more than 2296 octets follow a
+    /// type. [`Unread::Body`]: fewer octets follow than the length says, or the field is neither a type nor a length of
+    /// 3 to 1500. It takes no memory.
     pub fn decode(octets: &'a [u8]) -> Result<Ether<'a>, Unread>
         // What is read is this frame; what is this frame is read.
         ensures frame { IfOk result (λ ether. IsEthernet octets.now (shown ether)) }

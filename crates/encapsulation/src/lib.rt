@@ -3,9 +3,9 @@
 //!
 //! [`Ether`] is an Ethernet frame; its [`Kind`] says whether it names a type or its length.
 //!
-//! It promises that [`Ether::decode`] reads a string of octets exactly where it is an Ethernet frame, and names the
-//! first fault elsewhere; that [`to_air`] and [`to_wire`] append exactly the octets of the body and of the frame; and
-//! that a frame that names a type comes back from the air as it was.
+//! [`Ether::decode`] promises to read a string of octets exactly if it is an Ethernet frame, and else names the first
+//! fault. [`to_air`] and [`to_wire`] promise to append exactly the octets of the body and of the frame. A frame that
+//! names a type comes back from the air as it was.
 //!
 //! Which unit goes where, and what becomes of one without a wired form, is left to the network.
 #![tactic(auto)]

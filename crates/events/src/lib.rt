@@ -1,9 +1,9 @@
 //! What goes into the networks of a radio and what comes out of them, as data.
 //!
 //! Two types to know first: an [`Event`] is one thing that happened to a network, and a [`Section`] is a network with
-//! all that happened to it and all that it did. A [`Line`] is what happened to a radio; to which networks it is an
-//! event is read from it here alone, into an [`Audience`], and whether a network is one of these is asked by its place
-//! and its address. [`LentLine::event_for`] asks for one network, and promises what the definition `event_for` says. A
+//! all that happened to it and all that it did. A [`Line`] is what happened to a radio. Here alone it is read to which
+//! networks a line is an event, into an [`Audience`]. Whether a network is one of these is asked by its place and its
+//! address. [`LentLine::event_for`] asks for one network, and promises what the definition `event_for` says. A
 //! [`LentEvent`] and a [`LentLine`] are an event and a line whose octets stay where they are. An [`AirItem`] is a frame
 //! of one network on its way out.
 //!

@@ -3,16 +3,17 @@
 //! It has two faces. In that of lines, frames come and go in digits, in that of records as octets, and all else is the
 //! same. [`LiveIn`] is the access point in either face: [`Live`] in lines, [`LiveRecords`] in records.
 //!
-//! [`LiveIn::run`] runs it over an input, from the octets of its configuration on: it promises that the output is the
-//! number of networks, the answers to all that is said in the input, in order, and the tables of the networks; and a
-//! prefix of that where a write failed. Where memory runs out after the first read, nothing ends: the answer says so.
+//! [`LiveIn::run`] runs it over an input, from the octets of its configuration on. It promises that the output is the
+//! number of networks, the answers to all that is said in the input, in order, and the tables of the networks. If a
+//! write failed, the output is a prefix of that. If memory runs out after the first read, nothing ends: the answer says
+//! so.
 //!
-//! [`LiveIn::feed`] takes a piece of the input, which may be cut anywhere, and promises that the sink has gained exactly
-//! the answers to the lines or records that end in it, or, where a write failed, a prefix of them; [`LiveIn::end`]
-//! promises the same of a last line or record, and of the tables.
+//! [`LiveIn::feed`] takes a piece of the input, which may be cut anywhere. It promises that the sink has gained exactly
+//! the answers to the lines or records that end in it or, if a write failed, a prefix of them. [`LiveIn::end`] promises
+//! the same of a last line or record, and of the tables.
 //!
-//! What is answered is said by the definitions of the crate `live_rules`, whose laws speak of what is said, however it
-//! came: [`isolation`] and those beside it, but for [`lines_come_in_pieces`] and [`records_come_in_pieces`], of one face
+//! The definitions of the crate `live_rules` say what is answered. Its laws speak of what is said, however it came:
+//! [`isolation`] and those beside it. Only [`lines_come_in_pieces`] and [`records_come_in_pieces`] are of one face
 //! each. `specs/` says what an input says in either face (`Inputs`), and how answers are written (`AnswerOctets`,
 //! `Written`). The answers to more that is said begin with those to the first of it ([`more_lines`]), and no answer is
 //! held back when the source is asked for more ([`answers_come_before_reads`]).

@@ -73,11 +73,11 @@ impl<F: InFace> LiveIn<F> {
         self.networks.lines()
     }
 
-    /// Takes the next piece, where it is short enough that fewer than 2^62 lines or records can have ended, and has the
-    /// sink take the answers to those that end in it, of which the first may have begun before it. Nothing is held back
-    /// for a later call. It takes memory for what the networks keep; where memory ran out, the answer says so, of each
-    /// network that refused its event. `Failed` comes exactly where a write of the sink failed, which has then taken a
-    /// prefix of the answers; the networks hear all of the piece even so.
+    /// Takes the next piece of the input and writes the answers to all lines or records that end in it. The first of
+    /// these may have begun before it. The piece has to be so short that fewer than 2^62 lines or records can have
+    /// ended. Nothing is held back for a later call. It takes memory for what the networks keep; if memory ran out, the
+    /// answer says so, of each network that refused its event. `Failed` comes exactly if a write of the sink failed,
+    /// which has then taken a prefix of the answers; the networks hear all of the piece even so.
     pub fn feed<W: Sink>(&mut self, piece: &[u8], out: &mut W) -> Result<(), Failed>
         requires countable { self.old.moment.lines + length piece.now < 2 ^ 62 }
         requires few { MayFail (W.failed out.old) }
@@ -93,10 +93,10 @@ impl<F: InFace> LiveIn<F> {
         buffered.flush()
     }
 
-    /// Ends the input, where fewer than 2^62 lines or records ended: has the sink take the answer to a partial line, of
-    /// which no CR is dropped, or the fault of a partial record, of which nothing is taken, and the table of each
-    /// network in order of place. `Failed` comes exactly where a write of the sink failed, which has then taken a prefix
-    /// of them.
+    /// Ends the input, if fewer than 2^62 lines or records ended. It has the sink take the answer to a partial line, of
+    /// which no CR is dropped, or the fault of a partial record, of which nothing is taken. Then the sink takes the
+    /// table of each network in order of place. `Failed` comes exactly if a write of the sink failed, which has then
+    /// taken a prefix of them.
     pub fn end<W: Sink>(mut self, out: &mut W) -> Result<(), Failed>
         requires countable { self.moment.lines < 2 ^ 62 }
         requires few { MayFail (W.failed out.old) }

@@ -34,8 +34,8 @@ pub fn answer_records<W: Sink>(
     }
 }
 
-/// Answers the record at the front of a piece, without a copy, where nothing came of it before and all of it is there;
-/// else takes of the piece what the partial record lacks, and answers it where it is whole then. It gives what follows
+/// Answers the record at the front of a piece, without a copy, if nothing came of it before and all of it is there.
+/// Else it takes of the piece what the partial record lacks, and answers it if it is whole then. It gives what follows
 /// in the piece.
 fn answer_next<'a, W: Sink>(
     networks: &mut LiveNetworks,

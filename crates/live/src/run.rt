@@ -27,11 +27,11 @@ const PIECE_LEN: usize = 4096;
 const MAX_READS: u64 = 1 << 46;
 
 impl<F: InFace> LiveIn<F> {
-    /// Runs the access point of a configuration. It appends to what `out` has taken how many networks are open, `ok N`
-    /// and LF or the record `O`, and then the answer to each line or record that a source gives; a piece of it is read
-    /// only when what ended in the piece before is answered. At the source's end it appends the answer to what follows
-    /// the last LF, if anything does, or the fault of a record that is cut, of which nothing is taken, and the table of
-    /// each network in order of place.
+    /// Runs the access point of a configuration. It appends to what `out` has taken how many networks are open, as `ok
+    /// N` and LF or as the record `O`. Then it appends the answer to each line or record that a source gives. It reads
+    /// a piece only when what ended in the piece before is answered. At the source's end it appends the answer to what
+    /// follows the last LF, if anything does, or the fault of a record that is cut, of which nothing is taken. Last
+    /// comes the table of each network in order of place.
     ///
     /// A fault of the configuration is the first one, and `NoMemory` comes where memory ran out before the first read;
     /// nothing is read or written then. Where it runs out later, nothing ends: the answer says so. `Read` comes where a

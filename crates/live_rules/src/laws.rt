@@ -95,8 +95,9 @@ pub fn enough_memory()
     ensures unrefused { (m : Moment) (said : List Asked) → AreUnrefused (answers_of m said) }
 {}
 
-/// Where nothing but lines of a trace is said, however they come, and nothing is refused for memory, a network that
-/// hears no more than its history may have is told as its report tells it: the same frames, table and counts.
+/// Suppose that nothing but lines of a trace is said, however they come, and that nothing is refused for memory. Then a
+/// network that hears no more than its history may have is told as its report tells it: the same frames, table and
+/// counts.
 ///
 /// A text says nothing else where it is a trace, so that no line of it has a fault, is `I` or is one of more than
 /// 1,000,000, and no line is too long.

@@ -106,9 +106,9 @@ pub fn decode(bss: MacAddr, frame: &[u8]) -> Result<Rx<'_>, Unread>
     }
 }
 
-/// The management frame that a string of octets is for a network with the broadcast address, which is the wildcard BSSID
-/// (9.2.4.3.4), if it is one: of a probe request to all stations and for any network it tells what each network reads.
-/// It takes no memory.
+/// The management frame that a string of octets is, if it is one, for a network with the broadcast address, which is
+/// the wildcard BSSID (9.2.4.3.4). Of a probe request to all stations and for any network it tells what each network
+/// reads. It takes no memory.
 pub fn decode_broadcast(frame: &[u8]) -> Option<Rx<'_>>
     ensures { IfSome result (λ rx. frame_of broadcast frame.now ≡ Ok (shown rx)) }
 {

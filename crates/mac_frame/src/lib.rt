@@ -1,8 +1,8 @@
 //! The frames of a wireless access point, as octets (IEEE Std 802.11-2016, clause 9).
 //!
-//! It promises which strings of octets are which frame: [`decode`] reads a frame exactly where a string is
-//! one, and names the first fault elsewhere, and [`write_mgmt`] and [`write_msdu`] append exact headers.
-//! [`MacAddr`], [`Octets`] and [`List`] are the values that every crate above passes on.
+//! It promises which strings of octets are which frame. [`decode`] reads a frame exactly if a string is one, and else
+//! names the first fault. [`write_mgmt`] and [`write_msdu`] append exact headers. [`MacAddr`], [`Octets`] and [`List`]
+//! are the values that every crate above passes on.
 //!
 //! It knows no network and no station: what a body holds, and what an answer is, is left to the crates above.
 #![tactic(auto)]

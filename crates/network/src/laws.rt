@@ -67,8 +67,8 @@ pub fn steps_append()
 {}
 
 /// Each frame that a network sends has at most 2,328 octets on the air, and at most 2,310 on the wire, whatever its
-/// events, and each unit that it keeps fits a frame: where its configuration has no fault, and its address six octets.
-/// One step more keeps it so in any network of which it holds.
+/// events, and each unit that it keeps fits a frame. This holds if its configuration has no fault, and its address six
+/// octets. One step more keeps it so in any network of which it holds.
 pub fn frame_sizes()
     ensures alone { (s : Setting) (es : List Event) → length s.network.bssid ≡ 6 → network_fault s.network ≡ None
         → IsWithinSizes (alone s es) }

@@ -3,10 +3,10 @@
 //! Two types to know first: a [`Network`] takes events and hands out what it sends, and a [`Bss`] is a network with its
 //! history and the frames that wait. It is a deterministic state machine: it has no socket, no clock and no thread, and
 //! each event makes of it one `step` of the definitions. A `Bss` promises that its table, its counts and its wired
-//! frames are what its configuration and its history give, by the definition `alone`, in which no other network, no
-//! queue and no thread stands; and that [`Bss::take`] appends to the frames that wait exactly those that the event adds
-//! to the frames of `alone`. Which frames wait depends besides on what [`Bss::take_front`] took out and on what
-//! [`Bss::give_back`] put back, which may be any octets.
+//! frames are what its configuration and its history give. The definition `alone` says what that is, and names no other
+//! network, no queue and no thread. [`Bss::take`] promises to append to the frames that wait exactly those that the
+//! event adds to the frames of `alone`. Which frames wait depends besides on what [`Bss::take_front`] took out and on
+//! what [`Bss::give_back`] put back, which may be any octets.
 //!
 //! Several networks, when frames leave, and where events come from, are left to the crates above.
 #![tactic(auto)]

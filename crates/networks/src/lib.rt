@@ -1,11 +1,11 @@
 //! The networks of a configuration, to which each line is given that they hear (*profile*; the networks are those of
 //! IEEE Std 802.11-2016, 11.1 to 11.3).
 //!
-//! [`Networks`] are those of a configuration in order of place. [`Networks::take`] finds once which of them hear a line,
-//! and has each of these take it, in order of place; what becomes of that and of what they send, a [`Deliver`] says, so
-//! that one keeps it and another writes it at once. It promises that a network that doesn't hear
-//! the line is as it was ([`events::Audience`] says who hears), and that each of the others did as `Deliver` says, one
-//! after the other, whatever the rest of them are.
+//! [`Networks`] are those of a configuration in order of place. [`Networks::take`] finds once which of them hear a
+//! line, and has each of these take it, in order of place. A [`Deliver`] says what becomes of that and of what they
+//! send, so that one keeps it and another writes it at once. It promises that a network that doesn't hear the line is
+//! as it was ([`events::Audience`] says who hears). Each of the others did as `Deliver` says, one after the other,
+//! whatever the rest of them are.
 //!
 //! What is done with the frames is left to the crates above, and so are histories, a radio and threads.
 #![tactic(auto)]

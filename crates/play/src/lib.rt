@@ -9,12 +9,11 @@
 //! What was pushed of a network, and then what waits, is all that it sent. The sources' threads let frames leave: who
 //! handed on enough does, and who finds the queue full does until none of its own wait.
 //!
-//! [`play_with_frames`] borrows each source from a [`LineLog`], and promises that once all lines are given each
-//! network, with the frames that it sent, is such a one, alone with its events. [`play_finished`] keeps besides who
-//! gave each event, and what left in its order: a [`Finished`]. It asks a [`Gate`] before each line. The definitions
-//! say what a `Finished` promises (`Sections`, `Givers`, `Played`), also one of callers that are no sources; a
-//! [`PlayFault`] says why there is none. Which thread is served when, that a thread gets on, and time are promised by
-//! nothing here.
+//! [`play_with_frames`] borrows each source from a [`LineLog`]. It promises that once all lines are given each network,
+//! with the frames that it sent, is such a one, alone with its events. [`play_finished`] keeps besides who gave each
+//! event, and what left in its order: a [`Finished`]. It asks a [`Gate`] before each line. The definitions say what a
+//! `Finished` promises (`Sections`, `Givers`, `Played`), also one of callers that are no sources; a [`PlayFault`] says
+//! why there is none. Nothing here promises which thread is served when, that a thread gets on, or time.
 #![tactic(auto)]
 
 mod batch;

@@ -65,10 +65,10 @@ pub fn play_with_frames<R: Threads + Wait + Sync>(
     networks_named::<Brand, R>(rt, alloc, parts)
 }
 
-/// Plays the lines of sources as [`play_with_frames`] does, and answers what an access point ends with that they fed: a
-/// section of each network, all frames in the order in which they left, and for each event of a network the number of
-/// the source that gave it, from 0 (*profile*). The thread of a source calls the gate before each line, and gives the
-/// line then. It answers the faults of [`play_with_frames`]. It may wait for other threads.
+/// Plays the lines of sources as [`play_with_frames`] does, and answers what an access point ends with that they fed
+/// (*profile*). That is a section of each network and all frames in the order in which they left. For each event of a
+/// network it is also the number of the source that gave it, from 0. The thread of a source calls the gate before each
+/// line, and gives the line then. It answers the faults of [`play_with_frames`]. It may wait for other threads.
 pub fn play_finished<G: Gate + Sync, R: Threads + Wait + Sync>(
     rt: &R,
     alloc: Global,

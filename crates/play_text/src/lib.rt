@@ -1,10 +1,10 @@
 //! From the octets of a configuration and of several traces, played at once, to those of a report (*profile*). All of
 //! it is done by threads: they read the traces, play them, and make the text of the report.
 //!
-//! It promises, on [`play_text`], that the report that it writes is one that `play` of `workers` may make of the traces:
-//! each network alone of its own events, of which each trace gave its own in its order; and that a fault, a
-//! [`PlayTextFault`], is the first one, and nothing was written then. What is read, and what is written, is the same
-//! however many threads there are: where none can be made to read or to write, that is done in turn.
+//! [`play_text`] promises that the report that it writes is one that `play` of `workers` may make of the traces. Each
+//! network is alone with its own events, of which each trace gave its own in its order. A fault, a [`PlayTextFault`],
+//! is the first one, and nothing was written then. What is read, and what is written, is the same however many threads
+//! there are: if none can be made to read or to write, that is done in turn.
 //!
 //! How lines are played is left to `play`. Where the texts come from, and where the report goes, is left to the
 //! program.

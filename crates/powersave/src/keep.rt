@@ -286,7 +286,7 @@ fn room_beside(reserved: Option<Whom>, whom: &Whom) -> Option<Whom>
 }
 
 /// The units for one station, or for the group, don't depend on those for others (*profile*): a unit is put last among
-/// those for the same one, the oldest of these leaves first, and dropping leaves none of them, or those that came at a
+/// those for the same one, and the oldest of these leaves first. Dropping leaves none of them, or those that came at a
 /// clock or later. The units for any other stay as they were, and so does a reservation for another.
 pub fn parts_stay()
     ensures put { (whom : Whom) (unit : Msdu) (es : List Entry) → units_for whom (es ++ (whom, unit) ∷ [])

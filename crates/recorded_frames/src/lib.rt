@@ -31,8 +31,8 @@ pub fn wires_are_read()
     ensures { AllByRecursion IsEthernetSo wired }
 {}
 
-/// Each unit that hostapd's kernel carried between air and wire has the same form by the definitions, but for Duration;
-/// and but for a unit with the header of IEEE Std 802.1H, whose type the kernel puts on the wire: here the unit stays
+/// Each unit that hostapd's kernel carried between air and wire has the same form by the definitions, but for Duration.
+/// Only a unit with the header of IEEE Std 802.1H has not: the kernel puts its type on the wire, and here it stays
 /// whole (*profile*).
 pub fn units_cross()
     ensures from_stations { AllByRecursion CrossesToWire to_wire }

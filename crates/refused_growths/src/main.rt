@@ -1,10 +1,7 @@
 //! A program for tests: calls of the libraries in a run in which one allocation fails (*profile*).
 //!
-//! Standard input holds a line, which names a trial and says how many allocations come before its calls, and then a
-//! configuration and a trace as `apctl` takes them. Whoever runs the program has one allocation of the run fail, always
-//! of the same number; so of runs with fewer and fewer allocations before the calls, each has the next of them fail.
-//! Standard output then holds a line of what was refused and what the trial wrote: the report, before which the lines
-//! stand that an access point was not given, since memory ran out; or the answers to lines as they came.
+//! Standard output then holds a line of what was refused and what the trial wrote. That is the report, before which the
+//! lines stand that an access point was not given, since memory ran out; or it is the answers to lines as they came.
 //!
 //! Nothing is promised here beyond what the libraries promise. The trials show on the real calls that a failed
 //! allocation changes nothing, and that what is offered again is taken.

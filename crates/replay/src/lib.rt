@@ -1,13 +1,13 @@
 //! From the octets of a configuration and of a trace to those of a report (*profile*): each network takes what it
 //! hears, alone.
 //!
-//! It promises, on [`run_text`], that where it ends well, what it wrote is the report of what each network alone makes
-//! of its own events of the trace; that a fault of the configuration or of the trace is the first one, and nothing was
-//! written then; and that where memory ran out or a write failed, what was written is nothing or a prefix of that
-//! report. [`run_stream`] promises the same of a trace that it reads as it comes, a piece at a time. Both keep no
-//! history; [`report_texts`] promises the same, and hands out the sections with the events. A [`Replay`] makes the
-//! sections of a report, one line at a time. [`split_joined`] cuts a text in which a configuration and a trace stand, and
-//! [`check_text`] writes how many networks a configuration has, or answers its first fault.
+//! It promises this on [`run_text`]. If it ends well, what it wrote is the report of what each network alone makes of
+//! its own events of the trace. A fault of the configuration or of the trace is the first one, and nothing was written
+//! then. If memory ran out or a write failed, what was written is nothing or a prefix of that report. [`run_stream`]
+//! promises the same of a trace that it reads as it comes, a piece at a time. Both keep no history; [`report_texts`]
+//! promises the same, and hands out the sections with the events. A [`Replay`] makes the sections of a report, one line
+//! at a time. [`split_joined`] cuts a text that holds a configuration and a trace, and [`check_text`] writes how many
+//! networks a configuration has, or answers its first fault.
 //!
 //! There are two ways to it, each in a folder of its own. In `run` the networks keep no history. In `model` a radio with
 //! its queue takes the lines, and each network keeps its events: that is the definition of a radio in code, and the way of

@@ -10,15 +10,15 @@
 //! end
 //! ```
 //!
-//! A section has these lines, each ended by LF: its network's address and name, how many events the network took
-//! with what it counted, a line for each station in the order of the table, one for each frame that it sent on the
-//! air, one for each that it sent on the wire, and `end`. Octets are pairs of hexadecimal digits in lower case,
-//! numbers are decimal.
+//! A section has these lines, each ended by LF: its network's address and name; how many events the network took, with
+//! what it counted; a line for each station in the order of the table; one for each frame that it sent on the air; one
+//! for each that it sent on the wire; and `end`. Octets are pairs of hexadecimal digits in lower case, numbers are
+//! decimal.
 //!
-//! [`write_report`] promises that a sink takes exactly the report of the sections it is handed, or a prefix of it where
-//! a write failed or memory ran out. How a section is put together is said once, by [`put_section_in`]: for whatever is
-//! [`Reported`], a section or a network that the crates above keep, and in whichever [`LineForm`] its lines go out. What
-//! the lines tell is left to the networks, and where they go to `text_io`.
+//! [`write_report`] promises that a sink takes exactly the report of the sections it is handed, or a prefix of it if a
+//! write failed or memory ran out. How a section is put together is said once, by [`put_section_in`]. It takes whatever
+//! is [`Reported`], a section or a network that the crates above keep, in either [`LineForm`]. What the lines tell is
+//! left to the networks, and where they go to `text_io`.
 #![tactic(auto)]
 
 mod count;

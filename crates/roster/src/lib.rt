@@ -1,8 +1,8 @@
 //! The stations of a network tied together with the units that are kept for them (IEEE Std 802.11-2016, 11.2.3).
 //!
-//! Two types to know first: a [`Roster`] has the stations, the kept units and the bits of the beacon's TIM, and promises
-//! that these are exactly the association identifiers of the stations that units are kept for, so that no beacon walks
-//! over the table. A [`Keeping`] says what becomes of the units: which leave, and which one comes.
+//! Two types to know first: a [`Roster`] has the stations, the kept units and the bits of the beacon's TIM. It promises
+//! that these bits are exactly the association identifiers of the stations that units are kept for, so that no beacon
+//! walks over the table. A [`Keeping`] says what becomes of the units: which leave, and which one comes.
 //!
 //! Which units are kept, and what is answered to a station, is left to the crates above.
 #![tactic(auto)]

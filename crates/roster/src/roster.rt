@@ -25,9 +25,9 @@ use std::alloc::Global;
 use std::marker::Model;
 use tim::Bitmap;
 
-/// The stations of a network, the units that it keeps, the association identifiers of the stations that units are kept
-/// for, so that no beacon walks over the stations (11.2.3.3), and up to which clock none of these units is too old.
-/// Contracts see the stations and the units.
+/// The stations of a network and the units that it keeps. It also has the association identifiers of the stations that
+/// units are kept for, so that no beacon walks over the stations (11.2.3.3). It knows up to which clock none of these
+/// units is too old. Contracts see the stations and the units.
 #[derive(Drop)]
 pub struct Roster {
     stations: Stations,

@@ -8,8 +8,8 @@ use crate::source::Source;
 use std::io::{Read, Write};
 use std::marker::Model;
 
-/// A writer as a sink, or a reader as a source, with the number of its failures, where an error is one, and so is a
-/// write that takes no octet; and with the number of reads, which stays at the most that 64 bits count.
+/// A writer as a sink, or a reader as a source, with the number of its failures. An error is a failure, and so is a
+/// write that takes no octet. It counts reads too, up to the most that 64 bits count.
 ///
 /// It holds no octets itself, so what it has taken is what the writer has, and what it has left is what the reader has.
 #[derive(Debug, Drop)]

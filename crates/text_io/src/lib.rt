@@ -1,14 +1,14 @@
 //! Octets in and out: where they come from, where they go, what fails there, and how a call on them ends (*profile*).
 //!
-//! A [`Sink`] takes octets and a [`Source`] gives them, a part at a time, and each counts its failures; [`Counted`]
+//! A [`Sink`] takes octets and a [`Source`] gives them, a part at a time, and each counts its failures. [`Counted`]
 //! makes either of a writer or reader of the standard library. [`write_all`] promises that a sink took a whole text or,
-//! where a write failed, a prefix of it, [`Buffered`] promises the same of all that is put into it, and [`write_each`] of
+//! if a write failed, a prefix of it. [`Buffered`] promises the same of all that is put into it, and [`write_each`] of
 //! items that are put into one, one after another.
 //!
 //! [`digits`] is how octets are spelled in hexadecimal, many octets a step.
 //!
 //! What the octets say is left to the crates above. How a call can end (well, refused by a fault, a read or a write
-//! failed, out of memory) and what its sink and its source did then is said here once for all of them.
+//! failed, out of memory) is said here once for all of them. So is what its sink and its source did then.
 #![tactic(auto)]
 
 mod buffer;

@@ -9,9 +9,9 @@ ghost use Rattle.play.specs.Sections.{ArePlaced, AreSections, HaveLeft};
 ghost use Rattle.play.specs.declared.finished.Finished.{Finished};
 ghost use Rattle.thread_laws.specs.Steps.{AreGivenBy, steps_of};
 
-/// What an access point of threads ends with, of a configuration without a fault, is what some steps of a radio give: each
-/// network takes its events, and then each frame that left is handed to the air queue and leaves, in the same order
-/// (*profile*). No frame is queued after them.
+/// What an access point of threads ends with, if its configuration has no fault, is what some steps of a radio give.
+/// Each network takes its events, and then each frame that left is handed to the air queue and leaves, in the same
+/// order (*profile*). No frame is queued after them.
 ///
 /// That the configuration has no fault, `Parts::open` ensures for `Ap::finish`, and `play` where it ends well. The other
 /// conditions of `ended` are what `Ap::finish` and `play` of `workers` ensure where they end well. The other one of

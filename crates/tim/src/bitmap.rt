@@ -93,8 +93,9 @@ impl Bitmap {
         }
     }
 
-    /// What is sent of the virtual bitmap (9.4.2.6; which octets is *profile*): the Bitmap Offset, and the octets from
-    /// the first pair that isn't 0 and 0 up to the last octet that isn't 0, or one 0 where there is none.
+    /// What is sent of the virtual bitmap (9.4.2.6; which octets is *profile*). First comes the Bitmap Offset. Then
+    /// come the octets from the first pair that isn't 0 and 0 up to the last octet that isn't 0, or one 0 if there is
+    /// none.
     pub(crate) fn partial(&self) -> (u8, &[u8])
         ensures octets { (result.0, result.1.now) ≡ partial_of (virtual_bitmap (set.contains self.now)) }
         ensures within { 2 * result.0 + length result.1.now ≤ BITMAP_LEN }

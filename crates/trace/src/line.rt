@@ -23,9 +23,9 @@ use std::str;
 /// frame that came over the wire to it; `T` alone is the beginning of a beacon interval. Strings and frames are
 /// hexadecimal digits of either case, or none, with spaces among them.
 ///
-/// A line with a fault gives the first, in this order: a first word that is none of these, also an empty one, or
-/// something after `T` (`L1`); a second word of `W` that is missing or no address (`L3`), or an address that no network
-/// has (`L4`); an odd number of digits, or another character (`L2`); more than 4096 octets (`L5`).
+/// A line with a fault gives the first, in this order. `L1`: a first word that is none of these, also an empty one, or
+/// something after `T`. `L3`: a second word of `W` that is missing or no address. `L4`: an address that no network has.
+/// `L2`: an odd number of digits, or another character. `L5`: more than 4096 octets.
 pub fn read_line<'a>(
     buffer: &'a mut LineBuffer,
     bssids: &[MacAddr],

@@ -383,8 +383,8 @@ fn one_line_is_read_alone(rt: HostRuntime) -> Result<(), Fail> {
     Ok(())
 }
 
-/// A string of as many octets as a line may have, with a space before each digit that is not the first of a pair, and
-/// with one octet more; and each with another character at its end, which is the fault that comes first.
+/// A string of as many octets as a line may have, with a space before each digit that is not the first of a pair. The
+/// same with one octet more. Each of them with another character at its end, which is the fault that comes first.
 #[test]
 fn digits_with_spaces_are_read_up_to_the_most(rt: HostRuntime) -> Result<(), Fail> {
     let mut buffer = LineBuffer::new(rt.alloc())?;

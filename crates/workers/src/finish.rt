@@ -24,13 +24,13 @@ use std::alloc::Global;
 use std::sync::{Mutex, Wait};
 
 impl<N: ApName> Ap<N> {
-    /// Ends the access point (*profile*): what the callers were told is tested against the histories, all frames that
-    /// wait or are queued leave, and each network has its section. `NoMemory` where memory ran out, which may be
-    /// at any point; else the first of these that there is: `BadReceipt`, for a receipt whose place or number is not
-    /// there, whose event is another, or which another receipt repeats, and where the numbers of a caller's receipts
-    /// from one network don't rise; `Uncovered`, for an event of a history that no receipt tells of; `FullEarly`, for
-    /// a network that a caller was told is full and which is not, or which the same caller has a later receipt from.
-    /// The access point, the callers and the transmitter are gone then. It may wait for other threads.
+    /// Ends the access point (*profile*). It tests what the callers were told against the histories, all frames that
+    /// wait or are queued leave, and each network has its section. `NoMemory`: memory ran out, which may be at any
+    /// point. Else it answers the first of these that there is. `BadReceipt`: a receipt's place or number is not there,
+    /// its event is another, another receipt repeats it, or the numbers of a caller's receipts from one network don't
+    /// rise. `Uncovered`: no receipt tells of an event of a history. `FullEarly`: a caller was told that a network is
+    /// full which is not, or the same caller has a later receipt from it. The access point, the callers and the
+    /// transmitter are gone then. It may wait for other threads.
     pub fn finish<R: Wait>(
         self,
         rt: &R,

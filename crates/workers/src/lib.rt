@@ -4,15 +4,15 @@
 //! Two types to know first: threads share an [`Ap`] by reference, and what each gives to it and is answered stands with
 //! a [`Caller`] of its own. Any thread pumps frames that wait into the air queue; the [`Transmitter`] lets them leave.
 //!
-//! [`Ap::finish`] promises that each network's section is what the network alone gives for its own events, and that what
-//! left of it is all that it sent, in order, whichever thread called what, and when; it tests what the callers were told
+//! [`Ap::finish`] promises that each network's section is what the network alone gives for its own events. What left of
+//! it is all that it sent, in order, whichever thread called what, and when. It tests what the callers were told
 //! against the histories, so that each event has one giver. Whenever a network's lock is free, what was pushed and then
-//! what waits is all that the network alone sends for its history. [`play`] runs a thread for each of several sources of
-//! lines and finishes; it promises besides that a network takes the first of a source's events, in their order.
+//! what waits is all that the network alone sends for its history. [`play`] runs a thread for each of several sources
+//! of lines and finishes; it promises besides that a network takes the first of a source's events, in their order.
 //!
-//! That a call gets its lock, the order of calls of different callers, fairness, progress and time are promised by
-//! nothing here. That networks have locks of their own, and that an event changes its network at once, tests show. Which
-//! access point it is, [`ApName`] says, for proofs alone.
+//! Nothing here promises that a call gets its lock, the order of calls of different callers, fairness, progress or
+//! time. Tests show that networks have locks of their own, and that an event changes its network at once. [`ApName`]
+//! says which access point it is, for proofs alone.
 #![tactic(auto)]
 
 mod ap;

@@ -13,10 +13,9 @@ use network::{Bss, Refusal};
 use play::FinishFault;
 use std::alloc::Global;
 
-/// For each network, in order of place, who gave each event of its history: the callers by their numbers, from 0.
-/// `BadReceipt` where a receipt's place, number or event is not there, another receipt tells of the same event, or a
-/// caller's numbers don't rise; else `Uncovered` where no receipt tells of an event; else `FullEarly` where a network
-/// that a caller was told is full is not, or that caller has a later receipt for it.
+/// `BadReceipt` if a receipt's place, number or event is not there, if another receipt tells of the same event, or if a
+/// caller's numbers don't rise. Else `Uncovered` if no receipt tells of an event. Else `FullEarly` if a network that a
+/// caller was told is full is not, or if that caller has a later receipt for it.
 pub(crate) fn givers_of(
     alloc: Global,
     networks: &[Bss],

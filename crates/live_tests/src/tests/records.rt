@@ -87,7 +87,7 @@ fn kinds_that_are_not_known_are_told(rt: HostRuntime) -> Result<(), Fail> {
     check_whole(&rt, alloc, &sample)
 }
 
-/// Strings of these lengths on the air and on the wire, and the faults and the table that are told of them: a string of
+/// Strings of these lengths on the air and on the wire, and the faults and the table that are told of them. A string of
 /// zeros is heard by nobody, and a frame of zeros on the wire can't be read.
 const LENGTHS: &[(usize, &str, &str, &str)] = &[
     (0, "", "", ONE_UNREAD),

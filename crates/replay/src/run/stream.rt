@@ -25,9 +25,9 @@ const PIECE_LEN: usize = 4096;
 /// The most reads of one trace.
 const MAX_READS: u32 = u32::MAX;
 
-/// Reads a configuration, and a trace from a source to its end; lets each network take what it hears of each line as
-/// it comes, and keep the frames that it sends, but no history; then appends the report of all networks to what `out`
-/// has taken. It is what [`crate::run_text`] appends for the same texts.
+/// Reads a configuration, and a trace from a source to its end. It lets each network take what it hears of each line as
+/// it comes, and keep the frames that it sends, but no history. Then it appends the report of all networks to what
+/// `out` has taken. It is what [`crate::run_text`] appends for the same texts.
 ///
 /// A fault of the configuration is the first one, and nothing is read then. A fault of the trace is the first of what
 /// was read, and ends reading. `Read` comes where a read of the source failed, or 4,294,967,295 reads were made; no

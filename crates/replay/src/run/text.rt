@@ -19,8 +19,8 @@ use std::alloc::Global;
 use text_io::Sink;
 use trace::{LineReader, TraceTextFault};
 
-/// Reads a configuration and a trace; lets each network take what it hears of the trace's lines, in order, and keep the
-/// frames that it sends, but no history; then appends the report of all networks to what `out` has taken.
+/// Reads a configuration and a trace. It lets each network take what it hears of the trace's lines, in order, and keep
+/// the frames that it sends, but no history. Then it appends the report of all networks to what `out` has taken.
 ///
 /// A fault of the configuration or of the trace is the first one, and nothing is written then. `Write` comes exactly
 /// where a write of `out` failed, and `NoMemory` where memory ran out; what was written by then is nothing or a prefix

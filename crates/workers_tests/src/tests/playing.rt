@@ -161,9 +161,9 @@ fn come_first(end: &Finished, sources: &[usize]) -> bool {
     }
 }
 
-/// How many of the two lines were held until the sign came, the second of them until source 0 comes to this line; the
-/// least and the greatest association identifier of the stations, where a station authenticates itself by source 0 and
-/// associates itself by source 1; and whether the first events came from these sources.
+/// A station authenticates itself by source 0 and associates itself by source 1. The second of the two lines is held
+/// until source 0 comes to this line. The answer: how many of the two were held until the sign came, the least and the
+/// greatest association identifier of the stations, and whether the first events came from these sources.
 fn held<R: Threads + Wait + Sync>(
     rt: &R,
     alloc: Global,
