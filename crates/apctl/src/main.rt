@@ -1,24 +1,13 @@
-//! The program `apctl` (*profile*): words, files, streams and the lines of faults, around the libraries `replay` and
-//! `live`.
+//! The program `apctl` (*profile*): its words, and the streams and files of the system, around the library
+//! `text_files`.
 //!
-//! It promises, on [`input::run_input`], of one text that is read and cut in two what [`replay::run_text`] promises of
-//! the two; on [`playing::play_files`], of files what [`play_text::play_owned`] promises of what they hold, and that the
-//! first that can't be read is told; on [`running::run_files`] the same of what [`replay::run_stream`] promises; and on
-//! [`fault::show_fault`] the exit status of a fault, and that `fault memory` is written without taking any.
-//!
-//! It promises nothing of words, of the process's streams and files, or of the lines of other faults. Those are shown by
-//! what the built program does (`tests/`), and so it has no tests of its own: a crate with tests is proved twice.
+//! It promises nothing of words, of the process's streams and files, or of the lines of faults: what the built program
+//! does shows them (`tests/`), and so it has no tests of its own. The crate `text_files` promises what each form of the
+//! words does over any file system, source and sink, and with which exit status a fault ends it.
 #![tactic(auto)]
 
-mod fault;
-mod file_system;
-mod files;
-mod input;
-mod playing;
-mod running;
 mod tasks;
 
-use fault::{Fault, show_fault};
 use live::{InLines, InRecords};
 use std::env;
 use std::io::ErrorKind;
@@ -26,10 +15,11 @@ use std::process::ExitCode;
 use std::sync::Wait;
 use std::thread::Threads;
 use tasks::{answer, check_config, play_traces, run_joined, run_trace};
+use text_files::{Fault, show_fault};
 use text_io::{Counted, ReportFault};
 use words::{Task, task_of};
 
-/// The exit status where the line of a fault can't be written.
+/// The exit status if the line of a fault can't be written.
 const UNWRITTEN: u8 = 4;
 
 fn main(rt: HostRuntime) -> ExitCode {
@@ -39,7 +29,7 @@ fn main(rt: HostRuntime) -> ExitCode {
     }
 }
 
-/// Writes the line of a fault to standard error, or that of `Memory` where there is none for it, and answers the exit
+/// Writes the line of a fault to standard error, or that of `Memory` if there is none for it, and answers the exit
 /// status that goes with what was written.
 fn tell(rt: &HostRuntime, fault: &Fault) -> u8 {
     let mut out = Counted::new(rt.stderr());

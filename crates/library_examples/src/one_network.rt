@@ -16,7 +16,7 @@ use network::{Bss, Frames, Network, NetworkRefusal, ReceivedEvent, Refusal, Spar
 use std::alloc::Global;
 
 /// What a network alone makes of events, on a channel and with a beacon interval in time units: what it keeps of them,
-/// and all that it sends. `HistoryFull` where there are more than it may take, `NoMemory` where memory ran out.
+/// and all that it sends. `HistoryFull` if there are more than it may take, `NoMemory` if memory ran out.
 pub fn take_all(
     alloc: Global,
     channel: u8,

@@ -16,8 +16,8 @@ use std::thread::Threads;
 use workers::{Ap, ApName, Caller, Finished, Outcome, Parts, PlayFault, Transmitter};
 
 /// Opens an access point, lets two sources give it their lines, each on a thread of its own, and ends it. Its frames
-/// leave meanwhile. `Config` for the first fault of the configuration, `NoMemory` where memory ran out to the
-/// access point, a source or the frames that leave, `Finish` where [`Ap::finish`] refuses; once it was opened it is
+/// leave meanwhile. `Config` for the first fault of the configuration, `NoMemory` if memory ran out to the
+/// access point, a source or the frames that leave, `Finish` if [`Ap::finish`] refuses; once it was opened it is
 /// ended in each case. What one network refused is no fault: that line is in no history of it (*profile*).
 pub fn run_two<R: Threads + Wait + Sync>(
     rt: &R,

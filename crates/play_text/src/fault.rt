@@ -20,7 +20,7 @@ pub enum PlayTextFault {
     Config(ConfigFault),
     /// Not 1 to 64 traces.
     Sources,
-    /// The first trace that has a fault, where the configuration has none.
+    /// The first trace that has a fault, if the configuration has none.
     Trace {
         /// The trace's place, from 0.
         source: usize,

@@ -25,9 +25,9 @@ use text_io::Sink;
 /// what some order of the traces' lines gives, in which each trace keeps its own; which order, the threads decide.
 ///
 /// A fault is the first one of the configuration, else `Sources`, else that of the first trace that has one; these come
-/// before anything is played. `NoThread` where a thread could not be started, `Finish`, with `Uncovered` alone, where a
-/// network was not given all lines of each trace; nothing is written before it was. `Write` comes exactly where a write
-/// of `out` failed, and `NoMemory` where memory ran out; what was written by then is nothing or a prefix of the report. It
+/// before anything is played. `NoThread` if a thread could not be started, `Finish`, with `Uncovered` alone, if a
+/// network was not given all lines of each trace; nothing is written before it was. `Write` comes exactly if a write
+/// of `out` failed, and `NoMemory` if memory ran out; what was written by then is nothing or a prefix of the report. It
 /// may wait for other threads.
 pub fn play_text<R: Threads + Wait + Sync, W: Sink>(
     rt: &R,

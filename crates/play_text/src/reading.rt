@@ -16,7 +16,7 @@ use std::thread::Threads;
 use trace::{LineReader, TakeLines, TraceTextFault};
 
 /// What is read of each of several traces, in order: its lines, or its first fault, as [`trace::read_trace`] tells them,
-/// or `NoMemory` (*profile*). The traces are lent, and read by threads, as far as there are any. `AllocError` where
+/// or `NoMemory` (*profile*). The traces are lent, and read by threads, as far as there are any. `AllocError` if
 /// memory ran out beside them.
 pub(crate) fn read_by_threads<R: Threads + Sync>(
     rt: &R,

@@ -26,8 +26,8 @@ const PIECE: usize = 65536;
 const SMALL_PIECE: usize = 4096;
 
 /// Has the sink take the report of networks, whole, as [`network_report::write_networks`] does (*profile*). The frames
-/// of each become text in several threads, as far as there are any. `Write` comes exactly where a write of `out`
-/// failed, and `NoMemory` where memory ran out; what `out` took by then is nothing or a prefix of the report.
+/// of each become text in several threads, as far as there are any. `Write` comes exactly if a write of `out`
+/// failed, and `NoMemory` if memory ran out; what `out` took by then is nothing or a prefix of the report.
 pub(crate) fn write_by_threads<R: Threads + Sync, W: Sink>(
     rt: &R,
     alloc: Global,

@@ -6,13 +6,13 @@ ghost use Rattle.hex.specs.Hex.{encode_lower};
 use crate::digits;
 use crate::sink::{Failed, Sink, write_all};
 
-/// How many octets become digits at a time where the piece has no room for all of them.
+/// How many octets become digits at a time if the piece has no room for all of them.
 const OCTETS_AT_A_TIME: usize = 32;
 
 /// A sink with a piece of memory before it, in which texts are collected until it is full. It takes no memory itself.
 ///
 /// What the piece still holds goes to the sink by [`Buffered::flush`], which answers whether the sink failed, and not
-/// where the value is dropped. Once the sink failed, what is put is dropped.
+/// if the value is dropped. Once the sink failed, what is put is dropped.
 #[derive(Drop)]
 pub struct Buffered<'a, W> {
     sink: &'a mut W,
@@ -44,8 +44,8 @@ impl<'a, W> Buffered<'a, W> {
 impl<W: Sink> Buffered<'_, W> {
     ghost use Rattle.text_io.specs.Buffers.{CanWrite, Flushes, Puts, held, watch};
 
-    /// Puts a text after what the piece holds, which goes to the sink first where both would be more than the piece
-    /// has room for; a text longer than the piece goes there directly. It takes no memory. Where the sink fails, it has
+    /// Puts a text after what the piece holds, which goes to the sink first if both would be more than the piece
+    /// has room for; a text longer than the piece goes there directly. It takes no memory. If the sink fails, it has
     /// taken a prefix of what was held and of the text; once it failed, it takes nothing.
     #[inline(always)]
     pub fn put(&mut self, text: &[u8])
@@ -146,7 +146,7 @@ impl<W: Sink> Buffered<'_, W> {
         self.len = end;
     }
 
-    /// Has the sink take what the piece holds, which is empty then. `Failed` comes exactly where the sink failed, now
+    /// Has the sink take what the piece holds, which is empty then. `Failed` comes exactly if the sink failed, now
     /// or in a call before; it has then taken a prefix of what was put.
     pub fn flush(&mut self) -> Result<(), Failed>
         requires { CanWrite W.failed self.old }

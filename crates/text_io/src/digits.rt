@@ -12,7 +12,7 @@ mod decoding;
 mod encoding;
 
 /// Writes the octets that hexadecimal digits of either case spell, two digits for each, and tells whether all characters
-/// are digits. Where they aren't, what the octets then are is not specified.
+/// are digits. If they aren't, what the octets then are is not specified.
 #[inline]
 pub fn decode_to_slice(text: &[u8], octets: &mut [u8]) -> bool
     requires { length text.now ≡ 2 * length octets.old }

@@ -26,7 +26,7 @@ pub trait PutItem<T> {
 
 /// Has the sink take items, one after another, as `how` puts each. Nothing is left in a buffer.
 ///
-/// `Write` comes exactly where a write to the sink failed, after which it is asked for nothing more: the number of its
+/// `Write` comes exactly if a write to the sink failed, after which it is asked for nothing more: the number of its
 /// failures rose by one. `NoMemory` and `Ok` leave that number. After either fault the sink has taken a prefix of what
 /// is written of the items, perhaps nothing.
 pub fn write_each<W: Sink, T, P: PutItem<T>>(

@@ -12,14 +12,14 @@ pub struct Failed;
 /// A place that takes octets and counts its failures. Contracts see in it the octets that it has taken, or nothing
 /// of them, and the number of its failures.
 pub trait Sink {
-    // The octets that it has taken, where they are known.
+    // The octets that it has taken, if they are known.
     ghost taken: { Self → Option (List ℕ) };
 
     // How often a write to it failed.
     ghost failed: { Self → ℕ };
 
     /// Takes a prefix of the piece, at least one octet of it, and answers how many octets. `Failed` comes exactly
-    /// where the number of failures rises, by one; it then took none.
+    /// if the number of failures rises, by one; it then took none.
     fn write_some(&mut self, piece: &[u8]) -> Result<usize, Failed>
         requires some { 0 < length piece.now }
         requires few { MayFail (failed self.old) }

@@ -10,7 +10,7 @@ use crate::sink::Failed;
 /// A place that gives octets and counts its failures. Contracts see in it the octets that it has left, or nothing of
 /// them, the number of its failures, and how many reads were made of it.
 pub trait Source {
-    // The octets that it has left, where they are known.
+    // The octets that it has left, if they are known.
     ghost left: { Self → Option (List ℕ) };
 
     // How often a read of it failed.
@@ -20,7 +20,7 @@ pub trait Source {
     ghost reads: { Self → ℕ };
 
     /// Fills a prefix of the buffer, and answers how many octets it has: 0 only at the end. `Failed` comes exactly
-    /// where the number of failures rises, by one; it then gave none.
+    /// if the number of failures rises, by one; it then gave none.
     fn read_some(&mut self, buffer: &mut [u8]) -> Result<usize, Failed>
         requires some { 0 < length buffer.old }
         requires few { MayFail (failed self.old) }

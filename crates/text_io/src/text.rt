@@ -5,7 +5,7 @@ ghost use Rattle.std.specs.Str.Lines.{strip_carriage_return};
 
 use memchr::memchr;
 
-/// The place of the first octet of a text that is this one, counted from 0; `None` where it has none.
+/// The place of the first octet of a text that is this one, counted from 0; `None` if it has none.
 pub fn place_of(octet: u8, text: &[u8]) -> Option<usize>
     ensures { result ≡ position (λ c. c == octet) text.now }
 {

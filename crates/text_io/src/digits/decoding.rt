@@ -7,7 +7,7 @@ ghost use Rattle.text_io.specs.Pairs.{AreDigits, ReadsAt};
 
 use std::simd::prelude::*;
 
-/// Reads digits, two for each octet. `true` comes exactly where all characters are digits; else what the octets then
+/// Reads digits, two for each octet. `true` comes exactly if all characters are digits; else what the octets then
 /// are is not specified.
 pub(crate) fn decode_digits(text: &[u8], octets: &mut [u8]) -> bool
     requires { length text.now ≡ 2 * length octets.old }
@@ -116,7 +116,7 @@ fn are_values(high: u8x16, low: u8x16) -> bool
     ((high | low) & u8x16::splat(0xf0)).reduce_or() == 0
 }
 
-/// The values of digits of either case, and 16 or more where a character is no digit.
+/// The values of digits of either case, and 16 or more if a character is no digit.
 ///
 /// Of what two sums of a character give, the smaller is the value. A digit up to `9` becomes 246 and more, from which 6
 /// and 240 are taken; a letter counts from `A`, of either case, and 10 are added. What is no digit of its own, each sum

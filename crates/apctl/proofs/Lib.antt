@@ -1,4 +1,0 @@
-pub mod FileLemmas
-pub mod InputLemmas
-pub mod PlayedLemmas
-pub mod RunLemmas

@@ -1,6 +1,0 @@
--- All that stands here is the profile's.
-pub mod Faults
-pub mod Files
-pub mod Input
-pub mod PlayedFiles
-pub mod RunFiles

@@ -1,0 +1,3 @@
+pub mod ListedFiles
+pub mod Outcome
+pub mod Rows
