@@ -44,7 +44,7 @@ impl<W: Sink> TakeText<LiveNetworks, Buffered<'_, W>> for PartialLine {
     }
 }
 
-/// Answers the line that these octets and an LF end; where nothing came of it before them, without a copy.
+/// Answers the line that these octets and an LF end; if nothing came of it before them, without a copy.
 fn answer_ended<W: Sink>(
     networks: &mut LiveNetworks,
     partial: &mut PartialLine,

@@ -51,7 +51,7 @@ impl<F: InFace> Model for LiveIn<F> {
 
 impl<F: InFace> LiveIn<F> {
     /// The access point of a configuration without a fault, before anything came, with all the memory that lines or
-    /// records and answers wait in. `NoMemory` where memory ran out.
+    /// records and answers wait in. `NoMemory` if memory ran out.
     pub fn new(alloc: Global, config: RadioConfig) -> Result<LiveIn<F>, NoMemory>
         requires { fault_of config ≡ None }
         ensures { IfOk result (λ live. live ≡ reached (first_moment config) (empty_partial F.face)) }
@@ -66,7 +66,7 @@ impl<F: InFace> LiveIn<F> {
         })
     }
 
-    /// How many lines or records have ended, lines that are skipped and what has a fault too.
+    /// How many lines or records have ended. Lines that are skipped, and what has a fault, count too.
     pub fn ended(&self) -> u64
         ensures { result ≡ self.now.moment.lines }
     {
@@ -93,9 +93,9 @@ impl<F: InFace> LiveIn<F> {
         buffered.flush()
     }
 
-    /// Ends the input, if fewer than 2^62 lines or records ended. It has the sink take the answer to a partial line, of
-    /// which no CR is dropped, or the fault of a partial record, of which nothing is taken. Then the sink takes the
-    /// table of each network in order of place. `Failed` comes exactly if a write of the sink failed, which has then
+    /// Ends the input, if fewer than 2^62 lines or records ended. It writes the answer to a partial line, of which
+    /// no CR is dropped. Of a partial record it takes nothing, and writes its fault. Then it writes the table of each
+    /// network in order of place. `Failed` comes exactly if a write of the sink failed, which has then
     /// taken a prefix of them.
     pub fn end<W: Sink>(mut self, out: &mut W) -> Result<(), Failed>
         requires countable { self.moment.lines < 2 ^ 62 }

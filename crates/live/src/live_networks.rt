@@ -46,7 +46,7 @@ impl Model for LiveNetworks {
 }
 
 impl LiveNetworks {
-    /// The networks of a configuration without a fault, before the first line. `NoMemory` where memory ran out.
+    /// The networks of a configuration without a fault, before the first line. `NoMemory` if memory ran out.
     pub fn new(alloc: Global, config: RadioConfig) -> Result<LiveNetworks, NoMemory>
         requires { fault_of config ≡ None }
         ensures { IfOk result (λ networks. networks ≡ first_moment config) }
@@ -65,7 +65,7 @@ impl LiveNetworks {
         self.lines
     }
 
-    /// Answers the next line, taken without what ends it; `None` where it is too long. Fewer than 2^62 lines ended
+    /// Answers the next line, taken without what ends it; `None` if it is too long. Fewer than 2^62 lines ended
     /// before it.
     pub fn answer_line<W: Sink>(&mut self, line: Option<&[u8]>, out: &mut Buffered<'_, W>)
         requires countable { self.old.lines < 2 ^ 62 }

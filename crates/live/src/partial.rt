@@ -38,7 +38,7 @@ impl Model for PartialLine {
 }
 
 impl PartialLine {
-    /// A line of which nothing came. `NoMemory` where memory ran out.
+    /// A line of which nothing came. `NoMemory` if memory ran out.
     pub fn new(alloc: Global) -> Result<PartialLine, NoMemory>
         ensures { IfOk result (λ partial. partial ≡ Octets []) }
     {
@@ -80,7 +80,7 @@ impl PartialLine {
         !self.too_long && self.octets.is_empty()
     }
 
-    /// The line, where an LF ends it: less a CR at its end. `None` where it is too long.
+    /// The line, if an LF ends it: less a CR at its end. `None` if it is too long.
     pub fn ended(&self) -> Option<&[u8]>
         ensures { line_in (option_map (λ octets. octets.now) result) ≡ ended_with self.now [] }
     {
@@ -90,7 +90,7 @@ impl PartialLine {
         ended_line(self.octets.as_slice())
     }
 
-    /// The line, where the text ends it. `None` where it is too long.
+    /// The line, if the text ends it. `None` if it is too long.
     pub fn whole(&self) -> Option<&[u8]>
         ensures { line_in (option_map (λ octets. octets.now) result) ≡ whole_with self.now }
     {
@@ -101,14 +101,14 @@ impl PartialLine {
     }
 }
 
-/// The line that these octets and an LF are: less a CR at its end. `None` where it is too long.
+/// The line that these octets and an LF are: less a CR at its end. `None` if it is too long.
 pub fn ended_line(octets: &[u8]) -> Option<&[u8]>
     ensures { line_in (option_map (λ octets. octets.now) result) ≡ ended_with (Octets []) octets.now }
 {
     line_of(without_carriage_return(octets))
 }
 
-/// A line of these octets. `None` where they are too many.
+/// A line of these octets. `None` if they are too many.
 fn line_of(octets: &[u8]) -> Option<&[u8]>
     ensures { line_in (option_map (λ octets. octets.now) result) ≡ line_with octets.now }
 {

@@ -28,7 +28,7 @@ pub enum PartialInput {
 }
 
 impl PartialInput {
-    /// An empty partial line or record. `NoMemory` where memory ran out.
+    /// An empty partial line or record. `NoMemory` if memory ran out.
     pub fn new(alloc: Global, face: Face) -> Result<PartialInput, NoMemory>
         ensures { IfOk result (λ partial. partial ≡ empty_partial face) }
     {

@@ -25,7 +25,7 @@ fn record_len(octets: &[u8]) -> Option<usize>
     Some(HEADER_LEN + (usize::from(octets[7]) + 256 * usize::from(octets[8])))
 }
 
-/// The record at the front of these octets, and what follows it. `None` exactly where they are less than a record.
+/// The record at the front of these octets, and what follows it. `None` exactly if they are less than a record.
 #[inline]
 pub fn first_record(octets: &[u8]) -> Option<(&[u8], &[u8])>
     ensures whole { IfSome result (λ r. IsRecord r.0.now × (octets.now ≡ r.0.now ++ r.1.now)) }
@@ -56,7 +56,7 @@ impl Model for PartialRecord {
 }
 
 impl PartialRecord {
-    /// A record of which nothing came. `NoMemory` where memory ran out.
+    /// A record of which nothing came. `NoMemory` if memory ran out.
     pub fn new(alloc: Global) -> Result<PartialRecord, NoMemory>
         ensures { IfOk result (λ partial. partial ≡ []) }
     {

@@ -53,7 +53,7 @@ impl<W: Sink> Deliver<Network, Buffered<'_, W>> for Replying {
     }
 }
 
-/// Has each network, in order of place, take the line of a number where it is an event to it, and puts its reply before
+/// Has each network, in order of place, take the line of a number if it is an event to it, and puts its reply before
 /// the next is asked. Each took fewer than 2^62 events before.
 pub fn reply_all<W: Sink>(
     face: Face,

@@ -30,13 +30,13 @@ impl<F: InFace> LiveIn<F> {
     /// Runs the access point of a configuration. It appends to what `out` has taken how many networks are open, as `ok
     /// N` and LF or as the record `O`. Then it appends the answer to each line or record that a source gives. It reads
     /// a piece only when what ended in the piece before is answered. At the source's end it appends the answer to what
-    /// follows the last LF, if anything does, or the fault of a record that is cut, of which nothing is taken. Last
+    /// follows the last LF, if anything does. Of a record that is cut it takes nothing, and appends its fault. Last
     /// comes the table of each network in order of place.
     ///
-    /// A fault of the configuration is the first one, and `NoMemory` comes where memory ran out before the first read;
-    /// nothing is read or written then. Where it runs out later, nothing ends: the answer says so. `Read` comes where a
+    /// A fault of the configuration is the first one, and `NoMemory` comes if memory ran out before the first read;
+    /// nothing is read or written then. If it runs out later, nothing ends: the answer says so. `Read` comes if a
     /// read of the source failed, or 2^46 were made; what ended is answered then, and no table comes. `Write` comes
-    /// exactly where a write of `out` failed, which has then taken a prefix of what is said of all that was read;
+    /// exactly if a write of `out` failed, which has then taken a prefix of what is said of all that was read;
     /// reading stops there.
     pub fn run<R: Source, W: Sink>(
         alloc: Global,
@@ -108,7 +108,7 @@ impl Beginning for Brand {
     ghost first = { unknown };
 }
 
-/// Reads more of a source. It may be called only where the sink has taken the answers to all that ended in what was
+/// Reads more of a source. It may be called only if the sink has taken the answers to all that ended in what was
 /// read since the beginning.
 fn read_more<B: Beginning, R: Source, W: Sink>(
     input: &mut R,

@@ -1,8 +1,8 @@
 //! Tests of the crate `live`, over its public calls.
 //!
-//! They show, in both faces, what no contract says: that calls succeed where there is memory, that each answer is with
+//! They show, in both faces, what no contract says: that calls succeed if there is memory, that each answer is with
 //! the sink when the source is asked for more, and readers and writers that fail after each octet. Each row of the
-//! tables of docs/PROTOCOL.md on records is met, and each fault but for memory that is refused, which `tests/octets`
+//! tables of docs/FORMATS.md on records is met, and each fault but for memory that is refused, which `tests/octets`
 //! shows, and the end of the clock. They stand beside that crate since a crate with tests is proved twice.
 #![tactic(auto)]
 

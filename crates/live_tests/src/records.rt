@@ -160,7 +160,7 @@ const EXCHANGES: &[(Said, Written)] = &[
     (Said(b'A', NOBODY, ""), Written::Nothing),
 ];
 
-/// What is written where the input ends within the record after those.
+/// What is written if the input ends within the record after those.
 const LAST: &str = "fault L2 record 14\n\
     network 02:00:00:00:00:01 ssid 6c6162\n\
     events 6 clock 1 unread 0 lost 0 kept 0\n\

@@ -44,7 +44,7 @@ impl Sample {
         Ok(())
     }
 
-    /// This is written too, where the input ends.
+    /// This is written too, if the input ends.
     pub(crate) fn end(&mut self, answer: &[u8]) -> Result<(), AllocError> {
         self.written.extend_from_slice(answer)
     }

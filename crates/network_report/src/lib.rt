@@ -7,7 +7,7 @@
 //!
 //! A [`ReportedNetwork`] is what a report tells of such a network, with its frames or, as in a table, without them.
 //!
-//! What a line tells is left to `report`, and where it goes to `text_io`.
+//! What a line tells is left to `report`, and if it goes to `text_io`.
 #![tactic(auto)]
 
 mod frame_slice;

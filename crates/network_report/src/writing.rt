@@ -12,7 +12,7 @@ use text_io::{Buffered, PutItem, ReportFault, Sink, write_each};
 
 /// Has the sink take the report of the networks, whole.
 ///
-/// `Write` comes exactly where a write to the sink failed, and `NoMemory` where memory ran out. After either the sink
+/// `Write` comes exactly if a write to the sink failed, and `NoMemory` if memory ran out. After either the sink
 /// has taken a prefix of the report, perhaps nothing.
 pub fn write_networks<W: Sink>(
     alloc: Global,

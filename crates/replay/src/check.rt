@@ -15,8 +15,8 @@ use text_io::Sink;
 /// Reads a configuration, and appends `ok N` and LF to what `out` has taken, N the number of its networks in decimal
 /// digits.
 ///
-/// A fault of the configuration is the first one, and nothing is written then. `Write` comes exactly where a write of
-/// `out` failed, and `NoMemory` where memory ran out; what was written by then is nothing or a prefix of that line.
+/// A fault of the configuration is the first one, and nothing is written then. `Write` comes exactly if a write of
+/// `out` failed, and `NoMemory` if memory ran out; what was written by then is nothing or a prefix of that line.
 /// `Trace` never comes.
 pub fn check_text<W: Sink>(alloc: Global, config: &[u8], out: &mut W) -> Result<(), TextFault>
     requires { MayFail (W.failed out.old) }

@@ -16,7 +16,7 @@ use trace::{TraceFault, TraceTextFault};
 pub enum TextFault {
     /// The first fault of the configuration.
     Config(ConfigFault),
-    /// The first fault of the trace, where the configuration has none.
+    /// The first fault of the trace, if the configuration has none.
     Trace(TraceFault),
     /// Memory ran out.
     NoMemory,
@@ -29,7 +29,7 @@ pub enum TextFault {
 pub enum StreamFault {
     /// The first fault of the configuration. Nothing was read.
     Config(ConfigFault),
-    /// The first fault of what was read of the trace, where the configuration has none. Reading stopped there.
+    /// The first fault of what was read of the trace, if the configuration has none. Reading stopped there.
     Trace(TraceFault),
     /// Memory ran out.
     NoMemory,

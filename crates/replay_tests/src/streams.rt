@@ -74,7 +74,7 @@ const UNIT_LINE: &str =
     "\nA 08010000 020000000001 02aa00000001 02bb00000001 0000 aaaa03000000 0800 01\n";
 
 /// `run_text` and `run_stream` keep no history, and what they write is the report of the sections that `report_texts`
-/// hands out, also where more lines come than a history may have events.
+/// hands out, also if more lines come than a history may have events.
 #[test]
 fn one_report_with_histories_and_without(rt: HostRuntime) -> Result<(), Fail> {
     let alloc = rt.alloc();

@@ -9,8 +9,8 @@ ghost use Rattle.text_io.specs.Sinks.{MayFail, report_ending};
 use std::alloc::{AllocError, Global};
 use text_io::{ReportFault, Sink, write_all};
 
-/// Has the sink take `ok N` and LF, N this number of networks in decimal digits. `Write` comes exactly where a write to
-/// the sink failed, which has then taken a prefix of the line. `NoMemory` where memory ran out, before any write.
+/// Has the sink take `ok N` and LF, N this number of networks in decimal digits. `Write` comes exactly if a write to
+/// the sink failed, which has then taken a prefix of the line. `NoMemory` if memory ran out, before any write.
 pub fn write_count<W: Sink>(alloc: Global, count: usize, out: &mut W) -> Result<(), ReportFault>
     requires { MayFail (W.failed out.old) }
     ensures ends { Ends (ending_of report_ending result) (Ok (count_line count)) (W.taken out.old) (W.taken out.new) }

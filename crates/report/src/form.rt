@@ -12,7 +12,7 @@ pub trait LineForm {
     // What is written of a line with its LF.
     ghost written: { List ℕ → List ℕ };
 
-    /// Puts a line of these parts, of which the last ends it, and nothing where they are empty. It takes no memory.
+    /// Puts a line of these parts, of which the last ends it, and nothing if they are empty. It takes no memory.
     fn put_line<W: Sink>(out: &mut Buffered<'_, W>, parts: &[&[u8]])
         requires { CanWrite W.failed out.old }
         ensures { Puts (watch W.taken W.failed) out.old out.new (written (flat_map (λ part. part.now) parts.now)) };

@@ -30,8 +30,8 @@ mod sections;
 pub use count::write_count;
 pub use form::{AsText, LineForm};
 pub use lines::{
-    Totals, address_text, put_counts_line, put_counts_line_in, put_end_line, put_end_line_in,
-    put_frame_line, put_network_line, put_network_line_in, put_station_line, put_station_line_in,
+    Totals, address_text, put_counts_line_in, put_end_line, put_end_line_in, put_frame_line,
+    put_network_line_in, put_station_line_in,
 };
 pub use reported::{Reported, put_frames, put_heading_in, put_section_in};
 pub use sections::write_report;

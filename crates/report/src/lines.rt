@@ -1,4 +1,4 @@
-//! The lines of a section, each put into a sink after what came before it, and dropped where the sink failed. None
+//! The lines of a section, each put into a sink after what came before it, and dropped if the sink failed. None
 //! takes memory.
 
 ghost use Rattle.std.specs.Prelude.{◌≡◌, ◌++◌, codes};
@@ -33,14 +33,6 @@ pub struct Totals {
     pub kept: u64,
 }
 
-/// Puts the line of a network's address and name, as text.
-pub fn put_network_line<W: Sink>(out: &mut Buffered<'_, W>, config: &NetConfig)
-    requires { CanWrite W.failed out.old }
-    ensures { Puts (watch W.taken W.failed) out.old out.new (network_line config.now) }
-{
-    put_network_line_in::<AsText, W>(out, config);
-}
-
 /// Puts the line of a network's address and name in a form.
 #[inline]
 pub fn put_network_line_in<F: LineForm, W: Sink>(out: &mut Buffered<'_, W>, config: &NetConfig)
@@ -53,15 +45,6 @@ pub fn put_network_line_in<F: LineForm, W: Sink>(out: &mut Buffered<'_, W>, conf
         &[b"network ", &bssid, b" ssid "],
         config.ssid.as_slice(),
     );
-}
-
-/// Puts the line of a network's counts, as text.
-pub fn put_counts_line<W: Sink>(out: &mut Buffered<'_, W>, totals: &Totals)
-    requires { CanWrite W.failed out.old }
-    ensures { Puts (watch W.taken W.failed) out.old out.new
-        (counts_line totals.now.events (counts_in totals.now)) }
-{
-    put_counts_line_in::<AsText, W>(out, totals);
 }
 
 /// Puts the line of a network's counts in a form.
@@ -94,15 +77,7 @@ pub fn put_counts_line_in<F: LineForm, W: Sink>(out: &mut Buffered<'_, W>, total
     );
 }
 
-/// Puts a station's line as text, or nothing where it is not known.
-pub fn put_station_line<W: Sink>(out: &mut Buffered<'_, W>, row: &StationRow)
-    requires { CanWrite W.failed out.old }
-    ensures { Puts (watch W.taken W.failed) out.old out.new (station_line row.now) }
-{
-    put_station_line_in::<AsText, W>(out, row);
-}
-
-/// Puts a station's line in a form, or nothing where it is not known.
+/// Puts a station's line in a form, or nothing if it is not known.
 #[inline]
 pub fn put_station_line_in<F: LineForm, W: Sink>(out: &mut Buffered<'_, W>, row: &StationRow)
     requires { CanWrite W.failed out.old }

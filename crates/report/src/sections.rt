@@ -13,7 +13,7 @@ use text_io::{Buffered, PutItem, ReportFault, Sink, write_each};
 
 /// Has the sink take the report of the sections, whole. Nothing is left in a buffer.
 ///
-/// `Write` comes exactly where a write to the sink failed, after which it is asked for nothing more: the number of its
+/// `Write` comes exactly if a write to the sink failed, after which it is asked for nothing more: the number of its
 /// failures rose by one. `NoMemory` and `Ok` leave that number. After either fault the sink has taken a prefix of the
 /// report, perhaps nothing.
 pub fn write_report<W: Sink>(

@@ -1,5 +1,5 @@
 -- What the steps of reading a piece rest on.
-use Rattle.std.proofs.Common.{◌≡◌, ℕ, ◌+◌, Bool, true, false, List, [], ◌∷◌, ◌++◌, length, Option, Some, Result, Ok, Err, None, IsOkAnd, MatchOption, MatchResult, OnOk, OnErr, length-append, refl, ap, sym, ◌∙◌, append_assoc, append-nil, arith}
+use Rattle.std.proofs.Common.{◌≡◌, ℕ, ◌+◌, Bool, true, false, List, [], ◌∷◌, ◌++◌, length, Option, Some, Result, Ok, Err, None, IsOkAnd, MatchOption, MatchResult, OnOk, OnErr, length-append, refl, ap, sym, subst, ◌∙◌, append_assoc, append-nil, arith}
 use Rattle.std.specs.Option.{option_to_list}
 use Rattle.std.proofs.lemmas.List.Elements.{All-append}
 use Rattle.std.specs.Str.Lines.{strip_carriage_return}
@@ -143,19 +143,59 @@ remains_fault first piece now end later next was is is' fault s lacks h same =
           ∙ ap (λ (r : ReaderView). record r { ended_lines = next.ended_lines; unfinished = next.unfinished }) s.same;
     }
 
--- either
-pub remains_or : (first : ReaderView) (piece : List ℕ) (now : ReaderView) (end later : List ℕ) (next : ReaderView)
-    (was is is' : RadioConfig → List Line → Type 0) (result : Result Unit (ReadFault TraceFault))
+-- the reader stayed at the line that ended, which said this, and then went on
+pub remains_on : (first : ReaderView) (piece : List ℕ) (now : ReaderView) (end later : List ℕ) (at next : ReaderView)
+    (was is is' : RadioConfig → List Line → Type 0) → Remains first piece now (ended end ++ later) was is
+    → LacksLineFeed end
+    → IsOkAnd (as_list (line_of now.bssids (now.ended_lines + 1) (strip_carriage_return (now.unfinished ++ end))))
+    (λ more. TakesMore more is is')
+    → at ≡ record now { unfinished = at.unfinished } → next ≡ after_line at → Remains first piece next later was is'
+remains_on first piece now end later at next was is is' s lacks takes same on =
+    remains_more first piece now end later next was is is' s lacks takes (on ∙ ap after_line same)
+
+-- the same of a line of which nothing came before
+pub remains_unbroken : (first : ReaderView) (piece : List ℕ) (now : ReaderView) (end later : List ℕ) (at next : ReaderView)
+    (was is is' : RadioConfig → List Line → Type 0) → Remains first piece now (ended end ++ later) was is
+    → LacksLineFeed end → now.unfinished ≡ []
+    → IsOkAnd (as_list (line_of now.bssids (now.ended_lines + 1) (strip_carriage_return end))) (λ more. TakesMore more is is')
+    → at ≡ now → next ≡ after_line at → Remains first piece next later was is'
+remains_unbroken first piece now end later at next was is is' s lacks none takes same on =
+    remains_more first piece now end later next was is is' s lacks
+    (subst
+    (λ (u : List ℕ).
+    IsOkAnd (as_list (line_of now.bssids (now.ended_lines + 1) (strip_carriage_return (u ++ end))))
+    (λ more. TakesMore more is is'))
+    (sym none)
+    takes)
+    (on ∙ ap after_line same)
+
+-- the reader stayed at the line that ended, which has a fault
+pub fault_at : (first : ReaderView) (piece : List ℕ) (now : ReaderView) (end later : List ℕ) (next : ReaderView)
+    (was is is' : RadioConfig → List Line → Type 0) (fault : ReadFault TraceFault)
     → Remains first piece now (ended end ++ later) was is → LacksLineFeed end
-    → Takes result (as_list (line_of now.bssids (now.ended_lines + 1) (strip_carriage_return (now.unfinished ++ end)))) is is'
-    → OnOk result (next ≡ after_line now)
-    → next ≡ record now { ended_lines = next.ended_lines; unfinished = next.unfinished }
-    → MatchResult result (λ _. Remains first piece next later was is')
-    (λ fault. EndsPiece (Err fault) first piece next was is')
-remains_or first piece now end later next was is is' (Ok u) s lacks takes ok same =
-    remains_more first piece now end later next was is is' s lacks takes ok
-remains_or first piece now end later next was is is' (Err fault) s lacks takes ok same =
-    remains_fault first piece now end later next was is is' fault s lacks takes same
+    → IsFaultOf (as_list (line_of now.bssids (now.ended_lines + 1) (strip_carriage_return (now.unfinished ++ end)))) (read_ending fault)
+    → next ≡ record now { unfinished = next.unfinished } → EndsPiece (Err fault) first piece next was is'
+fault_at first piece now end later next was is is' fault s lacks h same =
+    remains_fault first piece now end later next was is is' fault s lacks h
+    (same
+    ∙ ap
+    (λ (n : ℕ). record now { ended_lines = n; unfinished = next.unfinished })
+    (sym (ap (λ (r : ReaderView). r.ended_lines) same)))
+
+-- the same of a line of which nothing came before
+pub fault_unbroken : (first : ReaderView) (piece : List ℕ) (now : ReaderView) (end later : List ℕ) (next : ReaderView)
+    (was is is' : RadioConfig → List Line → Type 0) (fault : ReadFault TraceFault)
+    → Remains first piece now (ended end ++ later) was is → LacksLineFeed end → now.unfinished ≡ []
+    → IsFaultOf (as_list (line_of now.bssids (now.ended_lines + 1) (strip_carriage_return end))) (read_ending fault)
+    → next ≡ now → EndsPiece (Err fault) first piece next was is'
+fault_unbroken first piece now end later next was is is' fault s lacks none h same =
+    fault_at first piece now end later next was is is' fault s lacks
+    (subst
+    (λ (u : List ℕ).
+    IsFaultOf (as_list (line_of now.bssids (now.ended_lines + 1) (strip_carriage_return (u ++ end)))) (read_ending fault))
+    (sym none)
+    h)
+    (same ∙ ap (λ (u : List ℕ). record now { unfinished = u }) (sym (ap (λ (r : ReaderView). r.unfinished) same)))
 
 -- no line ends in the rest
 pub remains_end : (first : ReaderView) (piece : List ℕ) (now : ReaderView) (rest : List ℕ) (next : ReaderView)

@@ -16,8 +16,9 @@ pub fn cut_anywhere()
         → answer_to_all (new_reader (bssids_of config)) pieces ≡ lines_of config (concat pieces) }
 {}
 
-/// The same, piece by piece. A reader that has read a text goes on to the text and a piece; a fault that it answers to
-/// a piece is the first of the text that begins so, whatever comes later; and at the end it gives the last line.
+/// The same, piece by piece. A reader that has read a text, and takes a piece, has read the text with the piece behind
+/// it. A fault that it answers to a piece is the first of the text that begins so, whatever comes later. At the end it
+/// gives the last line.
 pub fn piece_by_piece()
     ensures new { (config : RadioConfig) → HasRead config [] [] (new_reader (bssids_of config)) }
     ensures more { (config : RadioConfig) (text piece : List ℕ) (said more : List Line) (r : ReaderView)

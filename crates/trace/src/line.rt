@@ -14,7 +14,7 @@ use events::LentLine;
 use mac_frame::MacAddr;
 use std::str;
 
-/// What a line says to the networks that have these addresses, in order of place: nothing where it is skipped. It is
+/// What a line says to the networks that have these addresses, in order of place: nothing if it is skipped. It is
 /// taken without its LF, and without a CR directly before that. What it says is lent: its octets stand in the buffer
 /// until the next line is read there, and no memory is taken.
 ///
@@ -104,7 +104,7 @@ fn address_of(word: &[u8]) -> Option<MacAddr>
 }
 
 /// The place of the first network that has an address, of networks that have these in order of place, counted from 0;
-/// `None` where none has it.
+/// `None` if none has it.
 #[inline]
 pub fn place_with(address: MacAddr, bssids: &[MacAddr]) -> Option<usize>
     ensures { result ≡ place_with address bssids.now }

@@ -42,7 +42,7 @@ impl Model for LineBuffer {
 }
 
 impl LineBuffer {
-    /// The memory. `NoMemory` where there is none.
+    /// The memory. `NoMemory` if there is none.
     pub fn new(alloc: Global) -> Result<LineBuffer, NoMemory> {
         Ok(LineBuffer {
             octets: vec![in alloc; 0; MAX_OCTETS]?,
@@ -84,7 +84,7 @@ fn read_octets<'a>(
     Err(LineFault::NotHexadecimal)
 }
 
-/// The characters of a text that are no spaces, put into a piece of memory; `None` where they are more than a line may
+/// The characters of a text that are no spaces, put into a piece of memory; `None` if they are more than a line may
 /// have. What stands between two spaces is put there many characters at a time, as long as there is room for so many.
 fn gather<'a>(text: &[u8], memory: &'a mut [u8]) -> Option<&'a [u8]>
     requires { length memory.old ≡ MAX_DIGITS }

@@ -64,7 +64,7 @@ impl Model for LineReader {
 }
 
 impl LineReader {
-    /// The reader of a text of which nothing came, for the networks of a configuration. `NoMemory` where memory ran
+    /// The reader of a text of which nothing came, for the networks of a configuration. `NoMemory` if memory ran
     /// out.
     pub fn new(alloc: Global, config: &RadioConfig) -> Result<LineReader, NoMemory>
         ensures { IfOk result (λ reader. reader ≡ new_reader (bssids_of config.now)) }
@@ -79,13 +79,13 @@ impl LineReader {
         })
     }
 
-    /// Takes the next piece of the text, and lends, one after another, what the lines say that end in it, of which the
-    /// first may have begun before it. What follows the last LF becomes the unfinished line. It takes memory for that
-    /// alone.
+    /// Takes the next piece of the text, and lends what the lines say that end in it, one after another. The first of
+    /// them may have begun before the piece. What follows the last LF becomes the unfinished line. It takes memory for
+    /// that alone.
     ///
     /// A line with a fault is the answer, and none after it is lent; those before it were. An octet after 1,000,000
     /// lines is `L5` in the line after them, whatever it is. From then on each call answers the same fault. `NoMemory`
-    /// where memory ran out, here or with whoever takes the lines; of the reader nothing is known then.
+    /// if memory ran out, here or with whoever takes the lines; of the reader nothing is known then.
     pub fn take_piece<T: TakeLines>(
         &mut self,
         piece: &[u8],
@@ -101,10 +101,10 @@ impl LineReader {
         self.take_unless_met(piece, lines)
     }
 
-    /// Ends the text, and lends what the unfinished line says, of which no CR is dropped; nothing where it is empty or
-    /// skipped. It is empty then, and where it was not it counts as one more that ended.
+    /// Ends the text, and lends what the unfinished line says, of which no CR is dropped; nothing if it is empty or
+    /// skipped. It is empty then, and if it was not it counts as one more that ended.
     ///
-    /// A line with a fault gives its first, and so does each call from then on. `NoMemory` where whoever takes the line
+    /// A line with a fault gives its first, and so does each call from then on. `NoMemory` if whoever takes the line
     /// has none; the reader is then as it was.
     pub fn take_end<T: TakeLines>(&mut self, lines: &mut T) -> Result<(), TraceTextFault>
         ensures takes { Takes result (as_list (answer_to_end self.old))
@@ -121,7 +121,7 @@ impl LineReader {
 
     /// Takes a text that is there whole, and lends, one after another, what its lines say.
     ///
-    /// A text with a fault gives the first; the lines before it were lent. `NoMemory` where memory ran out, here or with
+    /// A text with a fault gives the first; the lines before it were lent. `NoMemory` if memory ran out, here or with
     /// whoever takes the lines.
     pub fn take_text<T: TakeLines>(
         mut self,
@@ -138,9 +138,9 @@ impl LineReader {
 
     /// Takes the next piece of the text, and gives what the lines say that end in it, each with memory of its own.
     ///
-    /// A piece is judged whole: where a line that ends in it has a fault, that is the answer, as [`Self::take_piece`]
+    /// A piece is judged whole: if a line that ends in it has a fault, that is the answer, as [`Self::take_piece`]
     /// tells it, and the lines before it are not given. From then on each call answers the same fault, and takes no
-    /// memory. `NoMemory` where memory ran out; the reader is then as it was, and the piece counts as not taken.
+    /// memory. `NoMemory` if memory ran out; the reader is then as it was, and the piece counts as not taken.
     pub fn feed(&mut self, piece: &[u8]) -> Result<Vec<Line>, TraceTextFault>
         ensures exact { Gives (λ lines. lines.items) read_ending result (answer_to self.old piece.now) }
         ensures after { Leaves result self.old (after_piece self.old piece.now) self.new }
@@ -154,7 +154,7 @@ impl LineReader {
         read
     }
 
-    /// Ends the text as [`Self::take_end`] does, and gives the line with memory of its own. `NoMemory` where memory ran
+    /// Ends the text as [`Self::take_end`] does, and gives the line with memory of its own. `NoMemory` if memory ran
     /// out; the reader is then as it was.
     pub fn end(&mut self) -> Result<Option<Line>, TraceTextFault>
         ensures exact { Gives (λ said. said) read_ending result (answer_to_end self.old) }
@@ -212,7 +212,7 @@ impl LineReader {
         }
     }
 
-    /// What the lines say that end in a piece. Where there is a fault or memory ran out, the reader is as it was.
+    /// What the lines say that end in a piece. If there is a fault or memory ran out, the reader is as it was.
     fn read_piece(&mut self, piece: &[u8]) -> Result<Vec<Line>, TraceTextFault>
         requires { LacksLineFeed self.old.unfinished }
         ensures exact { Gives (λ lines. lines.items) read_ending result
@@ -249,54 +249,9 @@ impl LineReader {
         cut_text(self, piece, lines, &mut ())
     }
 
-    /// Lends what the unfinished line says, which ends with these octets and an LF. The reader goes on to the line
-    /// after it.
+    /// Lends what a line says of which nothing came before these octets and an LF. The reader stays at that line.
     #[inline(always)]
-    fn take_ended<T: TakeLines>(
-        &mut self,
-        octets: &[u8],
-        lines: &mut T,
-    ) -> Result<(), TraceTextFault>
-        requires unfinished { LacksLineFeed self.old.unfinished }
-        requires lacks { LacksLineFeed octets.now }
-        ensures takes { Takes result (as_list (line_of self.old.bssids (self.old.ended_lines + 1)
-            (strip_carriage_return (self.old.unfinished ++ octets.now))))
-            (λ c said. T.has_taken c said lines.old) (λ c said. T.has_taken c said lines.new) }
-        ensures ok { OnOk result (self.new ≡ after_line self.old) }
-        ensures keeps { self.new ≡ record self.old
-            { ended_lines = self.new.ended_lines; unfinished = self.new.unfinished } }
-    {
-        self.take_next(octets, lines)?;
-        self.go_on();
-        Ok(())
-    }
-
-    /// Lends what the unfinished line says, which ends with these octets and an LF. The reader stays at that line, of
-    /// which these octets may have come then.
-    #[inline(always)]
-    fn take_next<T: TakeLines>(
-        &mut self,
-        octets: &[u8],
-        lines: &mut T,
-    ) -> Result<(), TraceTextFault>
-        requires unfinished { LacksLineFeed self.old.unfinished }
-        requires lacks { LacksLineFeed octets.now }
-        ensures takes { Takes result (as_list (line_of self.old.bssids (self.old.ended_lines + 1)
-            (strip_carriage_return (self.old.unfinished ++ octets.now))))
-            (λ c said. T.has_taken c said lines.old) (λ c said. T.has_taken c said lines.new) }
-        ensures within { OnOk result (self.old.ended_lines < MAX_LINES) }
-        ensures keeps { self.new ≡ record self.old { unfinished = self.new.unfinished } }
-    {
-        if self.unfinished.is_empty() {
-            self.take_whole(octets, lines)
-        } else {
-            self.take_joined(octets, lines)
-        }
-    }
-
-    /// The same where nothing of the line came before.
-    #[inline(always)]
-    fn take_whole<T: TakeLines>(
+    fn take_unbroken<T: TakeLines>(
         &mut self,
         octets: &[u8],
         lines: &mut T,
@@ -318,7 +273,7 @@ impl LineReader {
         )
     }
 
-    /// The same where some of the line came before. It is put together in the memory that it stands in already.
+    /// The same if some of the line came before. It is put together in the memory that it stands in already.
     fn take_joined<T: TakeLines>(
         &mut self,
         octets: &[u8],
@@ -400,7 +355,15 @@ impl<T: TakeLines> TakeText<T, ()> for LineReader {
 
     #[inline(always)]
     fn end_line(&mut self, octets: &[u8], lines: &mut T, _: &mut ()) -> Result<(), TraceTextFault> {
-        self.take_ended(octets, lines)
+        if self.unfinished.is_empty() {
+            self.take_unbroken(octets, lines)?;
+            self.go_on();
+            Ok(())
+        } else {
+            self.take_joined(octets, lines)?;
+            self.go_on();
+            Ok(())
+        }
     }
 
     #[inline(always)]
@@ -433,7 +396,7 @@ fn take_numbered<T: TakeLines>(
     }
 }
 
-/// Whether a line may begin with these octets after those that have ended: the fault of a line too many, where there is
+/// Whether a line may begin with these octets after those that have ended: the fault of a line too many, if there is
 /// an octet.
 #[inline]
 fn may_begin(ended_lines: u32, octets: &[u8]) -> Result<(), TraceTextFault>

@@ -14,7 +14,7 @@ pub trait TakeLines {
     // It has taken these lines, as the networks of a configuration.
     ghost has_taken: { RadioConfig → List Line → Self → Type 0 };
 
-    /// Takes a line after the others. `NoMemory` where memory ran out.
+    /// Takes a line after the others. `NoMemory` if memory ran out.
     fn take_line(&mut self, line: LentLine<'_>) -> Result<(), NoMemory>
         ensures { (c : RadioConfig) (said : List Line) → has_taken c said self.old
             → OnOk result (has_taken c (said ++ line_of line.entry ∷ []) self.new) };
@@ -49,7 +49,7 @@ impl OwnedLines {
     }
 }
 
-/// A line with a copy of the octets that were lent. `NoMemory` where memory ran out.
+/// A line with a copy of the octets that were lent. `NoMemory` if memory ran out.
 fn copy(alloc: Global, line: LentLine<'_>) -> Result<Line, NoMemory>
     ensures { IfOk result (λ copy. copy ≡ line_of line.entry) }
 {

@@ -5,8 +5,8 @@ use events::{Counts, Event, Section, StationRow};
 use fixtures::{lab, octets};
 use mac_frame::{List, MacAddr, Octets};
 use report::{
-    Totals, put_counts_line, put_end_line, put_frame_line, put_network_line, put_station_line,
-    write_report,
+    AsText, Totals, put_counts_line_in, put_end_line, put_frame_line, put_network_line_in,
+    put_station_line_in, write_report,
 };
 use station_state::Standing;
 use std::alloc::Global;
@@ -132,7 +132,7 @@ impl<T: Read> Read for RefusesOnce<T> {
     }
 }
 
-/// A write that was refused is a failure at once, also where the next one would be taken.
+/// A write that was refused is a failure at once, also if the next one would be taken.
 #[test]
 fn a_refused_write_is_not_tried_again(rt: HostRuntime) -> Result<(), Fail> {
     let alloc = rt.alloc();
@@ -198,12 +198,12 @@ fn put_lines<W: Sink>(out: &mut Buffered<'_, W>, config: &NetConfig) -> Result<(
         lost: 4,
         kept: 5,
     };
-    put_network_line(out, config);
-    put_counts_line(out, &totals);
-    put_station_line(out, &station(Standing::Authenticated, 1));
-    put_station_line(out, &station(Standing::Unknown, 2));
-    put_station_line(out, &station(Standing::Associated, 3));
-    put_station_line(out, &station(Standing::Associated, 4));
+    put_network_line_in::<AsText, W>(out, config);
+    put_counts_line_in::<AsText, W>(out, &totals);
+    put_station_line_in::<AsText, W>(out, &station(Standing::Authenticated, 1));
+    put_station_line_in::<AsText, W>(out, &station(Standing::Unknown, 2));
+    put_station_line_in::<AsText, W>(out, &station(Standing::Associated, 3));
+    put_station_line_in::<AsText, W>(out, &station(Standing::Associated, 4));
     put_frame_line(out, b"air ", &[1, 0x23]);
     put_frame_line(out, b"wire ", &[0, 0xff]);
     put_frame_line(out, b"wire ", &[]);

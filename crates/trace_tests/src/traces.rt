@@ -14,7 +14,7 @@ const CONFIGURATION: &[u8] = b"version = 2\nchannel = 6\ninterval = 100\nqueue =
     [[network]]\nbssid = \"02:AA:00:00:00:02\"\nssid = \"guest\"\nrates = \"820c\"\ndtim = 2\n\
     max_stations = 3\nmax_known = 4\nquota = 5\nmax_events = 6\nrelay = false\naging = true\n";
 
-/// What a line says: its word, the place of its network, which is 0 where it names none, and its octets.
+/// What a line says: its word, the place of its network, which is 0 if it names none, and its octets.
 type Said = (u8, usize, &'static [u8]);
 
 /// Traces for these networks, with each kind of line and of line end, and what their lines say.
@@ -80,7 +80,7 @@ const FAULTS: [(&[Step], Option<&[u8]>, TraceFault); 5] = [
         Some(b"\t\nT\n"),
         TraceFault { code: 2, line: 2 },
     ),
-    // No CR is dropped where no LF follows it.
+    // No CR is dropped if no LF follows it.
     (
         &[(Some(b"T\r\nT\r"), 1)],
         END,

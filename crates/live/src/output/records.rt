@@ -1,4 +1,4 @@
-//! What goes out as records, each put after what came before it, and dropped where the sink failed.
+//! What goes out as records, each put after what came before it, and dropped if the sink failed.
 
 ghost use Rattle.std.specs.Prelude.{◌≡◌, ◌≤◌, ◌*◌, ◌++◌, ◌^◌, ◌-◌, codes, decimal, flat_map, length, min, option_to_list, option_map};
 ghost use Rattle.hex.specs.Hex.{encode_lower};
@@ -69,7 +69,7 @@ fn total_len(parts: &[&[u8]]) -> usize
     len
 }
 
-/// Puts a line for people, of these parts, of which the last ends it; none where they are empty.
+/// Puts a line for people, of these parts, of which the last ends it; none if they are empty.
 fn put_notice<W: Sink>(out: &mut Buffered<'_, W>, parts: &[&[u8]])
     requires { CanWrite W.failed out.old }
     ensures { Puts (watch W.taken W.failed) out.old out.new (told (flat_map (λ part. part.now) parts.now)) }

@@ -1,4 +1,4 @@
-//! What goes out: the lines that answer a line, each put after what came before it, and dropped where the sink failed.
+//! What goes out: the lines that answer a line, each put after what came before it, and dropped if the sink failed.
 
 ghost use Rattle.std.specs.Prelude.{◌≡◌, ◌++◌, codes, decimal, option_to_list, option_map};
 ghost use Rattle.mac_frame.specs.Address.{address_text};

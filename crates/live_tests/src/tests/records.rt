@@ -58,7 +58,7 @@ fn a_record_of_each_kind_is_cut_at_each_octet(rt: HostRuntime) -> Result<(), Fai
     Ok(())
 }
 
-/// What is written of a record of this kind that has no BSSID and no octets, where those of lower kinds came before.
+/// What is written of a record of this kind that has no BSSID and no octets, if those of lower kinds came before.
 fn answer_to_kind(alloc: Global, kind: u8) -> Result<Vec<u8>, Fail> {
     let number = u32::from(kind) + 1;
     match kind {

@@ -25,7 +25,7 @@ pub struct DrainedRadio {
 }
 
 impl DrainedRadio {
-    /// The radio of a configuration without a fault, of which no network took an event. `NoMemory` where memory ran
+    /// The radio of a configuration without a fault, of which no network took an event. `NoMemory` if memory ran
     /// out.
     pub fn new(alloc: Global, config: RadioConfig) -> Result<DrainedRadio, NoMemory>
         requires { fault_of config ≡ None }

@@ -25,7 +25,7 @@ impl Model for FramesLeft {
 }
 
 impl FramesLeft {
-    /// No frame of this many networks. `NoMemory` where memory ran out.
+    /// No frame of this many networks. `NoMemory` if memory ran out.
     pub fn new(alloc: Global, networks: usize) -> Result<FramesLeft, NoMemory>
         ensures { IfOk result (λ sent. sent ≡ none_sent networks) }
     {
@@ -36,7 +36,7 @@ impl FramesLeft {
         Ok(FramesLeft { frames })
     }
 
-    /// A frame of the network at its place left after the others. `NoMemory` where memory ran out.
+    /// A frame of the network at its place left after the others. `NoMemory` if memory ran out.
     pub fn push(&mut self, item: AirItem) -> Result<(), NoMemory>
         requires { item.place < length self.old }
         ensures { OnOk result (self.new ≡ sends_more self.old item.place (item.octets ∷ [])) }

@@ -46,7 +46,7 @@ impl TakeLines for Replay {
 }
 
 impl Replay {
-    /// The networks of a configuration without a fault, none of which took an event. `NoMemory` where memory
+    /// The networks of a configuration without a fault, none of which took an event. `NoMemory` if memory
     /// ran out.
     pub fn new(alloc: Global, config: RadioConfig) -> Result<Replay, NoMemory>
         requires { fault_of config ≡ None }
@@ -57,7 +57,7 @@ impl Replay {
     }
 
     /// Lets each network take what it hears of a line, in order of place, and their frames leave. A network whose
-    /// history is full takes no more. `NoMemory` where memory ran out, now or for an earlier line; what the networks
+    /// history is full takes no more. `NoMemory` if memory ran out, now or for an earlier line; what the networks
     /// took is given up then.
     pub fn take(&mut self, line: LentLine<'_>) -> Result<(), NoMemory>
         ensures taken { OnOk result (IsSomeAnd self.old (λ old. IsSomeAnd self.new (λ new. TakesLine (line_of line.entry) old new))) }
@@ -73,7 +73,7 @@ impl Replay {
         taken
     }
 
-    /// The section of each network, in order of place, with what it took and the frames that left. `NoMemory` where
+    /// The section of each network, in order of place, with what it took and the frames that left. `NoMemory` if
     /// memory ran out, now or for a line.
     pub fn into_sections(self) -> Result<Vec<Section>, NoMemory>
         ensures { IfOk result (λ sections. IsSomeAnd self (λ radio. sections.items ≡ sections_at radio)) }

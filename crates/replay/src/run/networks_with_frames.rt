@@ -31,7 +31,7 @@ impl TakeLines for NetworksWithFrames {
 }
 
 impl NetworksWithFrames {
-    /// The networks of a configuration without a fault, none of which took an event. `NoMemory` where memory ran out.
+    /// The networks of a configuration without a fault, none of which took an event. `NoMemory` if memory ran out.
     pub fn new(alloc: Global, config: RadioConfig) -> Result<NetworksWithFrames, NoMemory>
         requires { fault_of config ≡ None }
         ensures { IfOk result (λ networks. networks.networks ≡ networks_after_lines config []) }
@@ -43,7 +43,7 @@ impl NetworksWithFrames {
 
     /// Has the sink take the report of all networks, whole.
     ///
-    /// `Write` comes exactly where a write to the sink failed, and `NoMemory` where memory ran out. After either the
+    /// `Write` comes exactly if a write to the sink failed, and `NoMemory` if memory ran out. After either the
     /// sink has taken a prefix of the report, perhaps nothing.
     pub fn write<W: Sink>(&self, alloc: Global, out: &mut W) -> Result<(), ReportFault>
         requires { MayFail (W.failed out.old) }

@@ -30,9 +30,9 @@ const MAX_READS: u32 = u32::MAX;
 /// `out` has taken. It is what [`crate::run_text`] appends for the same texts.
 ///
 /// A fault of the configuration is the first one, and nothing is read then. A fault of the trace is the first of what
-/// was read, and ends reading. `Read` comes where a read of the source failed, or 4,294,967,295 reads were made; no
-/// line that ended before has a fault then. Nothing is written by then. `Write` comes exactly where a write of `out`
-/// failed, and `NoMemory` where memory ran out; what was written by then is nothing or, once all was read, a prefix of
+/// was read, and ends reading. `Read` comes if a read of the source failed, or 4,294,967,295 reads were made; no
+/// line that ended before has a fault then. Nothing is written by then. `Write` comes exactly if a write of `out`
+/// failed, and `NoMemory` if memory ran out; what was written by then is nothing or, once all was read, a prefix of
 /// the report.
 pub fn run_stream<R: Source, W: Sink>(
     alloc: Global,

@@ -23,7 +23,7 @@ use trace::{LineReader, TraceTextFault};
 /// the frames that it sends, but no history. Then it appends the report of all networks to what `out` has taken.
 ///
 /// A fault of the configuration or of the trace is the first one, and nothing is written then. `Write` comes exactly
-/// where a write of `out` failed, and `NoMemory` where memory ran out; what was written by then is nothing or a prefix
+/// if a write of `out` failed, and `NoMemory` if memory ran out; what was written by then is nothing or a prefix
 /// of the report.
 pub fn run_text<W: Sink>(
     alloc: Global,
