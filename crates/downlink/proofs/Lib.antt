@@ -10,3 +10,11 @@ pub mod Asleep
 pub mod ReceiverRows
 pub mod Bounds
 pub mod Waits
+pub mod Turns
+pub mod Parts
+pub mod NetworkSteps
+pub mod RadioSteps
+pub mod RadioRuns
+pub mod RadioReceivers
+pub mod NetworkRows
+pub mod RadioRows

@@ -3,6 +3,8 @@ use Rattle.std.specs.Prelude.{ℕ, Bool, List, [], ◌∷◌, ◌++◌, Option, 
 use Rattle.std.specs.Option.{option_map, option_to_list}
 use Rattle.downlink.specs.declared.answer.Answer.{Answer}
 use Rattle.downlink.specs.declared.frame.Way.TheVariants.{IsDropped}
+use Rattle.downlink.specs.declared.station_change.StationChange.{StationChange}
+use Rattle.downlink.specs.declared.station_change.StationChange.TheVariants as changes
 use Rattle.downlink.specs.declared.station_mode.StationMode.TheVariants.{Absent, Awake}
 use Rattle.downlink.specs.Receiver.{Queue, frame_that_comes, after_coming, crowded_out, next_sent, turn_answer}
 use Rattle.downlink.specs.Receiver.{after_turn}
@@ -31,6 +33,15 @@ pub data Call : Type 0 where
   Wakes : Call
   -- it polls, and is answered until this time
   Polls : (until : ℕ) → Call
+
+-- what a station does, as a call
+abbrev pub call_of : StationChange → Call
+call_of changes.Joins = Joins
+call_of changes.Leaves = Leaves
+call_of changes.Dozes = Dozes
+call_of changes.Settles = Settles
+call_of changes.Wakes = Wakes
+call_of (changes.Polls until) = Polls until
 
 abbrev pub step : Queue → Call → Queue
 step q (Comes ticket is_unit until now) = after_coming (frame_that_comes ticket is_unit until now q) q

@@ -2,3 +2,9 @@ pub mod Receiver
 pub mod Places
 pub mod Calls
 pub mod Laws
+pub mod Parts
+pub mod Networks
+pub mod NetworkLaws
+pub mod Radios
+pub mod RadioLaws
+pub mod RadioReceivers

@@ -1,6 +1,6 @@
 -- What waits for one receiver of a network on its way to the air, and what becomes of it (IEEE Std 802.11-2016, 11.2).
 use Rattle.std.specs.Prelude.{ℕ, Bool, true, false, not, ◌&&◌, nat_eq, nat_lt, nat_le, List, [], ◌∷◌, ◌++◌, length}
-use Rattle.std.specs.Prelude.{map, Option, Some, None, if◌then◌else◌}
+use Rattle.std.specs.Prelude.{map, Option, Some, None, is_some, if◌then◌else◌}
 use Rattle.std.specs.Option.{option_map}
 use Rattle.downlink.specs.declared.frame.Frame.{Frame}
 use Rattle.downlink.specs.declared.frame.Sent.{Sent}
@@ -144,8 +144,24 @@ without_by test q =
 abbrev pub next_sent : Queue → Option Sent
 next_sent q = first_by (takes_way true) q.again q.waiting
 
+-- a frame may go when its turn comes
+abbrev pub may_go : Queue → Bool
+may_go q = is_some (next_sent q)
+
 abbrev pub without_next : Queue → Queue
 without_next q = without_by (takes_way true) q
+
+-- a frame goes
+abbrev pub is_sending : Fate → Bool
+is_sending Goes = true
+is_sending GoesAgain = true
+is_sending Acknowledged = false
+is_sending WaitsAgain = false
+is_sending Lost = false
+is_sending HandedBack = false
+is_sending Late = false
+is_sending Crowded = false
+is_sending Left = false
 
 -- a unit that didn't reach its station goes back to the program where that dozes
 abbrev pub unsent_fate : Fate → StationMode → Frame → Fate

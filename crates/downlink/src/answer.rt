@@ -1,5 +1,8 @@
 //! What a call answers of a frame.
 
+ghost use Rattle.std.specs.Prelude.{◌≡◌};
+ghost use Rattle.downlink.specs.Receiver.{is_sending};
+
 use crate::frame::Frame;
 
 /// What became of a frame.
@@ -30,4 +33,13 @@ pub enum Fate {
     Crowded,
     /// It is dropped: its station left.
     Left,
+}
+
+impl Fate {
+    /// Whether the frame goes, for the first time or once more.
+    pub fn is_sending(&self) -> bool
+        ensures { result ≡ is_sending self.now }
+    {
+        matches!(self, Fate::Goes | Fate::GoesAgain)
+    }
 }

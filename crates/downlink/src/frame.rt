@@ -6,11 +6,11 @@ ghost use Rattle.downlink.specs.Receiver.{goes};
 /// A frame that came for a receiver. The caller keeps the octets.
 #[derive(Clone, Copy, Debug, PartialEq, Eq)]
 pub struct Frame {
-    /// The caller's name for the frame.
+    /// The caller's name for the frame, and for no other one that is held.
     pub ticket: u64,
     /// Whether it is a unit: an MSDU, which waits while its station dozes (11.2.3). Management frames are none.
     pub is_unit: bool,
-    /// From then on it is worth nothing (*profile*).
+    /// After this time it is worth nothing (*profile*). It stays as it was when the frame came.
     pub until: u64,
     /// What is to become of it.
     pub way: Way,

@@ -14,7 +14,8 @@ pub fn in_order()
     ensures { IsInOrder }
 {}
 
-/// Frames wait in the order in which they came, also those that go back or are dropped.
+/// Frames wait in the order in which they came, also those that go back or are dropped, but for the one that waits to
+/// go once more.
 pub fn waits_in_order()
     ensures { WaitsInOrder }
 {}
@@ -30,7 +31,8 @@ pub fn at_most_twice()
     ensures { GoesAtMostTwice }
 {}
 
-/// From when a station says that it dozes until it wakes or joins, at most one unit goes to it for each of its polls.
+/// From when a station says that it dozes until it wakes or joins, no more units go to it for the first time than it
+/// polls.
 pub fn by_polls()
     ensures { GoesByPolls }
 {}

@@ -1,16 +1,24 @@
-//! What waits for one receiver of a network on its way to the air, and what becomes of it (IEEE Std 802.11-2016, 11.2).
+//! What waits on its way to the air, of the receivers of a radio's networks, which of it goes next, and what becomes of
+//! it (IEEE Std 802.11-2016, 11.2).
 //!
-//! It promises that no frame vanishes, that frames go first in the order in which they came, that none goes more than
-//! twice, and that a unit goes to a station that dozes only where the station polled for it. The type to know first is
+//! It promises that each network is what it would be alone ([`alone`]), and that networks share the air by the rule of
+//! `air_share` ([`fair`]). Of each receiver no frame vanishes, frames go first in the order in which they came, and
+//! none goes more than twice. A unit goes to a station that dozes only where the station polled for it. The type to
+//! know first is [`RadioQueue`]. It has for each network a [`NetworkQueue`], whose receivers take turns, each a
 //! [`ReceiverQueue`]. A caller keeps the octets, and knows each [`Frame`] by its ticket.
 //!
-//! Times are numbers that callers bring. Which receiver's turn it is, rates and the radio are left to the callers.
+//! Times are numbers that callers bring, and so is the air that a frame took. Rates and the radio are left to them.
 #![tactic(auto)]
 
 mod answer;
 mod frame;
 mod laws;
+mod network_laws;
+mod network_queue;
+mod radio_laws;
+mod radio_queue;
 mod receiver;
+mod station_change;
 mod station_mode;
 mod waiting;
 
@@ -19,5 +27,14 @@ pub use frame::{Frame, Sent, Way};
 pub use laws::{
     at_most_twice, bounded, by_polls, in_order, nothing_made_up, nothing_vanishes, waits_in_order,
 };
+pub use network_laws::each_receiver_alone;
+pub use network_queue::{NetworkQueue, ReceiverAnswer, Refusal};
+pub use radio_laws::{
+    alone, each_receiver_alone_in_radio, fair, made_one_by_one, prompt, radio_doubles_nothing,
+    radio_holds_few, radio_keeps_order, radio_lets_sleep, radio_loses_nothing,
+    radio_makes_nothing_up, shared_by_the_rule, unmoved_by_others, waits_while_frames_may_go,
+};
+pub use radio_queue::{NetworkAnswer, RadioQueue};
 pub use receiver::ReceiverQueue;
+pub use station_change::StationChange;
 pub use station_mode::StationMode;

@@ -1,20 +1,24 @@
-//! The queue of one receiver of a network: a station, the groups, or those who aren't associated.
+//! The queue of one receiver of a network: a station, or the groups.
 
 ghost use Rattle.std.specs.Prelude.{◌≡◌, map, IfOk, OnOk, OnErr};
 ghost use Rattle.downlink.specs.Receiver.{new_queue, takes_way, way_of, first_by, without_by, unsent_fate};
-ghost use Rattle.downlink.specs.Receiver.{may_go_again, leaving_fate, in_mode, sent_another_way};
+ghost use Rattle.downlink.specs.Receiver.{may_go, may_go_again, leaving_fate, in_mode, sent_another_way};
 ghost use Rattle.downlink.specs.Calls.{Comes, Turn, Told, Returns, Joins, Leaves, Dozes, Settles, Wakes, Polls};
-ghost use Rattle.downlink.specs.Calls.{step, answer};
+ghost use Rattle.downlink.specs.Calls.{step, answer, call_of};
 
 use crate::answer::{Answer, Fate};
 use crate::frame::{Frame, Sent, Way};
+use crate::station_change::StationChange;
 use crate::station_mode::StationMode;
 use crate::waiting::{place_of, place_of_ticket};
 use std::alloc::{AllocError, Global};
 use std::marker::Model;
 
 /// What waits for one receiver, and what went to it. Contracts see it as the record `Queue`. A call answers what became
-/// of a frame by it, and of no other one.
+/// of a frame by it, and of no other one. A caller gives each frame a ticket of its own, until it has left for good.
+/// Who dozes and what a poll brings is of IEEE Std 802.11-2016, 11.2.3; turns, times and bounds are *profile*.
+///
+/// A caller bounds how many frames are out: it asks for no turn while as many are.
 #[derive(Debug, Drop)]
 pub struct ReceiverQueue {
     most: usize,
@@ -58,8 +62,16 @@ impl ReceiverQueue {
         }
     }
 
-    /// A frame comes, and waits behind the others. Where too many wait by it, the oldest is dropped and answered. After
-    /// an error all is as it was.
+    /// Whether a frame may go when its turn comes.
+    pub fn may_go(&self) -> bool
+        ensures { result ≡ may_go self.now }
+    {
+        self.next_by(true).is_some()
+    }
+
+    /// A frame comes, and waits behind the others. It `is_unit` if it is an MSDU. The last time at which it may go is
+    /// `until`, and the time is `now`, both by one clock of the caller. If too many wait by it, the oldest is dropped
+    /// and answered. It refuses only if memory ran out, and then all is as it was (*profile*).
     pub fn comes(
         &mut self,
         ticket: u64,
@@ -120,7 +132,8 @@ impl ReceiverQueue {
     }
 
     /// The first frame with this ticket that went was acknowledged, or nobody acknowledged it. `None` where none is
-    /// out, and then nothing changes.
+    /// out, and then nothing changes. A frame for the groups is told as acknowledged, since nobody acknowledges it:
+    /// else a unit for them goes twice.
     pub fn told(&mut self, ticket: u64, is_acknowledged: bool) -> Option<Answer>
         ensures after { self.new ≡ step self.old (Told ticket is_acknowledged) }
         ensures answer { result ≡ answer self.old (Told ticket is_acknowledged) }
@@ -147,7 +160,8 @@ impl ReceiverQueue {
     }
 
     /// The next frame leaves that won't go: it goes back to the program, since its station fell asleep, or is dropped,
-    /// since its station left. `None` where there is none, and then nothing changes.
+    /// since its station left. `None` where there is none, and then nothing changes. A caller asks until there is none
+    /// before it tells of more: else units go back behind some that came later.
     pub fn returns(&mut self) -> Option<Answer>
         ensures after { self.new ≡ step self.old Returns }
         ensures answer { result ≡ answer self.old Returns }
@@ -156,6 +170,20 @@ impl ReceiverQueue {
         self.remove_by(false);
         let fate = leaving_fate(frame.way);
         Some(Answer { frame, fate })
+    }
+
+    /// The station does this: the same as the call of that name.
+    pub fn change(&mut self, change: StationChange)
+        ensures { self.new ≡ step self.old (call_of change) }
+    {
+        match change {
+            StationChange::Joins => self.joins(),
+            StationChange::Leaves => self.leaves(),
+            StationChange::Dozes => self.dozes(),
+            StationChange::Settles => self.settles(),
+            StationChange::Wakes => self.wakes(),
+            StationChange::Polls { until } => self.polls(until),
+        }
     }
 
     /// The station is associated, and awake.
@@ -174,7 +202,8 @@ impl ReceiverQueue {
     }
 
     /// The station says that it dozes: its units go back to the program, those too that come from now on. Nothing
-    /// changes where it isn't associated.
+    /// changes where it isn't associated. Where it dozes already its last poll isn't answered any more, so a caller
+    /// calls this where a station changes its mode, and not for each frame that says so.
     pub fn dozes(&mut self)
         ensures { self.new ≡ step self.old Dozes }
     {

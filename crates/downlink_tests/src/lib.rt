@@ -5,4 +5,8 @@
 #![tactic(auto)]
 
 #[cfg(test)]
+mod network_tests;
+#[cfg(test)]
+mod radio_tests;
+#[cfg(test)]
 mod receiver_tests;

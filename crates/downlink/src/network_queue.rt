@@ -1,0 +1,218 @@
+//! The queue of a network: its receivers, and whose turn it is among them.
+
+ghost use Rattle.std.specs.Prelude.{◌≡◌, ◌↔◌, ◌+◌, ◌^◌, ◌<◌, ◌≤◌, length, IfSome, IfOk, OnOk, OnErr, IsErrOf, IsTrue};
+ghost use Rattle.std.specs.Option.{option_map};
+ghost use Rattle.downlink.specs.Calls.{Comes, Told, Returns, call_of};
+ghost use Rattle.downlink.specs.Networks.{new_network, first_from, from_after, turn_of, has_next};
+ghost use Rattle.downlink.specs.Networks.{To, TurnOfOne, network_step, network_answer, receiver_answer};
+
+use crate::answer::Answer;
+use crate::receiver::ReceiverQueue;
+use crate::station_change::StationChange;
+use std::alloc::{AllocError, AllocFailed, Global};
+use std::marker::Model;
+
+/// Why a frame isn't taken. The caller has it still.
+#[derive(Clone, Copy, Debug, PartialEq, Eq)]
+pub enum Refusal {
+    /// There is no such receiver.
+    NoReceiver,
+    /// Memory ran out.
+    NoMemory,
+}
+
+impl From<AllocError> for Refusal {
+    ghost use Rattle.std.specs.Prelude.{◌≡◌};
+    ghost use Rattle.downlink.specs.declared.network_queue.Refusal.TheVariants.{NoMemory};
+
+    ghost from_gives = { λ _ refusal. refusal ≡ NoMemory };
+
+    fn from(_refused: AllocError) -> Refusal {
+        Refusal::NoMemory
+    }
+}
+
+/// What a call answers of a frame of a network.
+#[derive(Clone, Copy, Debug, PartialEq, Eq)]
+pub struct ReceiverAnswer {
+    /// The place of the frame's receiver.
+    pub receiver: usize,
+    /// The frame, and what became of it.
+    pub answer: Answer,
+}
+
+/// The receivers of a network, each at a place, with the turns that they take. Contracts see it as the record
+/// `Network`. A call answers what became of one frame, and of no other one. Turns and bounds are *profile*.
+#[derive(Debug, Drop)]
+pub struct NetworkQueue {
+    receivers: Vec<ReceiverQueue>,
+    from: usize,
+}
+
+impl Model for NetworkQueue {
+    ghost use Rattle.downlink.specs.Networks.{Network};
+
+    ghost Value = { Network };
+
+    ghost view = { λ n. record { receivers = n.receivers.items; from = n.from } };
+}
+
+impl NetworkQueue {
+    /// A network with a receiver for each of these numbers: of the frames that may wait for it. Nothing waits, and no
+    /// station is associated.
+    pub fn new(alloc: Global, mosts: &[usize]) -> Result<NetworkQueue, AllocError>
+        ensures { IfOk result (λ network. network ≡ new_network mosts.now) }
+    {
+        let mut receivers = Vec::with_capacity(alloc, mosts.len())?;
+        for most in mosts {
+            receivers.push(ReceiverQueue::new(alloc, *most))?;
+        }
+        Ok(NetworkQueue { receivers, from: 0 })
+    }
+
+    /// How many receivers there are.
+    pub fn receivers(&self) -> usize
+        ensures { result ≡ length self.now.receivers }
+    {
+        self.receivers.len()
+    }
+
+    /// Whether a frame may go, of any receiver.
+    pub fn has_next(&self) -> bool
+        ensures { result ≡ has_next self.now }
+    {
+        self.next_receiver().is_some()
+    }
+
+    /// A frame comes for a receiver, and waits behind the others of that. It `is_unit` if it is an MSDU. The last time
+    /// at which it may go is `until`, and the time is `now`, both by one clock of the caller. If too many wait by it,
+    /// the oldest of them is dropped and answered. `NoReceiver` comes exactly if there is no such receiver, and
+    /// `NoMemory` if memory ran out. After an error all is as it was (*profile*).
+    pub fn comes(
+        &mut self,
+        receiver: usize,
+        ticket: u64,
+        is_unit: bool,
+        until: u64,
+        now: u64,
+    ) -> Result<Option<ReceiverAnswer>, Refusal>
+        ensures after { OnOk result (self.new ≡ network_step self.old (To receiver (Comes ticket is_unit until now))) }
+        ensures answer { IfOk result (λ dropped. dropped
+            ≡ option_map receiver_answer (network_answer self.old (To receiver (Comes ticket is_unit until now)))) }
+        ensures there { IsErrOf result Refusal.NoReceiver ↔ (length self.old.receivers ≤ receiver) }
+        ensures err { OnErr result (self.new ≡ self.old) }
+    {
+        if receiver >= self.receivers.len() {
+            return Err(Refusal::NoReceiver);
+        }
+        let queue = &mut self.receivers[receiver];
+        let dropped = queue.comes(ticket, is_unit, until, now)?;
+        Ok(told_of(receiver, dropped))
+    }
+
+    /// It is the network's turn: the next frame goes of the receiver whose turn it is, unless that frame is too late,
+    /// and then it leaves. After an error all is as it was.
+    pub fn turn(&mut self, now: u64) -> Result<Option<ReceiverAnswer>, AllocError>
+        ensures after { OnOk result (self.new ≡ network_step self.old (TurnOfOne now)) }
+        ensures answer { IfOk result (λ next. next
+            ≡ option_map receiver_answer (network_answer self.old (TurnOfOne now))) }
+        ensures err { OnErr result (self.new ≡ self.old) }
+    {
+        let Some(receiver) = self.next_receiver() else {
+            return Ok(None);
+        };
+        let queue = &mut self.receivers[receiver];
+        let next = queue.turn(now)?;
+        self.from = from_after(self.from, receiver, next);
+        Ok(told_of(receiver, next))
+    }
+
+    /// The first frame of a receiver with this ticket that went was acknowledged, or nobody acknowledged it. `None`
+    /// where none is out, or there is no such receiver, and then nothing changes.
+    pub fn told(
+        &mut self,
+        receiver: usize,
+        ticket: u64,
+        is_acknowledged: bool,
+    ) -> Option<ReceiverAnswer>
+        ensures after { self.new ≡ network_step self.old (To receiver (Told ticket is_acknowledged)) }
+        ensures answer { result
+            ≡ option_map receiver_answer (network_answer self.old (To receiver (Told ticket is_acknowledged))) }
+    {
+        if receiver >= self.receivers.len() {
+            return None;
+        }
+        let queue = &mut self.receivers[receiver];
+        let answer = queue.told(ticket, is_acknowledged);
+        told_of(receiver, answer)
+    }
+
+    /// The next frame of a receiver leaves that won't go. `None` where there is none, or no such receiver, and then
+    /// nothing changes.
+    pub fn returns(&mut self, receiver: usize) -> Option<ReceiverAnswer>
+        ensures after { self.new ≡ network_step self.old (To receiver Returns) }
+        ensures answer { result ≡ option_map receiver_answer (network_answer self.old (To receiver Returns)) }
+    {
+        if receiver >= self.receivers.len() {
+            return None;
+        }
+        let queue = &mut self.receivers[receiver];
+        let answer = queue.returns();
+        told_of(receiver, answer)
+    }
+
+    /// The station at a place does this. `false` where there is no such receiver, and then nothing changes.
+    pub fn change(&mut self, receiver: usize, change: StationChange) -> bool
+        ensures after { self.new ≡ network_step self.old (To receiver (call_of change)) }
+        ensures there { IsTrue result ↔ (receiver < length self.old.receivers) }
+    {
+        if receiver >= self.receivers.len() {
+            return false;
+        }
+        let queue = &mut self.receivers[receiver];
+        queue.change(change);
+        true
+    }
+
+    /// The place of the receiver whose turn it is.
+    fn next_receiver(&self) -> Option<usize>
+        ensures turn { result ≡ turn_of self.now }
+        ensures there { IfSome result (λ receiver. receiver < length self.now.receivers) }
+    {
+        first_from(self.receivers.as_slice(), self.from).or(first_from(
+            self.receivers.as_slice(),
+            0,
+        ))
+    }
+}
+
+/// From a place on the first of these receivers of which a frame may go.
+fn first_from(receivers: &[ReceiverQueue], from: usize) -> Option<usize>
+    ensures first { result ≡ first_from from receivers.now }
+    ensures there { IfSome result (λ place. place < length receivers.now) }
+{
+    for place in from..receivers.len() {
+        if receivers[place].may_go() {
+            return Some(place);
+        }
+    }
+    None
+}
+
+/// From where on the next turn is looked for, after this became of a frame of a receiver: behind it, if the frame went.
+fn from_after(from: usize, receiver: usize, next: Option<Answer>) -> usize
+    requires { receiver + 1 < 2 ^ 64 }
+    ensures { result ≡ from_after from (option_map (λ a. (receiver, a)) next) }
+{
+    match next {
+        Some(answer) if answer.fate.is_sending() => receiver + 1,
+        _ => from,
+    }
+}
+
+/// An answer of a frame of the receiver at a place.
+fn told_of(receiver: usize, answer: Option<Answer>) -> Option<ReceiverAnswer>
+    ensures { result ≡ option_map (λ a. receiver_answer (receiver, a)) answer }
+{
+    answer.map(|answer| ReceiverAnswer { receiver, answer })
+}
