@@ -1,8 +1,8 @@
 //! A map of addresses that keeps them in the order in which they came.
 //!
 //! [`AddressMap`] promises to be a list of addresses with their values: a new address goes last, one that is there keeps
-//! its place, and where one leaves the others keep their order. An address is found by its hash, and by its place, with
-//! no walk over the others, and none moves where one leaves, but for now and then, without memory.
+//! its place, and if one leaves the others keep their order. An address is found by its hash, and by its place, without
+//! a walk over the others. If one leaves, others move only now and then, and that takes no memory.
 //!
 //! What the values are, and how many addresses there may be, is left to its owner. Where each address is found after
 //! how many steps is not proved: who chooses many addresses can choose them so that they collide, and one is found

@@ -1,7 +1,7 @@
 //! The addresses with their values, each found by its hash.
 //!
-//! An address stands in a slot, in the order in which they came. Where the one in the last slot is taken out the slot
-//! goes with it, and any other leaves a hole, so that no address moves. Where holes are many the others are moved
+//! An address stands in a slot, in the order in which they came. If the one in the last slot is taken out the slot
+//! goes with it, and any other leaves a hole, so that no address moves. If holes are many the others are moved
 //! together: that takes no memory, and a few steps for each address that left.
 
 ghost use Rattle.std.specs.Prelude.{◌≡◌, ◌<◌, ◌≤◌, ◌++◌, ◌∷◌, [], ℕ, List, length, slice_get, Some, None};
@@ -80,7 +80,7 @@ impl<V: Copy> AddressMap<V> {
         self.entry_at(place).unwrap()
     }
 
-    /// The same, where there is one. It stands in the slot of its place where none is a hole.
+    /// The same, if there is one. It stands in the slot of its place if none is a hole.
     fn entry_at(&self, place: usize) -> Option<(MacAddr, V)>
         requires { place < length self.now }
         ensures { result ≡ slice_get self.now place }
@@ -92,7 +92,7 @@ impl<V: Copy> AddressMap<V> {
         self.order.entry_at(slots, place)
     }
 
-    /// The value of an address, or `None` where it is not there.
+    /// The value of an address, or `None` if it is not there.
     pub fn get(&self, addr: MacAddr) -> Option<V>
         ensures { result ≡ value_of addr self.now }
     {
@@ -131,7 +131,7 @@ impl<V: Copy> AddressMap<V> {
         Ok(())
     }
 
-    /// Sets the value of an address that is there, and answers the value before. Nothing changes where it is not there.
+    /// Sets the value of an address that is there, and answers the value before. Nothing changes if it is not there.
     pub fn replace(&mut self, addr: MacAddr, value: V) -> Option<V>
         ensures old { result ≡ value_of addr self.old }
         ensures entries { self.new ≡ set_value (bytes_eq addr) self.old value }
@@ -142,7 +142,7 @@ impl<V: Copy> AddressMap<V> {
     }
 
     /// Sets the value of an address that is there to what a function makes of it, and answers the value before. Nothing
-    /// changes where it is not there.
+    /// changes if it is not there.
     pub fn update<F: FnOnce(V) -> V>(&mut self, addr: MacAddr, change: F) -> Option<V>
         requires { F.IsAlwaysCallable change }
         ensures old { result ≡ value_of addr self.old }
@@ -165,7 +165,7 @@ impl<V: Copy> AddressMap<V> {
         before
     }
 
-    /// Takes out an address, and answers the value that it had. Its slot goes too where it is the last one, and else
+    /// Takes out an address, and answers the value that it had. Its slot goes too if it is the last one, and else
     /// stays as a hole.
     fn take_out(&mut self, addr: MacAddr) -> Option<V>
         ensures old { result ≡ value_of addr self.old }
@@ -184,7 +184,7 @@ impl<V: Copy> AddressMap<V> {
         before
     }
 
-    /// Takes holes away where they are many: all, where no slot has an address, and else where they are more than a few
+    /// Takes holes away if they are many: all, if no slot has an address, and else if they are more than a few
     /// and than a third of all slots.
     fn close_up(&mut self)
         ensures { self.new ≡ self.old }
@@ -200,7 +200,7 @@ impl<V: Copy> AddressMap<V> {
         }
     }
 
-    /// Takes all slots away, where none has an address.
+    /// Takes all slots away, if none has an address.
     fn clear(&mut self)
         requires { self.old ≡ [] }
         ensures { self.new ≡ [] }
@@ -230,7 +230,7 @@ fn put_value<V: Copy>(slot: &mut Slot<V>, value: V)
     }
 }
 
-/// The slot of an address and its value, or `None` where it is not there.
+/// The slot of an address and its value, or `None` if it is not there.
 #[inline(always)]
 fn find<V: Copy>(index: &Index, slots: &[Slot<V>], addr: MacAddr) -> Option<(usize, V)>
     requires { AreFound index.now.entries slots.now }

@@ -13,18 +13,18 @@ use std::alloc::Global;
 /// How many places of a row may be gone.
 const MOST_GONE: usize = 64;
 
-/// How many slots are looked at one after another at most: where there are more, a row of them is kept.
+/// How many slots are looked at one after another at most: if there are more, a row of them is kept.
 const FEW_SLOTS: usize = 16;
 
 /// The slots that have an entry, in their order.
 ///
-/// They stand in a row, once there are more than a few. Where the entry of the last slot leaves, the slot leaves the
-/// row. Where another does, its slot stays in the row and its place there is noted as gone; where too many are gone, all
+/// They stand in a row, once there are more than a few. If the entry of the last slot leaves, the slot leaves the
+/// row. If another does, its slot stays in the row and its place there is noted as gone; if too many are gone, all
 /// are taken out of the row at once, from the first of them on. So no more moves than what stands after one that left,
 /// and that once for all that are gone. A place among the entries is found by a search of the few that are gone.
 #[derive(Drop)]
 pub(crate) struct Order {
-    // in ascending order, the slots that have an entry and those whose places here are gone; none where they are few
+    // in ascending order, the slots that have an entry and those whose places here are gone; none if they are few
     pub(crate) row: Vec<usize>,
     // the places in the row whose slots have no entry any more, in ascending order
     pub(crate) gone: Vec<usize>,
@@ -56,7 +56,7 @@ impl Order {
         entry_in(slots, slot)
     }
 
-    /// Makes room for one slot more, and lists all where they are few no longer. After `NoMemory` nothing has changed.
+    /// Makes room for one slot more, and lists all if they are few no longer. After `NoMemory` nothing has changed.
     pub(crate) fn make_room<V: Copy>(&mut self, slots: &[Slot<V>]) -> Result<(), NoMemory>
         ensures listed { MayList self.old.row.items self.old.gone.items slots.now
             → MayList self.new.row.items self.new.gone.items slots.now }
@@ -72,7 +72,7 @@ impl Order {
         Ok(())
     }
 
-    /// Lists all slots that have an entry, where none is listed. After `NoMemory` nothing has changed.
+    /// Lists all slots that have an entry, if none is listed. After `NoMemory` nothing has changed.
     fn list_all<V: Copy>(&mut self, slots: &[Slot<V>]) -> Result<(), NoMemory>
         requires { self.old.row.items ≡ [] }
         ensures { MayList self.new.row.items self.new.gone.items slots.now }
@@ -97,7 +97,7 @@ impl Order {
         }
     }
 
-    /// Whether the slots stand in a row: they do where there are more than a few.
+    /// Whether the slots stand in a row: they do if there are more than a few.
     pub(crate) fn has_row(&self) -> bool
         ensures { IsTrue result ↔ (0 < length self.now.row.items) }
     {
@@ -159,7 +159,7 @@ impl Order {
         self.gone.clear();
     }
 
-    /// Notes the place of a slot in the row as gone, and answers whether it did: not where it isn't there, or where there
+    /// Notes the place of a slot in the row as gone, and answers whether it did: not if it isn't there, or if there
     /// is no room.
     fn note(&mut self, at: usize, slot: usize) -> bool
         ensures row { self.new.row ≡ self.old.row }
@@ -216,9 +216,9 @@ pub(crate) fn entry_in<V: Copy>(slots: &[Slot<V>], slot: usize) -> Option<(MacAd
     *slots.get(slot)?
 }
 
-/// The place in a row of the slot that `place` others stand before, where the places in `gone`, which rise, don't count.
+/// The place in a row of the slot that `place` others stand before, if the places in `gone`, which rise, don't count.
 ///
-/// Before the place `gone[k]` stand `gone[k] - k` that count. So the slot comes after `gone[k]` exactly where that is at
+/// Before the place `gone[k]` stand `gone[k] - k` that count. So the slot comes after `gone[k]` exactly if that is at
 /// most `place`, and one place further on for each such `k`. These numbers never fall, so how many there are is found by
 /// halves.
 fn past(gone: &[usize], place: usize) -> usize

@@ -74,7 +74,7 @@ impl Marks {
         self.words[usize::from(aid / 64)] &= !(1 << (aid % 64));
     }
 
-    /// The least number from 1 on that the set hasn't. `None` only where it has each identifier.
+    /// The least number from 1 on that the set hasn't. `None` only if it has each identifier.
     pub fn least_absent(&self) -> Option<u16>
         ensures first { IfSome result (λ n. 1 ≤ n) }
         ensures absent { IfSome result (λ n. set.contains self.now n ≡ false) }

@@ -68,7 +68,7 @@ impl AidPool {
         self.count
     }
 
-    /// The number that [`AidPool::take`] gives next: the least that is free (*profile*). `None` exactly where as many
+    /// The number that [`AidPool::take`] gives next: the least that is free (*profile*). `None` exactly if as many
     /// are out as the pool hands out at most.
     pub fn least(&self) -> Option<u16>
         ensures none { IsNone result ↔ (set.len self.now.out ≡ self.now.most) }
@@ -81,7 +81,7 @@ impl AidPool {
         self.out.least_absent()
     }
 
-    /// Takes the least number that is free (*profile*), which is out from then on. `None` exactly where as many are out
+    /// Takes the least number that is free (*profile*), which is out from then on. `None` exactly if as many are out
     /// as the pool hands out at most: then nothing changes.
     pub fn take(&mut self) -> Option<u16>
         ensures none { IsNone result ↔ (set.len self.old.out ≡ self.old.most) }

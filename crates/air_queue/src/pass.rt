@@ -88,7 +88,7 @@ impl Model for RadioPass {
 }
 
 impl RadioPass {
-    /// Makes room for `count` frames more in the list of what left (*profile*). `NoMemory` where memory ran out; then
+    /// Makes room for `count` frames more in the list of what left (*profile*). `NoMemory` if memory ran out; then
     /// nothing has changed.
     pub fn reserve(&mut self, count: usize) -> Result<(), NoMemory>
         ensures name { self.new.name ≡ self.old.name }

@@ -38,7 +38,7 @@ impl Model for AirQueue {
 impl AirQueue {
     /// An empty queue of a capacity in frames, 1 to [`MAX_QUEUE`], with a pass for each of this number of networks, 1
     /// to [`MAX_NETWORKS`], in order of place, and the radio's pass (*profile*). Nothing was pushed and nothing left.
-    /// `NoMemory` where memory ran out.
+    /// `NoMemory` if memory ran out.
     pub fn open(
         alloc: Global,
         capacity: u16,
@@ -60,7 +60,7 @@ impl AirQueue {
         Ok((AirQueue { queue }, nets, radio))
     }
 
-    /// Puts a frame at the end of the queue, by its network's pass (*profile*). Where the frame comes back, the pass
+    /// Puts a frame at the end of the queue, by its network's pass (*profile*). If the frame comes back, the pass
     /// has pushed nothing. That the queue was full then is no clause, and shown by a test on one thread alone. It may
     /// wait for other threads. It takes no memory.
     pub fn push<R: Wait>(&self, rt: &R, pass: &mut NetPass, item: AirItem) -> Result<(), AirItem>

@@ -46,7 +46,7 @@ impl Join<Known> for TakeIn {
     ghost spent = { Spent };
 }
 
-/// A push: where it adds, the item's frame is the last that was pushed.
+/// A push: if it adds, the item's frame is the last that was pushed.
 pub struct Push;
 
 impl Outcome<AirItem, Known> for Push {
@@ -57,7 +57,7 @@ impl Lesson<AirItem, Known> for Push {
     ghost fact = { λ v queued. ⊤ };
 }
 
-/// A pop: where it takes, the item is the last that left.
+/// A pop: if it takes, the item is the last that left.
 pub struct Leave;
 
 impl Outcome<AirItem, Known> for Leave {

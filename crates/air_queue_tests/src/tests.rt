@@ -204,7 +204,7 @@ fn an_empty_queue_gives_nothing(rt: HostRuntime) -> Result<(), Fail> {
     Ok(())
 }
 
-/// Pushes a frame of one octet, the network's place, by its pass. Where the frame comes back, it is missing in the end.
+/// Pushes a frame of one octet, the network's place, by its pass. If the frame comes back, it is missing in the end.
 fn push_place<R: Wait>(
     rt: &R,
     alloc: Global,

@@ -19,7 +19,7 @@ pub struct Lane {
     pub waits: bool,
 }
 
-/// Whose turn it is: of those that wait the lane of least debt, and of several the one of lowest place. `None` where
+/// Whose turn it is: of those that wait the lane of least debt, and of several the one of lowest place. `None` if
 /// none waits.
 pub fn choose(lanes: &[Lane]) -> Option<usize>
     ensures exact { result ≡ chosen lanes.now }
@@ -50,7 +50,7 @@ fn first_that_waits(lanes: &[Lane]) -> Option<usize>
 
 /// Serves the lane at a place, whose turn it is, with a frame of this cost in time units of air. Every debt becomes
 /// itself less that lane's, not below 0. That lane's own becomes its scale times the cost, which never overflows.
-/// `false` where it is another's turn or nobody's, and then nothing changes.
+/// `false` if it is another's turn or nobody's, and then nothing changes.
 pub fn served(lanes: &mut [Lane], place: usize, cost: u32) -> bool
     ensures turn { IsTrue result ↔ (chosen lanes.old ≡ Some place) }
     ensures after { OnTrue result (lanes.new ≡ after_turn lanes.old place cost) }
@@ -78,7 +78,7 @@ pub(crate) fn charge(lanes: &mut [Lane], place: usize, cost: u32)
 }
 
 /// Adds the time units of air that a network used beyond what was reckoned: its debt grows by its scale times them.
-/// `false` where the debt would reach 2^64, or where there is no such lane, and then nothing changes.
+/// `false` if the debt would reach 2^64, or if there is no such lane, and then nothing changes.
 pub fn told(lanes: &mut [Lane], place: usize, more: u32) -> bool
     ensures fits { IsTrue result ↔ ((place < length lanes.old)
         × ((lane_at lanes.old place).debt + (lane_at lanes.old place).scale * more < 2 ^ 64)) }

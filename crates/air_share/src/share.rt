@@ -95,7 +95,7 @@ impl Share {
 
     /// Takes out the first frame of the network whose turn it is. Of those of which a frame waits this is the one that
     /// owes least, and of several the one of lowest place. All are forgiven what it owed, and it owes the frame's cost.
-    /// No sum overflows. `None` where nothing waits, and then nothing changes.
+    /// No sum overflows. `None` if nothing waits, and then nothing changes.
     pub fn next(&mut self) -> Option<Turn>
         ensures turn { result ≡ next_turn self.old }
         ensures after { self.new ≡ step self.old Send }
@@ -117,7 +117,7 @@ impl Share {
         })
     }
 
-    /// The network at a place used so many time units of air beyond what was reckoned. `false` where its debt would
+    /// The network at a place used so many time units of air beyond what was reckoned. `false` if its debt would
     /// reach 2^64, and then nothing changes.
     pub fn told(&mut self, place: usize, more: u32) -> bool
         requires { place < length self.old }
@@ -130,7 +130,7 @@ impl Share {
         told(self.lanes.as_mut_slice(), place, more)
     }
 
-    /// Takes out the first frame of the network at a place, which costs it nothing. `None` where none waits, and then
+    /// Takes out the first frame of the network at a place, which costs it nothing. `None` if none waits, and then
     /// nothing changes.
     pub fn drop_first(&mut self, place: usize) -> Option<Waiting>
         requires { place < length self.old }

@@ -11,7 +11,7 @@ ghost use Rattle.air_share.specs.Lanes.{chosen, after_turn, after_telling, lane_
 
 use air_share::Lane;
 
-/// [`air_share::choose`]: the place of the lane whose turn it is, or the number of lanes where none waits.
+/// [`air_share::choose`]: the place of the lane whose turn it is, or the number of lanes if none waits.
 #[unsafe(no_mangle)]
 pub extern "C" fn air_share_choose(lanes: &[Lane]) -> usize
     ensures { result ≡ unwrap_or (chosen lanes.now) (length lanes.now) }

@@ -15,7 +15,7 @@ use mac_frame::MacAddr;
 
 impl RadioConfig {
     /// The first fault, in the order `C4` to `C12`; the faults from `C8` on are tried network by network. It looks at
-    /// values alone: that a text has every key, and no other, is for the reader of the text. `None` where the
+    /// values alone: that a text has every key, and no other, is for the reader of the text. `None` if the
     /// configuration is sound (*profile*).
     pub fn check(&self) -> Option<ConfigFault>
         ensures { result ≡ fault_of self.now }

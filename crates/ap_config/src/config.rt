@@ -27,7 +27,7 @@ pub struct NetConfig {
     pub quota: u32,
     /// The most events that it takes, within [`crate::EVENT_LIMITS`].
     pub max_events: u32,
-    /// Whether a station's unit may go to another station or to the group on the air; where not, it goes on the wire.
+    /// Whether a station's unit may go to another station or to the group on the air; if not, it goes on the wire.
     pub relay: bool,
     /// Whether a unit is dropped that was kept for a station for more beacon intervals than its listen interval
     /// (9.4.1.6).
@@ -48,7 +48,7 @@ pub struct RadioConfig {
 }
 
 impl RadioConfig {
-    /// The address of each network, in order of place (IEEE Std 802.11-2016, 9.2.4.3.4). `NoMemory` where memory ran
+    /// The address of each network, in order of place (IEEE Std 802.11-2016, 9.2.4.3.4). `NoMemory` if memory ran
     /// out.
     pub fn bssids(&self, alloc: Global) -> Result<Vec<MacAddr>, NoMemory>
         ensures { IfOk result (λ bssids. bssids.items ≡ map (λ n. n.bssid) self.now.networks) }

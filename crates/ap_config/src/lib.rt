@@ -1,7 +1,7 @@
 //! What a radio and its networks are configured to be, and which configurations are sound (*profile*).
 //!
 //! Two types to know first: a [`RadioConfig`] is a radio with its [`NetConfig`]s, one for each network. Its `check`
-//! promises the first fault, in a fixed order, and none exactly where the configuration is sound. A [`Setting`] is what
+//! promises the first fault, in a fixed order, and none exactly if the configuration is sound. A [`Setting`] is what
 //! one network sees of it: its own configuration, and the channel and the beacon interval of its radio.
 //!
 //! Reading a configuration from a text is left to the crates above.

@@ -31,10 +31,10 @@ pub fn read_auth(body: &[u8]) -> Result<(u16, u16), Unread>
     Ok((number_at(body, 0), number_at(body, 2)))
 }
 
-/// The status of a request to authenticate by this algorithm (9.4.1.1), at this step (9.4.1.2), where there is room for
-/// the station or not (9.4.1.9). The first of these that applies, in this order (*profile*):
-/// [`UNSUPPORTED_AUTH_ALGORITHM`] where the algorithm isn't 0, Open System, [`TRANSACTION_SEQUENCE_ERROR`] where the
-/// step isn't 1, [`REFUSED`] where there is no room, [`SUCCESS`].
+/// The status (9.4.1.9) of a request to authenticate by this algorithm (9.4.1.1), at this step (9.4.1.2). `room` says
+/// whether there is room for the station. The first of these that applies, in this order (*profile*):
+/// [`UNSUPPORTED_AUTH_ALGORITHM`] if the algorithm isn't 0, Open System, [`TRANSACTION_SEQUENCE_ERROR`] if the
+/// step isn't 1, [`REFUSED`] if there is no room, [`SUCCESS`].
 pub fn auth_status(algorithm: u16, step: u16, room: bool) -> u16
     ensures { result ≡ auth_status algorithm step room }
 {

@@ -24,7 +24,7 @@ const REASSOCIATION_LEN: usize = ASSOCIATION_LEN + ADDRESS_LEN;
 const LEN_WITHOUT_RATES: usize = HEADER_LEN + 6 + 2 * 2;
 
 /// What the body of a request to associate, or `again` to reassociate, says (9.3.3.6, 9.3.3.8): the listen interval in
-/// beacon intervals (9.4.1.6), and the elements. The other fixed fields are ignored. [`Unread::Body`] where there are
+/// beacon intervals (9.4.1.6), and the elements. The other fixed fields are ignored. [`Unread::Body`] if there are
 /// fewer octets than the fixed fields have, or what follows them is no list of elements. It takes no memory.
 pub fn read_assoc(again: bool, body: &[u8]) -> Result<(u16, Elements<'_>), Unread>
     ensures { result ≡ assoc_of again body.now }
@@ -51,8 +51,8 @@ fn fixed_len(again: bool) -> usize
 
 /// The status of a request to associate or reassociate with these elements (9.4.1.9), by the network's SSID, its rates,
 /// as octets of Supported Rates (9.4.2.3), and whether there is room for the station. The first of these that applies,
-/// in this order (*profile*): [`REFUSED`] where the elements don't name the SSID, [`REFUSED_BASIC_RATES_MISMATCH`]
-/// where they lack a basic rate, [`DENIED_NO_MORE_STAS`] where there is no room, [`SUCCESS`].
+/// in this order (*profile*): [`REFUSED`] if the elements don't name the SSID, [`REFUSED_BASIC_RATES_MISMATCH`]
+/// if they lack a basic rate, [`DENIED_NO_MORE_STAS`] if there is no room, [`SUCCESS`].
 pub fn assoc_status(ssid: &[u8], rates: &[u8], room: bool, elements: &Elements<'_>) -> u16
     ensures { result ≡ assoc_status ssid.now rates.now room elements.now }
 {
@@ -85,7 +85,7 @@ fn has_basic_rates(rates: &[u8], elements: &Elements<'_>) -> bool
 
 /// Appends the whole answer to a request to associate, or `again` to reassociate, with this status, to the station
 /// `to`, from the network `bss` (9.3.3.7, 9.3.3.9). The sequence number `seq` is below 4096. The association identifier
-/// `aid`, 0 to 2007, is written with the two high bits set (9.4.1.8) where the status is [`SUCCESS`]; else the AID
+/// `aid`, 0 to 2007, is written with the two high bits set (9.4.1.8) if the status is [`SUCCESS`]; else the AID
 /// field is 0 (*profile*). There are 1 to 16 rates, as octets of Supported Rates (9.4.2.3): the first 8 go into that
 /// element, the others into Extended Supported Rates (9.4.2.13). After `NoMemory` `out` is as it was.
 pub fn write_assoc(
@@ -128,7 +128,7 @@ fn fixed_fields(status: u16, aid: u16) -> [u8; 6]
     [a, b, c, d, e, f]
 }
 
-/// The AID field of an answer with this status (9.4.1.8): 0 where the request is refused (*profile*).
+/// The AID field of an answer with this status (9.4.1.8): 0 if the request is refused (*profile*).
 fn aid_field(status: u16, aid: u16) -> u16
     requires { aid ≤ 2007 }
     ensures { result ≡ aid_field status aid }

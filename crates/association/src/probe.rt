@@ -8,7 +8,7 @@ use elements::{Elements, SSID};
 use mac_frame::Unread;
 
 /// The SSID that the body of a probe request names, if it names one (9.3.3.10, 9.4.2.2): of any length, empty for the
-/// wildcard SSID. [`Unread::Body`] where the body is no list of elements. It takes no memory.
+/// wildcard SSID. [`Unread::Body`] if the body is no list of elements. It takes no memory.
 #[inline(always)]
 pub fn read_probe(body: &[u8]) -> Result<Option<&[u8]>, Unread>
     ensures { MatchResult result

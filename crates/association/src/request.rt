@@ -113,7 +113,7 @@ pub fn sender(request: &Request<'_>) -> MacAddr
     }
 }
 
-/// The request that a string of octets is for the network `bss` (9.3). Where it is none, its first fault in the order
+/// The request that a string of octets is for the network `bss` (9.3). If it is none, its first fault in the order
 /// of [`Unread`] (*profile*). It takes no memory.
 pub fn read(bss: MacAddr, frame: &[u8]) -> Result<Request<'_>, Unread>
     // What is read is this request; what is this request is read.

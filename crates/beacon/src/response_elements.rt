@@ -21,7 +21,7 @@ const MAX_SUPPORTED_RATES: usize = 8;
 const MAX_LEN: usize = MAX_SSID_LEN + 2 * MAX_SUPPORTED_RATES + 1 + 4 * 2;
 
 /// The elements of a network's probe responses, put together once: SSID, Supported Rates, DSSS Parameter Set, and
-/// Extended Supported Rates where there are more than eight rates (9.3.3.11). Contracts see the octets.
+/// Extended Supported Rates if there are more than eight rates (9.3.3.11). Contracts see the octets.
 #[derive(Debug, Drop)]
 pub struct ResponseElements {
     octets: [u8; MAX_LEN],
@@ -58,7 +58,7 @@ impl ResponseElements {
         elements
     }
 
-    /// Appends the first eight rates, or all where there are fewer (9.4.2.3), for which there is room.
+    /// Appends the first eight rates, or all if there are fewer (9.4.2.3), for which there is room.
     fn append_supported_rates(&mut self, rates: &[u8])
         requires room { length self.old ≤ 47 }
         ensures rates { self.new ≡ self.old ++ supported_rates rates.now }

@@ -5,7 +5,7 @@
 //! networks reaches another, and that no frame is lost or doubled on its way.
 //!
 //! What one network does stands in `network`, what goes in and comes out in `events`, and which configurations are
-//! sound in `ap_config`; what callers of a radio need of these is given on here. When frames leave, and where events
+//! sound in `ap_config`. What callers of a radio need of these is re-exported here. When frames leave, and where events
 //! come from, is left to the crates above.
 #![tactic(auto)]
 

@@ -53,7 +53,7 @@ impl Model for Radio {
 
 impl Radio {
     /// The networks of a configuration, none of which took an event, and an empty queue. `Config` with the first fault
-    /// exactly where the configuration has one, which is tested first; `NoMemory` where memory ran out.
+    /// exactly if the configuration has one, which is tested first; `NoMemory` if memory ran out.
     pub fn new(alloc: Global, config: RadioConfig) -> Result<Radio, OpenFault>
         ensures fault { (fault : ConfigFault)
             → (result ≡ Err (OpenFault.Config fault)) ↔ (fault_of config ≡ Some fault) }
@@ -67,7 +67,7 @@ impl Radio {
     }
 
     /// The networks of a configuration in which `check` finds no fault, none of which took an event, and an empty
-    /// queue. `NoMemory` where memory ran out.
+    /// queue. `NoMemory` if memory ran out.
     pub fn of_checked(alloc: Global, config: RadioConfig) -> Result<Radio, NoMemory>
         requires sound { fault_of config ≡ None }
         ensures opened { IfOk result (λ radio. radio ≡ fresh_radio config) }
@@ -111,7 +111,7 @@ impl Radio {
 
     /// Lets the network at a place, below [`Radio::networks`], take an event, as [`Bss::take`] does: it answers the
     /// event's number in that network's history, from 0, and frames that it sends wait after the others. `HistoryFull`
-    /// exactly where that history is full, which is tested first; `NoMemory` where memory ran out. After either
+    /// exactly if that history is full, which is tested first; `NoMemory` if memory ran out. After either
     /// nothing has changed. The other networks and the queue stay as they were.
     pub fn take(&mut self, place: usize, event: Event) -> Result<u32, Refusal>
         requires { place < length self.old.config.networks }
@@ -127,8 +127,8 @@ impl Radio {
         self.networks[place].take(event)
     }
 
-    /// Moves the first waiting frame of the network at a place, below [`Radio::networks`], to the end of the queue.
-    /// `Nothing` exactly where none of its frames waits; else `QueueFull` exactly where the queue is full. After either
+    /// Moves the first waiting frame of a network to the end of the queue. Its place is below [`Radio::networks`].
+    /// `Nothing` exactly if none of its frames waits; else `QueueFull` exactly if the queue is full. After either
     /// nothing has changed. Takes no memory.
     pub fn hand(&mut self, place: usize) -> Handed
         requires { place < length self.old.config.networks }
@@ -157,7 +157,7 @@ impl Radio {
         }
     }
 
-    /// Takes the first frame out of the queue: it leaves. `None` exactly where the queue is empty. Nothing else
+    /// Takes the first frame out of the queue: it leaves. `None` exactly if the queue is empty. Nothing else
     /// changes. Takes no memory.
     pub fn leave(&mut self) -> Option<AirItem>
         ensures first { self.old.queue ≡ option_to_list result ++ self.new.queue }

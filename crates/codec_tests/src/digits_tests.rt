@@ -15,7 +15,7 @@ const DIGITS: &[u8] = b"1F5489BEf3285d92c7FC31669BD0053a6fa4D90E\
 /// Characters beside the digits, and octets beyond them.
 const OTHERS: &[u8] = b"/:@G`g \x00\x7f\x80\xb0\xff";
 
-/// What is read of a text of an even number of characters must be what `hex` reads, or refused where `hex` has a fault.
+/// What is read of a text of an even number of characters must be what `hex` reads, or refused if `hex` has a fault.
 fn reads_as_hex(rt: &impl Abort, alloc: Global, text: &[u8]) {
     let mut memory = [0; 64];
     let len = text.len() / 2;

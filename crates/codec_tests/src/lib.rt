@@ -1,7 +1,7 @@
 //! Tests of the crates that read and write octets, over their public calls: a file for each crate.
 //!
 //! They show what neither a contract nor an example of the program shows: calls that the program doesn't make, sizes
-//! that a short trace doesn't reach, and that both succeed where there is memory, on octets from outside. They stand
+//! that a short trace doesn't reach, and that both succeed if there is memory, on octets from outside. They stand
 //! beside those crates since a crate with tests is proved twice.
 #![tactic(auto)]
 

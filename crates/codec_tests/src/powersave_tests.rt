@@ -215,7 +215,7 @@ fn holds(rt: &impl Abort, keep: &Keep, counts: [usize; 3], first: Option<u32>) {
 }
 
 /// At first no unit of a station is older than the clock, then the first is, and the unit at the clock itself stays,
-/// then all are, and then none is kept. Those of the group leave where they are asked for. Room for another is left.
+/// then all are, and then none is kept. Those of the group leave when they are asked for. Room for another is left.
 #[test]
 fn those_that_came_before_a_clock_leave(rt: HostRuntime) -> Result<(), Fail> {
     let mut keep = Keep::new(rt.alloc(), 9);

@@ -21,7 +21,7 @@ use toml::Table;
 
 /// The configuration that a text writes in TOML: all its keys are there, and no others.
 ///
-/// `At` names the first fault, in the order C1 to C13, where C8 to C13 are tried network by network. `NoMemory`
+/// `At` names the first fault, in the order C1 to C13, if C8 to C13 are tried network by network. `NoMemory`
 /// says nothing of the text.
 #[tactic(auto, unfolding(crate::specs::ConfigurationText::configuration_of))]
 pub fn read_config(alloc: Global, text: &[u8]) -> Result<RadioConfig, ConfigTextFault>

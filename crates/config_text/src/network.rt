@@ -19,7 +19,7 @@ use std::alloc::Global;
 use toml::value::Array;
 use toml::{Table, Value};
 
-/// The array of networks, where it has tables alone, as many as there may be in a version.
+/// The array of networks, if it has tables alone, as many as there may be in a version.
 #[tactic(auto, using(crate::proofs::ConfigurationReading::counts), unfolding(crate::specs::ConfigurationText::networks_at))]
 pub(crate) fn networks_at(version: Version, top: &Table) -> Option<&Array>
     ensures { option_map (λ values. array_view values.now) result ≡ networks_at version (table_view top.now) }

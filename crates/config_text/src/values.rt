@@ -1,4 +1,4 @@
-//! The value at a key of a table, where it is of the type that the key asks for.
+//! The value at a key of a table, if it is of the type that the key asks for.
 
 ghost use Rattle.std.specs.Prelude.{◌≡◌, ◌≤◌, IfSome, option_map, option_copied};
 ghost use Rattle.ap_config.specs.Configuration.{is_between};
@@ -17,7 +17,7 @@ fn value_at<'a>(table: &'a Table, key: &str) -> Option<&'a Value>
     table.get(key)
 }
 
-/// The integer at a key, where it lies within its limits.
+/// The integer at a key, if it lies within its limits.
 #[tactic(auto, unfolding(crate::specs::ConfigurationText::number_at))]
 pub(crate) fn number_at(table: &Table, key: &str, limits: Limits) -> Option<u32>
     ensures value { result ≡ number_at (is_between limits.least limits.most) key.now (table_view table.now) }

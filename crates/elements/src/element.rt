@@ -52,7 +52,7 @@ impl<'a> Model for Elements<'a> {
 }
 
 impl<'a> Elements<'a> {
-    /// The elements of a body (9.4.2.1): an error exactly where the body is no concatenation of elements. It takes
+    /// The elements of a body (9.4.2.1): an error exactly if the body is no concatenation of elements. It takes
     /// no memory.
     #[tactic(auto, using(crate::proofs::Walk::elements_of_elements))]
     pub fn new(body: &'a [u8]) -> Result<Elements<'a>, Overrun>
@@ -105,8 +105,8 @@ fn are_elements(body: &[u8]) -> bool
     rest.is_empty()
 }
 
-/// The first element of a body and what follows it: nothing where the body is empty, where a last octet stands
-/// alone, and where the element passes the end.
+/// The first element of a body and what follows it: nothing if the body is empty, if a last octet stands
+/// alone, and if the element passes the end.
 #[tactic(auto, using(crate::proofs::Walk::elements_of_short, crate::proofs::Walk::elements_of_overrun, crate::proofs::Walk::elements_of_split))]
 fn split_element(body: &[u8]) -> Option<(Element<'_>, &[u8])>
     ensures found { IfSome result (λ split. elements_of body.now ≡ before (shown split.0) (elements_of split.1.now)) }
@@ -135,7 +135,7 @@ pub fn write_element(out: &mut Octets, id: u8, body: &[u8]) -> Result<(), NoMemo
     out.append_both(&[id, body.len() as u8], body)
 }
 
-/// A body is one list of elements at most, and reading gives it exactly where there is one (9.4.2.1).
+/// A body is one list of elements at most, and reading gives it exactly if there is one (9.4.2.1).
 pub fn one_list()
     ensures unique { (body : List ℕ) (es fs : List Pair) → IsElements body es → IsElements body fs → es ≡ fs }
     ensures read { (body : List ℕ) (es : List Pair) → IsElements body es → elements_of body ≡ Some es }

@@ -1,6 +1,6 @@
 //! Elements (IEEE Std 802.11-2016, 9.4.2): a body is a list of them.
 //!
-//! It promises that [`Elements`] reads a body exactly where the body is a concatenation of elements, and gives
+//! It promises that [`Elements`] reads a body exactly if the body is a concatenation of elements, and gives
 //! those and no others; and that what it writes is exactly the octets of the element.
 //!
 //! Which elements a frame needs, and what they mean, is left to the crates above.

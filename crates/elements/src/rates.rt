@@ -14,8 +14,8 @@ pub const BASIC_RATE: u8 = 0x80;
 const MAX_SUPPORTED_RATES: usize = 8;
 
 impl Elements<'_> {
-    /// Whether the first Supported Rates or the first Extended Supported Rates has a rate, each basic or not (9.4.2.3,
-    /// 9.4.2.13; which of several elements counts is *profile*). It takes no memory.
+    /// Whether a rate stands in the first Supported Rates or Extended Supported Rates (9.4.2.3, 9.4.2.13), basic or
+    /// not. Which of several elements counts is *profile*. It takes no memory.
     pub fn has_rate(&self, rate: u8) -> bool
         ensures { result ≡ has_rate rate self.now }
     {
@@ -24,7 +24,7 @@ impl Elements<'_> {
     }
 }
 
-/// Whether a rate is among those of an element, where there is one.
+/// Whether a rate is among those of an element, if there is one.
 fn is_in_element(rate: u8, element: Option<&[u8]>) -> bool
     ensures { result ≡ is_in_element rate (option_map (λ rates. rates.now) element.entry) }
 {
@@ -38,14 +38,14 @@ pub fn is_rate_among(rate: u8, rates: &[u8]) -> bool
     rates.iter().any(|other| units_of(*other) == units_of(rate))
 }
 
-/// A rate in units of 500 kb/s, 0 to 127, without the bit that marks a basic rate (9.4.2.3). It takes any octet.
+/// A rate in units of 500 kb/s without the bit that marks a basic rate (9.4.2.3): 0 to 127. It takes any octet.
 pub fn units_of(rate: u8) -> u8
     ensures { result ≡ units_of rate }
 {
     rate % BASIC_RATE
 }
 
-/// Appends the first eight rates in Supported Rates, or all where there are fewer (9.4.2.3). After `NoMemory` `out` is
+/// Appends the first eight rates in Supported Rates, or all if there are fewer (9.4.2.3). After `NoMemory` `out` is
 /// as it was.
 #[inline(always)]
 pub fn write_supported_rates(out: &mut Octets, rates: &[u8]) -> Result<(), NoMemory>

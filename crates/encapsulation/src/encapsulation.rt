@@ -21,7 +21,7 @@ const RFC1042_HEADER: [u8; RFC1042_HEADER_LEN] = [0xaa, 0xaa, 0x03, 0x00, 0x00, 
 pub const TYPED_HEADER_LEN: usize = RFC1042_HEADER_LEN + 2;
 
 /// Appends the body of the 802.11 frame that carries an Ethernet frame: the RFC 1042 header, the type and the payload
-/// where it names a type, and else the payload alone, whatever its length is (RFC 1042). After `NoMemory` `out` is as
+/// if it names a type, and else the payload alone, whatever its length is (RFC 1042). After `NoMemory` `out` is as
 /// it was.
 pub fn to_air(out: &mut Octets, ether: &Ether<'_>) -> Result<(), NoMemory>
     ensures ok { OnOk result (out.new ≡ out.old ++ on_air (shown ether.now)) }
@@ -92,7 +92,7 @@ fn ethernet_header(to: MacAddr, source: MacAddr, number: u16) -> [u8; HEADER_LEN
     [a, b, c, d, e, f, g, h, i, j, k, l, high, low]
 }
 
-/// A frame that was read comes back from the air: as it was where it names a type, and without its padding where it
+/// A frame that was read comes back from the air: as it was if it names a type, and without its padding if it
 /// names its length, unless its payload begins as a body that names a type does (RFC 1042).
 pub fn frame_comes_back()
     ensures typed { (y : List ℕ) (w : Ethernet) (type : ℕ) → ((place : ℕ) → slice_index y place < 256)

@@ -44,7 +44,7 @@ impl Event {
 }
 
 impl LentEvent<'_> {
-    /// The event with octets of its own, which are copied. `NoMemory` where memory ran out.
+    /// The event with octets of its own, which are copied. `NoMemory` if memory ran out.
     pub fn copy(self, alloc: Global) -> Result<Event, NoMemory>
         ensures { IfOk result (λ event. event ≡ event_of self.entry) }
     {

@@ -5,7 +5,7 @@ ghost use Rattle.events.specs.LentEvents.{event_of, line_of};
 ghost use Rattle.events.specs.Lines.{event_for, event_of_line};
 
 use crate::audience::Audience;
-use crate::event::{Event, LentEvent};
+use crate::event::LentEvent;
 use mac_frame::{MacAddr, Octets};
 
 /// One thing that happened to the networks of a radio. Which of them it concerns, each network says of itself.
@@ -13,7 +13,7 @@ use mac_frame::{MacAddr, Octets};
 pub enum Line {
     /// A string of octets was heard on the air: it concerns each network that hears it.
     Air(Octets),
-    /// A frame came over the wire to one network. Where there is none at that place, it concerns nobody.
+    /// A frame came over the wire to one network. If there is none at that place, it concerns nobody.
     Wire {
         /// The network's place in the configuration, from 0.
         place: usize,
@@ -56,18 +56,6 @@ impl Line {
             Line::Tick => LentLine::Tick,
         }
     }
-
-    /// The event that it is to each network that hears it, with the line's own octets.
-    #[inline]
-    pub fn into_event(self) -> Event
-        ensures { result ≡ event_of_line self }
-    {
-        match self {
-            Line::Air(octets) => Event::Air(octets),
-            Line::Wire { place: _, octets } => Event::Wire(octets),
-            Line::Tick => Event::Tick,
-        }
-    }
 }
 
 impl<'a> LentLine<'a> {
@@ -83,7 +71,7 @@ impl<'a> LentLine<'a> {
         }
     }
 
-    /// The event that it is to the network with this place in the configuration, from 0, and this BSSID; `None` where
+    /// The event that it is to the network with this place in the configuration, from 0, and this BSSID; `None` if
     /// that network doesn't hear it: it is none of the line's [`Audience`] (*profile*).
     #[inline]
     pub fn event_for(self, place: usize, bssid: MacAddr) -> Option<LentEvent<'a>>

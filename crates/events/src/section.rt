@@ -12,9 +12,9 @@ pub struct StationRow {
     pub addr: MacAddr,
     /// How far it has come (IEEE Std 802.11-2016, 11.3.1).
     pub standing: Standing,
-    /// Its association identifier, 1 to 2007, or 0 where it isn't associated (9.4.1.8).
+    /// Its association identifier, 1 to 2007, or 0 if it isn't associated (9.4.1.8).
     pub aid: u16,
-    /// Its listen interval in beacon intervals, or 0 where it isn't associated (9.4.1.6).
+    /// Its listen interval in beacon intervals, or 0 if it isn't associated (9.4.1.6).
     pub listen: u16,
     /// Whether it dozes (11.2.3.2).
     pub doze: bool,

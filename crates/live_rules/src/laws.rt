@@ -57,9 +57,9 @@ pub fn records_come_in_pieces()
         → (IsRecord (partial ++ more) → ⊥) → IsPartialRecord (partial ++ more) }
 {}
 
-/// No network reaches another, whatever is said, however it comes: what is answered of one, one answer after the other,
-/// is what it does alone with its own events, what it hears of what was read, less what it refused. So are the tables
-/// that are asked for, and those of the last moment.
+/// No network reaches another, whatever is said and however it comes. All that is answered of a network is what it does
+/// alone with its own events: with what it hears of what was read, less what it refused. So are the tables that are
+/// asked for, and those of the last moment.
 pub fn isolation()
     ensures alone { (c : RadioConfig) (said : List Asked) (answers : List Answer) (next : Moment) (place : ℕ)
         → place < length c.networks → Answers (first_moment c) said answers next
@@ -84,7 +84,7 @@ pub fn two_inputs()
     isolation();
 }
 
-/// Where nothing is refused for memory, the answers are the ones of `answers_of`; these may be given to whatever is
+/// If nothing is refused for memory, the answers are the ones of `answers_of`; these may be given to whatever is
 /// said, and nothing is refused in them.
 #[inline(always)]
 pub fn enough_memory()
@@ -99,7 +99,7 @@ pub fn enough_memory()
 /// network that hears no more than its history may have is told as its report tells it: the same frames, table and
 /// counts.
 ///
-/// A text says nothing else where it is a trace, so that no line of it has a fault, is `I` or is one of more than
+/// A text says nothing else if it is a trace, so that no line of it has a fault, is `I` or is one of more than
 /// 1,000,000, and no line is too long.
 pub fn as_replayed()
     ensures shown { (c : RadioConfig) (said : List Asked) (lines : List Line) (place : ℕ) (answers : List Answer)
@@ -115,9 +115,9 @@ pub fn as_replayed()
     checked_numbers();
 }
 
-/// What comes, a string that is heard, a frame over the wire, the beginning of a beacon interval or the question for
-/// tables, has a line and a record, and both say the same, so that both are answered alike. The lines of a text of such
-/// lines are these, and the records of octets of such records.
+/// Whatever comes has a line and a record that say the same, so that both are answered alike: a string that is heard, a
+/// frame over the wire, the beginning of a beacon interval, the question for tables. A text of such lines has these
+/// lines, and octets of such records have these records.
 pub fn either_face()
     ensures text { (inputs : List Input) → AllByRecursion IsInput inputs
         → lines_of_text (text_for inputs) ≡ map (λ input. Octets (line_for input)) inputs }

@@ -74,8 +74,8 @@ pub enum Unread {
     TooLong,
 }
 
-/// The frame that a string of octets is for the network `bss` (9.2.3, 9.3), or the first fault in the order of
-/// [`Unread`] (*profile*). The faults are all but [`Unread::Body`]. It takes no memory.
+/// The frame that a string of octets is for the network `bss` (9.2.3, 9.3), or its first fault. The faults are all but
+/// [`Unread::Body`], in the order of [`Unread`] (*profile*). It takes no memory.
 pub fn decode(bss: MacAddr, frame: &[u8]) -> Result<Rx<'_>, Unread>
     // What is read is this frame; what is this frame is read.
     ensures frame { IfOk result (λ rx. IsFrame bss frame.now (shown rx)) }
@@ -106,8 +106,8 @@ pub fn decode(bss: MacAddr, frame: &[u8]) -> Result<Rx<'_>, Unread>
     }
 }
 
-/// The management frame that a string of octets is, if it is one, for a network with the broadcast address, which is
-/// the wildcard BSSID (9.2.4.3.4). Of a probe request to all stations and for any network it tells what each network
+/// The management frame that a string of octets is for a network with the broadcast address, if it is one. That is the
+/// wildcard BSSID (9.2.4.3.4). Of a probe request to all stations and for any network it tells what each network
 /// reads. It takes no memory.
 pub fn decode_broadcast(frame: &[u8]) -> Option<Rx<'_>>
     ensures { IfSome result (λ rx. frame_of broadcast frame.now ≡ Ok (shown rx)) }

@@ -11,7 +11,7 @@ pub fn address_comes_back()
     ensures { (address : List ℕ) → IsAddress address → address_of (address_text address) ≡ Some address }
 {}
 
-/// The test of what a network hears says so exactly where it hears it (IEEE Std 802.11-2016, 9.2.4.3).
+/// The test of what a network hears says so exactly if it hears it (IEEE Std 802.11-2016, 9.2.4.3).
 pub fn hearing()
     ensures { (bss x : List ℕ) → (is_heard bss x ≡ true) ↔ Hears bss x }
 {}
@@ -29,7 +29,7 @@ pub fn frame_is_addressed()
         → (addressed_to x ≡ bss) ⊎ (addressed_to x ≡ broadcast) }
 {}
 
-/// The body of a frame has octets, numbers below 256, where the string has (9.2.3).
+/// The body of a frame has octets, numbers below 256, if the string has (9.2.3).
 pub fn body_has_octets()
     ensures management { (bss x : List ℕ) (subtype : ℕ) (from : List ℕ) (to_all : Bool) (body : List ℕ)
         → IsFrame bss x (Frame.Mgmt subtype from to_all body)

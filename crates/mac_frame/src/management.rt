@@ -137,8 +137,8 @@ fn is_individually_addressed(bss: MacAddr, frame: &[u8]) -> bool
     is_to_network(bss, frame) && address_3(frame) == bss
 }
 
-/// Appends the header of a management frame (9.3.3.2) of this subtype, below 16 (9.2.4.1.3), to a receiver, from the
-/// network `bss`, with a sequence number below 4096 (9.2.4.4.2). After `NoMemory` `out` is as it was.
+/// Appends the header of a management frame (9.3.3.2) from the network `bss` to a receiver. Its subtype is below 16
+/// (9.2.4.1.3), its sequence number below 4096 (9.2.4.4.2). After `NoMemory` `out` is as it was.
 pub fn write_mgmt(
     out: &mut Octets,
     subtype: u8,

@@ -35,7 +35,7 @@ impl Octets {
         Octets { octets }
     }
 
-    /// A copy of the octets. `NoMemory` where memory ran out.
+    /// A copy of the octets. `NoMemory` if memory ran out.
     pub fn from_slice(alloc: Global, octets: &[u8]) -> Result<Octets, NoMemory>
         ensures { IfOk result (λ string. string ≡ octets.now) }
     {
@@ -44,7 +44,7 @@ impl Octets {
         })
     }
 
-    /// Makes room for `count` octets more, so that a writer grows the string once. `NoMemory` where memory ran out;
+    /// Makes room for `count` octets more, so that a writer grows the string once. `NoMemory` if memory ran out;
     /// the string is as it was either way.
     #[inline(always)]
     pub fn reserve(&mut self, count: usize) -> Result<(), NoMemory>
@@ -77,7 +77,7 @@ impl Octets {
         self.roll_back(len, written)
     }
 
-    /// Keeps the first `len` octets: all of them where there are fewer.
+    /// Keeps the first `len` octets: all of them if there are fewer.
     pub fn truncate(&mut self, len: usize)
         ensures { self.new ≡ take len self.old }
     {
@@ -97,7 +97,7 @@ impl Octets {
         written
     }
 
-    /// A second string of the same octets. `NoMemory` where memory ran out.
+    /// A second string of the same octets. `NoMemory` if memory ran out.
     pub fn copy(&self, alloc: Global) -> Result<Octets, NoMemory>
         ensures { IfOk result (λ string. string ≡ self.now) }
     {

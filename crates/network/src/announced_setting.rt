@@ -55,7 +55,7 @@ impl AnnouncedSetting {
         &self.elements
     }
 
-    /// The setting, where it is announced no more.
+    /// The setting, if it is announced no more.
     pub fn into_inner(self) -> Setting
         ensures { result ≡ self }
     {

@@ -121,14 +121,6 @@ impl Bss {
         self.history.as_slice()
     }
 
-    /// How many events it took; at most `max_events`.
-    pub fn history_len(&self) -> usize
-        ensures count { result ≡ length self.now.history }
-        ensures bounded { result ≤ self.now.setting.network.max_events }
-    {
-        self.history.len()
-    }
-
     /// How many stations it knows.
     pub fn table_len(&self) -> usize
         ensures { result ≡ length (table_of (network_of self.now)) }
@@ -183,7 +175,7 @@ impl Bss {
         self.has_slot
     }
 
-    /// Takes out the first frame that waits, and leaves a slot to give it back. `None`, and no change, where none
+    /// Takes out the first frame that waits, and leaves a slot to give it back. `None`, and no change, if none
     /// waits.
     pub fn take_front(&mut self) -> Option<Octets>
         ensures first { self.old.waiting ≡ option_to_list result ++ self.new.waiting }
@@ -209,7 +201,7 @@ impl Bss {
     }
 
     /// Takes an event, and answers its number in the history, from 0. Frames that it sends wait after the others.
-    /// `HistoryFull` exactly where the history is full, which is tested first; `NoMemory` where memory ran out.
+    /// `HistoryFull` exactly if the history is full, which is tested first; `NoMemory` if memory ran out.
     /// After either nothing has changed. An air event that the network doesn't hear and a wired frame
     /// that can't be read count as unread (*profile*).
     pub fn take(&mut self, event: Event) -> Result<u32, Refusal>
@@ -251,7 +243,7 @@ impl Bss {
         Ok(number)
     }
 
-    /// A row for each station, in their order. `NoMemory` where memory ran out.
+    /// A row for each station, in their order. `NoMemory` if memory ran out.
     fn rows(&self) -> Result<Vec<StationRow>, NoMemory>
         ensures { IfOk result (λ rows. rows.items ≡ table_of (network_of self.now)) }
     {
@@ -262,7 +254,7 @@ impl Bss {
         Ok(rows)
     }
 
-    /// The section of all that it took, with `air` as the frames that left it. `NoMemory` where memory
+    /// The section of all that it took, with `air` as the frames that left it. `NoMemory` if memory
     /// ran out.
     pub fn into_section(self, air: List<Octets>) -> Result<Section, NoMemory>
         ensures { IfOk result (λ section. section ≡ section_with air self) }

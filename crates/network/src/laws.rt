@@ -17,8 +17,8 @@ use roster::{came_in_turn, kept_counts, kept_for_dozing};
 use stations::{changes_stay_sound, lengths_after, modes_alone, others_stay};
 use tim::one_tim;
 
-/// What holds of every network that events make of an empty one, where its configuration has no fault: what it keeps
-/// and what it lost are together two units at most for each event that it took.
+/// What holds of every network that events make of an empty one, if its configuration has no fault. Among it: for each
+/// event that it took, it keeps and has lost two units at most.
 pub fn reachable()
     ensures { (s : Setting) (es : List Event) → network_fault s.network ≡ None
         → IsSoundNetwork s (length es) (2 * length es) (alone s es) }
@@ -81,7 +81,7 @@ pub fn frame_sizes()
     one_tim();
 }
 
-/// Where the units of a network don't age, none leaves as a beacon interval begins (*profile*).
+/// If the units of a network don't age, none leaves as a beacon interval begins (*profile*).
 pub fn nothing_ages()
     ensures { (s : Setting) (n : Network) → s.network.aging ≡ false → age_units s n ≡ n }
 {}

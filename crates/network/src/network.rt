@@ -195,8 +195,8 @@ impl Network {
         self.roster.kept().count_for(Whom::One(addr)) as u32
     }
 
-    /// Takes an event, where it took fewer than 2^62 before, and hands out what it sends for it. `Clock` exactly where
-    /// 4,294,967,295 beacon intervals began and one more begins; `NoMemory` where memory ran out. After either
+    /// Takes an event, if it took fewer than 2^62 before, and hands out what it sends for it. `Clock` exactly if
+    /// 4,294,967,295 beacon intervals began and one more begins; `NoMemory` if memory ran out. After either
     /// nothing has changed. A frame on the air has at most 2,328 octets, one on the wire at most 2,310. An air event that
     /// the network doesn't hear and a wired frame that can't be read count as unread (*profile*).
     pub fn take(&mut self, event: &Event) -> Result<Sent, NetworkRefusal>
@@ -209,8 +209,8 @@ impl Network {
         self.take_received(&event, &mut Spare::new(self.alloc))
     }
 
-    /// Takes an event as [`Network::take`] does, whose octets are lent, and of which may have been read before what is the
-    /// same for each network that it comes to. The first of the frames that it sends is built in spare memory, if there
+    /// Takes an event as [`Network::take`] does. Its octets are lent. What is the same of it for each network may have
+    /// been read before. The first of the frames that it sends is built in spare memory, if there
     /// is any; the frame of a poll takes memory of its own. The spare memory is gone after `NoMemory`, and stays after
     /// `Clock` (*profile*).
     pub fn take_received(
@@ -253,7 +253,7 @@ impl Network {
         let _ = self.setting.get().network.bssid.octets();
     }
 
-    /// Where units age, looks up before a beacon interval begins which stations may have a unit that is too old, so that
+    /// If units age, looks up before a beacon interval begins which stations may have a unit that is too old, so that
     /// the reply to it, and what carries it out, look at these stations alone.
     pub(crate) fn look_up_due(&mut self, begins: bool)
         ensures { self.new ≡ self.old }
@@ -307,7 +307,7 @@ impl Network {
         }
     }
 
-    /// Serves the poll of a station: sends the unit that was kept first for it, if there is one, where nothing else is
+    /// Serves the poll of a station: sends the unit that was kept first for it, if there is one and nothing else is
     /// sent. After `NoMemory` nothing of the network has changed.
     fn serve_poll(&mut self, frames: &mut Frames, from: MacAddr) -> Result<(), NoMemory>
         requires none { frames.old ≡ [] }
@@ -404,7 +404,7 @@ impl Network {
         self.alloc
     }
 
-    /// Its configuration, where nothing else is asked for any more.
+    /// Its configuration, if nothing else is asked for any more.
     pub(crate) fn into_setting(self) -> Setting
         ensures { result ≡ self.setting }
     {
@@ -412,7 +412,7 @@ impl Network {
     }
 }
 
-/// Whether units age in a network that lets them, or doesn't, where `begin` beacon intervals begin: where one does.
+/// Whether units age in a network that lets them, or doesn't, as `begin` beacon intervals begin: if one does.
 fn units_age(begin: u32, aging: bool) -> bool
     ensures { result ≡ (nat_lt 0 begin && aging) }
 {

@@ -18,7 +18,7 @@ pub trait Open: Sized {
     // One that took no event.
     ghost opened: { Setting → Self };
 
-    /// A network that took no event, of a setting in which `check` finds no fault. `NoMemory` where memory ran out.
+    /// A network that took no event, of a setting in which `check` finds no fault. `NoMemory` if memory ran out.
     fn open(alloc: Global, setting: Setting) -> Result<Self, NoMemory>
         requires setting { setting_fault setting.channel setting.interval ≡ None }
         requires network { network_fault setting.network ≡ None }
@@ -47,7 +47,7 @@ impl Open for Bss {
 }
 
 /// A network for each configuration, in their order, on a channel and with a beacon interval in time units. `NoMemory`
-/// where memory ran out.
+/// if memory ran out.
 pub fn open_networks<N: Open + Drop>(
     alloc: Global,
     channel: u8,

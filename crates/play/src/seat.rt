@@ -1,6 +1,6 @@
 //! What stands under a network's lock.
 
-ghost use Rattle.std.specs.Prelude.{◌≡◌, ◌<◌, ◌++◌, List, [], ℕ, OnOk, IfOk, IfErr, length, map, vec_len, slice_index_or, true};
+ghost use Rattle.std.specs.Prelude.{◌≡◌, ◌≢◌, ◌<◌, ◌++◌, List, [], ℕ, OnOk, IfOk, IfErr, drop, length, map, vec_len, slice_index_or, false, true};
 ghost use Rattle.ap_config.specs.Places.{setting_at};
 ghost use Rattle.ap_config.specs.declared.setting.Setting.{Setting};
 ghost use Rattle.events.specs.Lines.{taken_of};
@@ -254,6 +254,8 @@ fn hand_first<R: Wait>(
     requires { queue.now.name ≡ pass.old.name }
     ensures pass { (pass.new.name ≡ pass.old.name) × (pass.new.place ≡ pass.old.place) }
     ensures sent { pass.new.pushed ++ waiting.new.items ≡ pass.old.pushed ++ waiting.old.items }
+    ensures went { result ≡ true → waiting.new.items ≡ drop 1 waiting.old.items }
+    ensures full { result ≡ false → (waiting.new.items ≡ waiting.old.items) × (waiting.old.items ≢ []) }
 {
     let Some(octets) = waiting.pop_front() else {
         return true;

@@ -1,6 +1,6 @@
 //! Tests of the crate `play`, over its public calls.
 //!
-//! They show what no contract says: that a play succeeds where there is memory, and that no source waits for the end of
+//! They show what no contract says: that a play succeeds if there is memory, and that no source waits for the end of
 //! another.
 #![tactic(auto)]
 

@@ -132,7 +132,7 @@ fn mix<R: Threads + Wait + Sync>(rt: &R, alloc: Global) -> Result<bool, Fail> {
     Ok(false)
 }
 
-/// No source waits for the end of another: where there are two processors, one gives its lines while the other does.
+/// No source waits for the end of another: if there are two processors, one gives its lines while the other does.
 #[test]
 fn logged_sources_overlap(rt: HostRuntime) -> Result<(), Fail> {
     if thread::available_parallelism(&rt)?.get() >= 2 {

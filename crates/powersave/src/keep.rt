@@ -98,14 +98,14 @@ impl Keep {
         self.queues.count_for(&whom)
     }
 
-    /// The unit for `whom` that `n` others for `whom` came before, or `None` where `n` units or fewer are kept for it.
+    /// The unit for `whom` that `n` others for `whom` came before. `None` if `n` units or fewer are kept for it.
     pub fn nth(&self, whom: Whom, n: usize) -> Option<&Unit>
         ensures { option_copied result ≡ slice_get (units_for whom self.now.entries) n }
     {
         self.queues.nth(&whom, n)
     }
 
-    /// Takes out the first unit that came for `whom`, or gives `None` where none is kept for it. The others stay in
+    /// Takes out the first unit that came for `whom`. `None` if none is kept for it. The others stay in
     /// their order. A reservation for `whom` ends.
     pub fn oldest(&mut self, whom: Whom) -> Option<Unit>
         ensures unit { result ≡ slice_get (units_for whom self.old.entries) 0 }
@@ -120,10 +120,10 @@ impl Keep {
         Some(unit)
     }
 
-    /// Takes out the first unit that came for `whom` as the Data frame that carries it from the network `bss` with this
-    /// sequence number (9.3.2.1), which tells by More Data whether others follow (9.2.4.1.8), and tells this beside it.
-    /// `None` where none is kept for it. The others stay in their order, and a reservation for `whom` ends. The queue
-    /// is found once. After `NoMemory` all is as it was.
+    /// Takes out the first unit that came for `whom`, as the Data frame that carries it (9.3.2.1). The frame comes from
+    /// the network `bss` with this sequence number. Its More Data says whether others follow (9.2.4.1.8), and the
+    /// answer says it beside the frame. `None` if none is kept for it. The others stay in their order, and a
+    /// reservation for `whom` ends. The queue is found once. After `NoMemory` all is as it was.
     pub fn send_oldest(
         &mut self,
         whom: Whom,
@@ -218,7 +218,7 @@ impl Keep {
         self.reserved = room_beside(self.reserved, whom);
     }
 
-    /// Each for whom units are kept, once, with the clock at which the oldest of them came. `NoMemory` where memory ran
+    /// Each for whom units are kept, once, with the clock at which the oldest of them came. `NoMemory` if memory ran
     /// out.
     pub fn oldest_of_each(&self) -> Result<Vec<Oldest>, NoMemory>
         ensures each { IfOk result (λ oldest. AreOldest oldest.items self.now.entries) }
@@ -231,8 +231,8 @@ impl Keep {
         self.queues.oldest_of_each()
     }
 
-    /// Appends a unit for `whom` to a list that is not full and has seen fewer than 2^62 puts. Its queue is found once,
-    /// and it needs no memory where room is reserved for `whom`. A reservation, whoever it is for, ends. After
+    /// Appends a unit for `whom`. The list is not full and has seen fewer than 2^62 puts. The queue is found once,
+    /// and it needs no memory if room is reserved for `whom`. A reservation, whoever it is for, ends. After
     /// `NoMemory` all is as it was, and the unit is dropped.
     pub fn put(&mut self, whom: Whom, unit: Unit) -> Result<(), NoMemory>
         requires not_full { length self.old.entries < self.old.quota }
@@ -256,7 +256,7 @@ impl Keep {
         Ok(())
     }
 
-    /// Reserves room for the next unit, which is for `whom`, and a queue for it where there is none. An earlier
+    /// Reserves room for the next unit, which is for `whom`, and a queue for it if there is none. An earlier
     /// reservation ends. After `NoMemory` all is as it was.
     pub fn reserve(&mut self, whom: Whom) -> Result<(), NoMemory>
         ensures ok { OnOk result (self.new ≡ record self.old { reserved = Some whom }) }
@@ -267,7 +267,7 @@ impl Keep {
         Ok(())
     }
 
-    /// Whether room is reserved for `whom`, so that the next unit for it needs no memory.
+    /// Whether room is reserved for `whom`: the next unit for it needs no memory then.
     pub fn has_room(&self, whom: Whom) -> bool
         ensures { IsTrue result ↔ (self.now.reserved ≡ Some whom) }
     {

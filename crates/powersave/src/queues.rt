@@ -80,7 +80,7 @@ impl Queues {
         Ok(oldest)
     }
 
-    /// Takes out the first unit of the queue for `whom`. The queue stays, also where it has become empty.
+    /// Takes out the first unit of the queue for `whom`. The queue stays, also if it has become empty.
     pub(crate) fn pop(&mut self, whom: &Whom) -> Option<Unit>
         ensures { Pops whom.now self.old.map.entries result self.new.map.entries }
     {
@@ -124,7 +124,7 @@ impl Queues {
         }
     }
 
-    /// Makes room for one more unit in the queue for `whom`, and the queue where there is none. The units stay as they
+    /// Makes room for one more unit in the queue for `whom`, and the queue if there is none. The units stay as they
     /// are.
     pub(crate) fn make_room(&mut self, whom: &Whom) -> Result<(), NoMemory>
         ensures ok { OnOk result (HasRoom (Some whom.now) self.new.map.entries) }
@@ -139,7 +139,7 @@ impl Queues {
         Ok(())
     }
 
-    /// Puts a unit last into the queue for `whom`, which is made where there is none. It needs no memory where the
+    /// Puts a unit last into the queue for `whom`, which is made if there is none. It needs no memory if the
     /// queue has room. After `NoMemory` the units are as they were, and this one is dropped.
     pub(crate) fn push(&mut self, whom: &Whom, arrived: Arrived) -> Result<(), NoMemory>
         requires sound { AreSound arrived.number self.old.map.entries }

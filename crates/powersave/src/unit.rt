@@ -7,7 +7,7 @@ use mac_frame::{MacAddr, Octets};
 pub enum Whom {
     /// For the station with this address.
     One(MacAddr),
-    /// For all stations, where its destination is a group address.
+    /// For all stations, if its destination is a group address.
     Group,
 }
 

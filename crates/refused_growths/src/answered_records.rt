@@ -17,7 +17,7 @@ const HEADER_LEN: usize = 9;
 /// No BSSID.
 const NOBODY: [u8; 6] = [0; 6];
 
-/// Runs the access point over a trace as records, and once more where memory ran out before it read one. Writes what it
+/// Runs the access point over a trace as records, and once more if memory ran out before it read one. Writes what it
 /// answered, as lines; which records were refused stands in these.
 pub(crate) fn answer_records(
     alloc: Global,

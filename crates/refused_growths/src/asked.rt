@@ -16,7 +16,7 @@ pub struct Asked<'a> {
     pub trace: &'a [u8],
 }
 
-/// What a text asks for; `None` where it is no such text.
+/// What a text asks for; `None` if it is no such text.
 pub(crate) fn asked_of(input: &[u8]) -> Option<Asked<'_>> {
     let Ok(text) = str::from_utf8(input) else {
         return None;

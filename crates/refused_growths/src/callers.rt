@@ -14,7 +14,7 @@ use std::sync::Wait;
 use trace::read_trace;
 use workers::{Ap, ApName, Caller, FinishFault, Outcome, Parts};
 
-/// The address of the network at each place; none where there is no network.
+/// The address of the network at each place; none if there is no network.
 type Addresses = [Option<MacAddr>; MAX_NETWORKS];
 
 /// What callers give, after this many allocations.
@@ -35,7 +35,7 @@ struct NumberedLine<'a> {
 
 /// Gives each line once to an access point with this many callers, who give the lines in turn, and ends it. Writes which
 /// lines were refused, as [`live::Live`] says it but for the network's place, and the report in the end, which is none
-/// where the end was refused.
+/// if the end was refused.
 pub(crate) fn give_lines<R: Wait>(
     rt: &R,
     alloc: Global,
@@ -176,7 +176,7 @@ fn write_refusals(
     Ok(was_refused)
 }
 
-/// Whether the network of a place and this address hears a line; none does where no network is.
+/// Whether the network of a place and this address hears a line; none does if no network is.
 fn is_heard(place: usize, address: Option<MacAddr>, line: &Line) -> bool {
     match (address, line) {
         (None, _) => false,

@@ -14,7 +14,7 @@ use trace::{LineReader, read_trace};
 /// The octets of a piece.
 const PIECE_LEN: usize = 7;
 
-/// Offers a trace in small pieces, each once more where it is refused for memory, and its end so too. The lines that
+/// Offers a trace in small pieces, each once more if it is refused for memory, and its end so too. The lines that
 /// they gave must be those of the trace.
 pub(crate) fn feed_pieces(
     alloc: Global,
@@ -46,7 +46,7 @@ pub(crate) fn feed_pieces(
     }
 }
 
-/// Offers a piece, and once more where it is refused. Answers whether it was.
+/// Offers a piece, and once more if it is refused. Answers whether it was.
 fn feed(reader: &mut LineReader, piece: &[u8], said: &mut String) -> Result<bool, Flaw> {
     let (lines, was_refused) = match reader.feed(piece) {
         Err(ReadFault::NoMemory) => (reader.feed(piece), true),
@@ -59,7 +59,7 @@ fn feed(reader: &mut LineReader, piece: &[u8], said: &mut String) -> Result<bool
     Ok(was_refused)
 }
 
-/// Ends the text, and once more where that is refused. Answers whether it was.
+/// Ends the text, and once more if that is refused. Answers whether it was.
 fn end(reader: &mut LineReader, said: &mut String) -> Result<bool, Flaw> {
     let (line, was_refused) = match reader.end() {
         Err(ReadFault::NoMemory) => (reader.end(), true),

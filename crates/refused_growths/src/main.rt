@@ -30,7 +30,7 @@ use std::sync::Wait;
 use std::thread::Threads;
 use texts::write_twice;
 
-/// Where something beside the calls failed, the trial begins anew; in a run in which one allocation fails this happens
+/// If something beside the calls failed, the trial begins anew; in a run in which one allocation fails this happens
 /// once at most.
 fn main(rt: HostRuntime) -> ExitCode {
     let mut input = Vec::new(rt.alloc());
@@ -81,7 +81,7 @@ fn trial<R: Threads + Wait + Sync>(
         "lines" => feed_pieces(alloc, asked, report),
         // `Live::feed` for each line, none of which is offered again, and `end`.
         "live" => answer_lines(alloc, asked, report),
-        // `LiveRecords::run` over the lines as records, none of which is offered again; made again where it read none.
+        // `LiveRecords::run` over the lines as records, none of which is offered again; made again if it read none.
         "records" => answer_records(alloc, asked, report),
         // The calls of these names that write a report, `play` with the trace as the only one.
         "report" | "text" | "stream" | "sections" | "play" => write_twice(rt, alloc, asked, report),

@@ -57,7 +57,7 @@ fn frames_of(alloc: Global, network: &mut Bss) -> Result<Vec<Octets>, NoMemory> 
     Ok(air)
 }
 
-/// Offers a line, and once more where it was refused. Answers whether it was.
+/// Offers a line, and once more if it was refused. Answers whether it was.
 fn offer(alloc: Global, network: &mut Bss, line: &Line) -> Result<bool, Flaw> {
     let before = seen(alloc, network)?;
     match network.take(event_of(alloc, line)?) {

@@ -1,4 +1,4 @@
-//! Reports that are written, and written again where memory ran out.
+//! Reports that are written, and written again if memory ran out.
 
 use crate::asked::Asked;
 use crate::outcome::{AGAIN, ANSWER, Flaw, ROOM, grow};
@@ -12,7 +12,7 @@ use std::sync::Wait;
 use std::thread::Threads;
 use text_io::{Counted, ReportFault};
 
-/// Makes the call of the trial, and makes it again where memory ran out. What it had written by then must be a
+/// Makes the call of the trial, and makes it again if memory ran out. What it had written by then must be a
 /// prefix of what it writes in the end.
 pub(crate) fn write_twice<R: Threads + Wait + Sync>(
     rt: &R,
@@ -38,7 +38,7 @@ pub(crate) fn write_twice<R: Threads + Wait + Sync>(
     Ok(true)
 }
 
-/// The sections that the texts have, where the trial is to report them.
+/// The sections that the texts have, if the trial is to report them.
 fn sections_of(alloc: Global, asked: &Asked<'_>) -> Result<Vec<Section>, Flaw> {
     if asked.trial != "report" {
         return Ok(Vec::new(alloc));

@@ -85,7 +85,7 @@ impl Roster {
         &self.traffic
     }
 
-    /// Changes one station; the units stay. `NoMemory`, and no change, can come where an unknown one is authenticated.
+    /// Changes one station; the units stay. `NoMemory`, and no change, can come if an unknown one is authenticated.
     fn change(&mut self, change: Change) -> Result<(), NoMemory>
         requires { IsAllowed self.old.stations.most change self.old.stations.table }
         ensures ok { OnOk result (self.new ≡ record self.old {
@@ -116,7 +116,7 @@ impl Roster {
     }
 
     /// Does with its stations and units what a reply says: changes one station, takes out the units that leave, and
-    /// keeps one. Where units age, first those that are too old at this clock leave, and it answers how many these
+    /// keeps one. If units age, first those that are too old at this clock leave, and it answers how many these
     /// were. After `NoMemory` nothing has changed.
     pub fn carry_out(
         &mut self,
@@ -220,7 +220,7 @@ impl Roster {
         }
     }
 
-    /// Takes out all units for one. Where none was kept, no bit is its own, and its identifier isn't looked up.
+    /// Takes out all units for one. If none was kept, no bit is its own, and its identifier isn't looked up.
     fn drop_for(&mut self, whom: &Whom)
         ensures { self.new ≡ record self.old {
           kept = record self.old.kept {
@@ -238,9 +238,9 @@ impl Roster {
         }
     }
 
-    /// Takes out the unit that was kept first for a station as the Data frame that carries it from the network `bss`
-    /// with this sequence number; `None`, and no unit leaves, where none is kept for it. After `NoMemory` all is as it
-    /// was.
+    /// Takes out the unit that was kept first for a station, as the Data frame that carries it. The frame comes from
+    /// the network `bss` with this sequence number. `None`, and no unit leaves, if none is kept for it. After
+    /// `NoMemory` all is as it was.
     pub fn send_oldest(
         &mut self,
         addr: MacAddr,
@@ -297,7 +297,7 @@ impl Roster {
     }
 }
 
-/// Whether no station changes, and no unit leaves or ages, as where a probe is answered.
+/// Whether no station changes, and no unit leaves or ages, as when a probe is answered.
 fn is_settled(change: &Change, leaving: &Leaving, ages: bool) -> bool
     ensures { IsTrue result
         → (change.now ≡ Change.Nothing) × (leaving.now ≡ Leaving.Nothing) × (ages ≡ false) }

@@ -31,8 +31,8 @@ pub enum Notice {
     Disassociate(u16),
 }
 
-/// The notice that is sent to a station in this state for a frame of this class, or `None` where the frame is taken
-/// (11.3.3). Its reason is 6 for a Class 2 frame and 7 for a Class 3 frame (*profile*).
+/// The notice that answers a frame of this class from a station in this state (11.3.3). `None` if the frame is taken.
+/// Its reason is 6 for a Class 2 frame and 7 for a Class 3 frame (*profile*).
 pub fn fault(standing: Standing, class: Class) -> Option<Notice>
     ensures { result ≡ class_fault standing class }
 {

@@ -2,7 +2,7 @@
 //!
 //! Two types to know first: a [`Standing`] is how far a station has come, and a [`StationState`] is what a network keeps
 //! of one that it knows. It promises that [`fault`] is the table of 11.3.3: which class of frame is taken from a station
-//! in which state, and what is sent to the station where one is not.
+//! in which state, and what is sent to the station if one is not.
 //!
 //! Which requests move a station from one state to another, and which class a request has, is left to the crates above.
 #![tactic(auto)]

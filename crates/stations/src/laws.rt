@@ -6,14 +6,14 @@ use address_map::addresses_stay_apart;
 use aid_pool::least_is_free;
 use station_state::StationState;
 
-/// Where the state of one station is set, where it is forgotten or its mode is set, every other keeps its state
+/// If the state of one station is set, if it is forgotten or its mode is set, every other keeps its state
 /// (IEEE Std 802.11-2016, 11.3.1).
 #[inline(always)]
 pub fn others_stay()
     ensures { OthersStay }
 {}
 
-/// Where the mode of a station is set, it keeps its state but for the mode, and all keep their identifiers (11.2.3.2).
+/// If the mode of a station is set, it keeps its state but for the mode, and all keep their identifiers (11.2.3.2).
 #[inline(always)]
 pub fn modes_alone()
     ensures { ModesAlone }

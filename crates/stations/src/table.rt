@@ -92,7 +92,7 @@ impl Stations {
         self.states.entry(place)
     }
 
-    /// The state of a station, or `None` where it is not known.
+    /// The state of a station, or `None` if it is not known.
     pub fn state_of(&self, addr: MacAddr) -> Option<StationState>
         ensures { result ≡ state_of addr self.now.table }
     {
@@ -139,7 +139,7 @@ impl Stations {
     }
 
     /// The identifier that an association of the station in this state gives: the one that it has, or the least that
-    /// is free. `None` exactly where as many others are associated as may be.
+    /// is free. `None` exactly if as many others are associated as may be.
     pub fn next_aid(&self, addr: MacAddr, state: Option<StationState>) -> Option<u16>
         requires { state ≡ state_of addr self.now.table }
         ensures room { is_some result ≡ may_associate self.now.most addr self.now.table }
@@ -152,7 +152,7 @@ impl Stations {
         }
     }
 
-    /// Changes one station. `NoMemory`, and no change, can come where an unknown one is authenticated.
+    /// Changes one station. `NoMemory`, and no change, can come if an unknown one is authenticated.
     pub fn change(&mut self, change: Change) -> Result<(), NoMemory>
         requires { IsAllowed self.old.most change self.old.table }
         ensures ok { OnOk result (self.new ≡ with_table self.old (changed change self.old.table)) }
@@ -206,7 +206,7 @@ impl Stations {
     }
 
     /// Ends the association of a station, which is authenticated only from then on and whose identifier is free.
-    /// Nothing changes where it is not associated.
+    /// Nothing changes if it is not associated.
     pub fn disassociate(&mut self, addr: MacAddr)
         ensures { self.new ≡ with_table self.old (disassociate addr self.old.table) }
     {
@@ -220,7 +220,7 @@ impl Stations {
     }
 
     /// Forgets a station, whose identifier is free then. The others keep their order, and none moves unless many have
-    /// left. Nothing changes where it is not known.
+    /// left. Nothing changes if it is not known.
     pub fn forget(&mut self, addr: MacAddr)
         ensures { self.new ≡ with_table self.old (forget addr self.old.table) }
     {
@@ -231,7 +231,7 @@ impl Stations {
         }
     }
 
-    /// Sets the mode of a station. Nothing changes where it is not associated.
+    /// Sets the mode of a station. Nothing changes if it is not associated.
     pub fn set_mode(&mut self, addr: MacAddr, doze: bool)
         ensures { self.new ≡ with_table self.old (set_mode addr doze self.old.table) }
     {
@@ -262,7 +262,7 @@ pub fn dozes_with(state: Option<StationState>) -> bool
     matches!(state, Some(StationState::Associated { doze: true, .. }))
 }
 
-/// The listen interval of a station in this state, in beacon intervals (9.4.1.6), or 0 where it is not associated.
+/// The listen interval of a station in this state, in beacon intervals (9.4.1.6), or 0 if it is not associated.
 pub fn listen_with(state: Option<StationState>) -> u16
     ensures { result ≡ listen_with state }
 {
@@ -321,7 +321,7 @@ fn set_known(states: &mut AddressMap<StationState>, addr: MacAddr, state: Statio
     states.replace(addr, state);
 }
 
-/// Sets the mode of a station, and answers its state before. Nothing changes where it is not associated.
+/// Sets the mode of a station, and answers its state before. Nothing changes if it is not associated.
 fn set_mode(
     states: &mut AddressMap<StationState>,
     addr: MacAddr,

@@ -13,8 +13,8 @@ ghost use Rattle.thread_laws.specs.Steps.{AreGivenBy, steps_of};
 /// Each network takes its events, and then each frame that left is handed to the air queue and leaves, in the same
 /// order (*profile*). No frame is queued after them.
 ///
-/// That the configuration has no fault, `Parts::open` ensures for `Ap::finish`, and `play` where it ends well. The other
-/// conditions of `ended` are what `Ap::finish` and `play` of `workers` ensure where they end well. The other one of
+/// That the configuration has no fault, `Parts::open` ensures for `Ap::finish`, and `play` if it ends well. The other
+/// conditions of `ended` are what `Ap::finish` and `play` of `workers` ensure if they end well. The other one of
 /// `played` is what `play` ensures; what `play_with_frames` of `play` answers are the networks of such an end.
 pub fn as_steps()
     ensures ended { (config : RadioConfig) (end : Finished) → fault_of config ≡ None

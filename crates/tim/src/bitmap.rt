@@ -54,7 +54,7 @@ impl Bitmap {
         }
     }
 
-    /// Puts an association identifier, 1 to [`MAX_AID`], into the set, whether it has it or not. The others stay.
+    /// Puts an association identifier, 1 to [`MAX_AID`], into the set. One that is there, and the others, stay.
     pub fn set(&mut self, aid: u16)
         requires least { 1 ≤ aid }
         requires greatest { aid ≤ MAX_AID }
@@ -63,7 +63,7 @@ impl Bitmap {
         self.octets[usize::from(aid / 8)] |= 1 << (aid % 8);
     }
 
-    /// Takes an association identifier, 1 to [`MAX_AID`], out of the set, whether it has it or not. The others stay.
+    /// Takes an association identifier, 1 to [`MAX_AID`], out of the set, if it is there. The others stay.
     pub fn clear(&mut self, aid: u16)
         requires least { 1 ≤ aid }
         requires greatest { aid ≤ MAX_AID }

@@ -29,7 +29,7 @@ pub struct Tim {
     pub bits: Bitmap,
 }
 
-/// What a whole element shows (9.4.2.6): `None` where it is no TIM, where its fields don't go together, and where it is
+/// What a whole element shows (9.4.2.6): `None` if it is no TIM, if its fields don't go together, and if it is
 /// a TIM in another spelling (*profile*). It takes no memory.
 pub fn read_tim(element: &[u8]) -> Option<Tim>
     ensures found { IfSome result (λ tim. ShowsTim element.now tim.count tim.period tim.group (set.contains tim.bits)) }

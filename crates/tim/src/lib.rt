@@ -1,6 +1,6 @@
 //! The TIM element (IEEE Std 802.11-2016, 9.4.2.6): a beacon tells which stations have units waiting.
 //!
-//! It promises that a string of octets shows a set of association identifiers exactly where it is a TIM that has their
+//! It promises that a string of octets shows a set of association identifiers exactly if it is a TIM that has their
 //! bits, in one spelling. The types to know first are [`Bitmap`], a set of association identifiers, and [`Tim`], what
 //! an element shows. [`write_tim`] writes an element, and [`read_tim`] reads one.
 //!

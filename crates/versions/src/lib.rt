@@ -1,7 +1,7 @@
 //! What networks did under earlier versions of the configuration, and that they do so still (*profile*).
 //!
 //! One definition and one law to know first: `FirstVersion` says what a network of the first version does, once more and
-//! by itself, and [`first_version`] that a network of today does the same where it has none of the options that came
+//! by itself, and [`first_version`] that a network of today does the same if it has none of the options that came
 //! later. That definition is never changed, since later versions are measured by it.
 //!
 //! Nothing here runs. What a network does is `network`'s, what a text of either version means `trace`'s.
@@ -16,7 +16,7 @@ ghost use Rattle.versions.specs.Versions.{first_setting};
 
 use network::nothing_ages;
 
-/// Where a network relays and no unit ages, its frames on the air and on the wire, its table and its counts are those
+/// If a network relays and no unit ages, its frames on the air and on the wire, its table and its counts are those
 /// of a network of the first version, whose definition knows neither option (*profile*).
 pub fn first_version()
     ensures air { (s : Setting) (es : List Event) → s.network.relay ≡ true → s.network.aging ≡ false

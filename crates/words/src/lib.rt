@@ -65,8 +65,8 @@ pub enum Task<'a> {
     },
 }
 
-/// The task that the words ask for, of which the first is the program's own name. `None` for any others, also where
-/// they ask for help; `AllocError` where memory ran out.
+/// The task that the words ask for, of which the first is the program's own name. `None` for any others, also if
+/// they ask for help; `AllocError` if memory ran out.
 pub fn task_of<'a>(alloc: Global, words: &'a [String]) -> Result<Option<Task<'a>>, AllocError> {
     if words.len() <= 1 {
         return Ok(Some(Task::Joined));
@@ -129,7 +129,7 @@ fn file<'a>(alloc: Global, id: &'a str) -> Arg<'a> {
     Arg::new(alloc, id).required(true)
 }
 
-/// The task of words that were accepted. None for another subcommand than those of [`command`]. `AllocError` where
+/// The task of words that were accepted. None for another subcommand than those of [`command`]. `AllocError` if
 /// memory ran out.
 fn matched<'a>(alloc: Global, matches: &ArgMatches<'a>) -> Result<Option<Task<'a>>, AllocError> {
     let Some((name, files)) = matches.subcommand() else {

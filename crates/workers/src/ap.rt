@@ -70,7 +70,7 @@ impl<N: ApName> Ap<N> {
 
     /// Gives a string of octets that was heard on the air to each network that hears it, in order of place, and
     /// answers what each made of it (*profile*). For each that took or refused it the caller has an entry more. A
-    /// refusal of one network does not keep the others from it. `NoMemory` where memory ran out, before any
+    /// refusal of one network does not keep the others from it. `NoMemory` if memory ran out, before any
     /// network was touched; then the caller is as it was. It may wait for other threads.
     pub fn air<R: Wait>(
         &self,
@@ -87,7 +87,7 @@ impl<N: ApName> Ap<N> {
     }
 
     /// Gives a frame that came over the wire to the network at a place, and answers as [`Ap::air`] does (*profile*).
-    /// Where there is no network at that place, nobody hears it.
+    /// If there is no network at that place, nobody hears it.
     pub fn wire<R: Wait>(
         &self,
         rt: &R,
@@ -243,8 +243,8 @@ impl<N: ApName> Ap<N> {
     }
 
     /// Lets the first frame of the air queue leave, after room was made for it: it is the last that left then.
-    /// `false`, and no change, only where the queue was empty at one moment of the call, which tests show;
-    /// `NoMemory`, and no change, where memory ran out (*profile*). It may wait for other threads.
+    /// `false`, and no change, only if the queue was empty at one moment of the call, which tests show;
+    /// `NoMemory`, and no change, if memory ran out (*profile*). It may wait for other threads.
     pub fn leave<R: Wait>(&self, rt: &R, transmitter: &mut Transmitter<N>) -> Result<bool, NoMemory>
         ensures left { IfOk result (λ left. MatchBool left
             ((item : AirItem) × (item.place < length N.config.networks)

@@ -31,7 +31,7 @@ pub enum Entry {
 }
 
 impl Entry {
-    /// The entry of an event's outcome at a place: none where nobody heard it.
+    /// The entry of an event's outcome at a place: none if nobody heard it.
     pub(crate) fn of(place: usize, outcome: Outcome, event: Event) -> Option<Entry>
         ensures { option_to_list result ≡ entry_of event place outcome }
     {

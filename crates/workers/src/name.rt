@@ -41,7 +41,7 @@ pub trait ApName {
     ghost queue: { QueueName };
 }
 
-/// What such a call passes, so that its proof picks the name. Where it picks none, the name is nobody's.
+/// What such a call passes, so that its proof picks the name. If it picks none, the name is nobody's.
 impl ApName for Brand {
     ghost use Rattle.play.specs.Plays.{no_config, no_queue};
 

@@ -41,8 +41,8 @@ impl Model for Parts {
 
 impl Parts {
     /// The parts of an access point of this configuration, with this number of callers. `Config` with the first fault exactly
-    /// where the configuration has one, which is tested first; else `Callers` exactly where there are not 1 to
-    /// [`MAX_CALLERS`] of them; `NoMemory` where memory ran out (*profile*).
+    /// if the configuration has one, which is tested first; else `Callers` exactly if there are not 1 to
+    /// [`MAX_CALLERS`] of them; `NoMemory` if memory ran out (*profile*).
     pub fn open(alloc: Global, config: RadioConfig, callers: u32) -> Result<Parts, OpenFault>
         ensures fault { (fault : ConfigFault) →
             (result ≡ Err (OpenFault.Config fault)) ↔ (fault_of config ≡ Some fault) }

@@ -22,11 +22,11 @@ use std::thread::Threads;
 /// hears it; a `Wire` line whose place is not there does nothing. Frames leave meanwhile by the air queue of the
 /// configuration, and the last once all sources have ended.
 ///
-/// `Config` with the first fault exactly where the configuration has one, else `Sources` exactly where there are not 1
-/// to 64 of them; then the first of these that there is: `NoThread` where a thread could not be started, `NoMemory`
-/// where the program or a network ran out of memory. `Finish`, with `Uncovered` and no other, would tell that a network was
-/// not given all lines of each source, or that a frame of it still waits: no clause excludes it, and no test has met it.
-/// It may wait for other threads.
+/// `Config` with the first fault exactly if the configuration has one, else `Sources` exactly if there are not 1
+/// to 64 of them; then the first of these that there is: `NoThread` if a thread could not be started, `NoMemory`
+/// if the program or a network ran out of memory. `Finish`, with `Uncovered` and no other, would tell that a network
+/// was not given all lines of each source, or that a frame of it still waits: no clause excludes it, and no test has
+/// met it. It may wait for other threads.
 pub fn play<G: Gate + Sync, R: Threads + Wait + Sync>(
     rt: &R,
     alloc: Global,
@@ -38,7 +38,7 @@ pub fn play<G: Gate + Sync, R: Threads + Wait + Sync>(
     ensures sources { (result ≡ Err PlayFault.Sources) ↔
         ((fault_of config ≡ None) × (callers_fit (vec_len sources) ≡ false)) }
 
-    // Where memory ran out it is `NoMemory`, also while the access point is finished.
+    // If memory ran out it is `NoMemory`, also while the access point is finished.
     ensures memory { result ≢ Err (PlayFault.Finish ends.NoMemory) }
 
     // The one fault of finishing is that a network was not given all lines of each source, or that a frame of it waits.
@@ -53,7 +53,7 @@ pub fn play<G: Gate + Sync, R: Threads + Wait + Sync>(
     ensures nothing_else { IfOk result (λ end. ArePlaced config end.left) }
 
     // Each event of a history was given by one source, and what a source gave a network are the first of those that
-    // the network hears of its lines, all of them where the network is not full.
+    // the network hears of its lines, all of them if the network is not full.
     ensures givers { IfOk result (λ end. AreGivers (vec_len sources) (histories_of end.sections) end.givers) }
     ensures played { IfOk result (λ end.
         ArePlayed config (map (λ s. s.items) sources.items) end.sections end.givers) }

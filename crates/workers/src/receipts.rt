@@ -44,7 +44,7 @@ pub(crate) fn givers_of(
 }
 
 /// Who gave each event of the network at a place, as receipts tell, which may be wrong: the number after the last
-/// caller's where none tells of it.
+/// caller's if none tells of it.
 fn told_givers(
     alloc: Global,
     place: usize,
@@ -146,7 +146,7 @@ fn next_receipt(place: usize, entries: &[Entry]) -> Option<(u32, &Event, &[Entry
     None
 }
 
-/// The event's number and the event, where an entry is a receipt for the network at a place.
+/// The event's number and the event, if an entry is a receipt for the network at a place.
 fn receipt_for(place: usize, entry: &Entry) -> Option<(u32, &Event)>
     ensures { option_map (λ r. (r.0, r.1.now)) result ≡ receipt_for place entry.now }
 {

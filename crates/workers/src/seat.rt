@@ -1,6 +1,6 @@
 //! What stands under a network's lock (*profile*).
 
-ghost use Rattle.std.specs.Prelude.{◌≡◌, ◌≤◌, ◌+◌, length};
+ghost use Rattle.std.specs.Prelude.{◌≡◌, ◌≤◌, ◌+◌, [], length};
 ghost use Rattle.std.specs.Fn.{FnOnceTakesAt, FnOnceReturnsAt};
 ghost use Rattle.air_queue.specs.Passes.{NetPassView};
 ghost use Rattle.network.specs.BssView.{BssView};
@@ -17,7 +17,7 @@ use std::sync::Wait;
 
 /// A network of the access point N with its pass to the air queue, as they stand under one lock (*profile*). What was
 /// pushed and then what waits is all that the network alone sends for its history: no frame is lost, doubled or
-/// overtaken. Where it told last that none waits, none does: so it tells before its lock is let go.
+/// overtaken. If it told last that none waits, none does: so it tells before its lock is let go.
 #[derive(Drop)]
 pub struct Seat<N: ApName> {
     bss: Bss,
@@ -39,9 +39,10 @@ impl<N: ApName> Model for Seat<N> {
 }
 
 impl<N: ApName> Seat<N> {
-    /// The seat of a network, which has told nothing: its frames may wait.
+    /// The seat of a network that took no event, which has told nothing: its frames may wait.
     pub(crate) fn new(bss: Bss, pass: NetPass) -> Seat<N>
-        requires { IsSeated N.config N.queue bss pass }
+        requires seated { IsSeated N.config N.queue bss pass }
+        requires fresh { bss.history ≡ [] }
         ensures { result ≡ record { network = bss; pass = pass } }
     {
         Seat {
@@ -65,7 +66,7 @@ impl<N: ApName> Seat<N> {
         outcome
     }
 
-    /// Pushes the first frame that waits, which goes on waiting where it comes back.
+    /// Pushes the first frame that waits, which goes on waiting if it comes back.
     pub(crate) fn hand<R: Wait>(&mut self, rt: &R, queue: &AirQueue) -> Handed
         requires { queue.now.name ≡ N.queue }
         ensures answer { HandsFrame self.old self.new result }

@@ -22,7 +22,7 @@ use std::sync::Mutex;
 
 impl<N: ApName> Ap<N> {
     /// The access point N of its parts, whose networks have taken no event, its callers without entries, and the
-    /// transmitter, by which nothing left (*profile*). `NoMemory` where memory ran out; the parts are gone then.
+    /// transmitter, by which nothing left (*profile*). `NoMemory` if memory ran out; the parts are gone then.
     pub fn start(
         alloc: Global,
         parts: Parts,

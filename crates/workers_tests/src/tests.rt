@@ -25,7 +25,7 @@ const OTHER_AUTHENTICATION: &str =
 const OTHER_ASSOCIATION: &str = "00000000 020000000001 02aa00000002 020000000001 0000 0100 0a00 \
     00036c6162 010402040b16";
 
-/// Fails where an access point has no network, so that the first of them can be named.
+/// Fails if an access point has no network, so that the first of them can be named.
 fn has_first<N: ApName>(ap: &Ap<N>) -> Result<(), Fail>
     ensures { OnOk result (0 < length N.config.networks) }
 {

@@ -15,7 +15,7 @@ impl Draw {
         }
     }
 
-    /// A number below a bound of at most 2^32, or 0 where the bound is 0.
+    /// A number below a bound of at most 2^32, or 0 if the bound is 0.
     #[inline]
     pub(crate) fn below(&mut self, bound: usize) -> usize {
         self.state = self

@@ -11,7 +11,7 @@ pub(crate) struct Station {
     pub(crate) address: Piece,
     /// The address of its network, and its own.
     pub(crate) pair: Piece,
-    /// Its poll, with the association identifier that it has where all join in order.
+    /// Its poll, with the association identifier that it has when all join in order.
     pub(crate) poll: Piece,
     /// Whether it said last that it dozes.
     pub(crate) dozes: bool,

@@ -43,7 +43,7 @@ pub(crate) struct Job {
     pub(crate) ages: bool,
     /// Whether stations doze once they joined.
     pub(crate) dozes: bool,
-    /// How many acts come between two beacon intervals, or 0 where none begins.
+    /// How many acts come between two beacon intervals, or 0 if none begins.
     pub(crate) interval: u32,
     /// How many of a hundred units have 1,400 octets. The others have 32 to 127.
     pub(crate) long: usize,

@@ -32,8 +32,8 @@ pub struct RunResult {
 }
 
 /// Opens the radio of a configuration and makes the steps in their order. A step that names no network does nothing,
-/// nor does an event for a network whose history is full. `Config` with the first fault exactly where the
-/// configuration has one, which is tested first; `NoMemory` where memory ran out, and nothing is handed out then.
+/// nor does an event for a network whose history is full. `Config` with the first fault exactly if the
+/// configuration has one, which is tested first; `NoMemory` if memory ran out, and nothing is handed out then.
 pub fn run(alloc: Global, config: RadioConfig, steps: &[Step]) -> Result<RunResult, OpenFault>
     ensures fault { (fault : ConfigFault) → (result ≡ Err (OpenFault.Config fault)) ↔ (fault_of config ≡ Some fault) }
     ensures callers { result ≢ Err OpenFault.Callers }

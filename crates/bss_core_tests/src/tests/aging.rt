@@ -47,7 +47,7 @@ fn take(network: &mut Network, event: &Event) -> Result<Sent, Fail> {
     Ok(network.take(event)?)
 }
 
-/// Whether a network answers on the air where it hears octets of a station.
+/// Whether a network answers on the air if it hears octets of a station.
 fn hear(
     alloc: Global,
     network: &mut Network,
@@ -166,7 +166,7 @@ fn answers(alloc: Global) -> Result<Answers, Fail> {
     Ok((sent, told, [first, poll(alloc, &mut network, 2)?]))
 }
 
-/// A unit is kept as long as the listen interval of its station says, also where most of those that units were kept
+/// A unit is kept as long as the listen interval of its station says, also if most of those that units were kept
 /// for before polled them and left.
 #[test]
 fn units_age_where_most_stations_polled_and_left(rt: HostRuntime) -> Result<(), Fail> {

@@ -10,7 +10,7 @@ use std::alloc::Global;
 use std::collections::VecDeque;
 use std::test::Fail;
 
-/// What a network answers where it takes these octets from the air.
+/// What a network answers if it takes these octets from the air.
 fn take(
     alloc: Global,
     bss: &mut Bss,
@@ -27,7 +27,7 @@ fn take(
 fn lengths(bss: &Bss) -> [usize; 4] {
     [
         bss.waiting_len(),
-        bss.history_len(),
+        bss.history().len(),
         bss.table_len(),
         bss.wired().len(),
     ]
@@ -43,7 +43,7 @@ fn give_first_back(bss: &mut Bss) -> Option<[bool; 3]> {
     Some([before, taken, bss.has_slot()])
 }
 
-/// The first three frames that wait, or all of them where there are fewer.
+/// The first three frames that wait, or all of them if there are fewer.
 fn take_out(alloc: Global, bss: &mut Bss) -> Result<List<Octets>, Fail> {
     let mut frames = Vec::new(alloc);
     for _ in 0..3 {

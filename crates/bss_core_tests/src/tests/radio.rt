@@ -10,7 +10,7 @@ use network::{Bss, Refusal};
 use std::alloc::Global;
 use std::test::Fail;
 
-/// What a radio answers where the network at a place takes these octets from the air, or a beacon interval begins.
+/// What a radio answers if the network at a place takes these octets from the air, or a beacon interval begins.
 fn take(
     alloc: Global,
     radio: &mut Radio,

@@ -13,7 +13,7 @@ use station_state::StationState;
 use stations::Change;
 
 impl Network {
-    /// The reply to a request to authenticate: its answer, and where it is served the station is authenticated.
+    /// The reply to a request to authenticate: its answer, and if it is served the station is authenticated.
     pub(crate) fn answer_authentication(
         &self,
         reply: &mut Reply,

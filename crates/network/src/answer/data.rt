@@ -110,7 +110,7 @@ impl Network {
     }
 
     /// Goes on with a reply, which sets the mode of one station at most: delivers a station's unit on the air, to a
-    /// station in this state then, where the network relays. After `NoMemory` the reply is of no use.
+    /// station in this state then, if the network relays. After `NoMemory` the reply is of no use.
     fn relay(
         &self,
         reply: &mut Reply,
@@ -137,7 +137,7 @@ impl Network {
         }
     }
 
-    /// Goes on with a reply: puts a unit on the wire, or counts it as lost where it has no wired form.
+    /// Goes on with a reply: puts a unit on the wire, or counts it as lost if it has no wired form.
     fn put_on_wire(
         &self,
         reply: &mut Reply,
@@ -164,7 +164,7 @@ impl Network {
     }
 }
 
-/// Whether a unit of a station goes on the wire: but where it is relayed to one associated station, by the state that
+/// Whether a unit of a station goes on the wire, unless it is relayed to one associated station, by the state that
 /// it is in.
 fn goes_on_wire(relay: bool, to: MacAddr, state: Option<StationState>) -> bool
     ensures { (stations : Table) → state ≡ state_of to stations → result ≡ goes_on_wire relay to stations }

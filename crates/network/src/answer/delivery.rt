@@ -85,7 +85,7 @@ impl Network {
     pub(crate) fn group_is_kept(&self) -> bool
         ensures { result ≡ group_is_kept self.now.network.kept }
     {
-        // some are kept where one stands among them
+        // some are kept if one stands among them
         kept_counts();
         self.kept().count_for(Whom::Group) > 0
     }
@@ -123,7 +123,7 @@ impl Network {
         Ok(())
     }
 
-    /// Goes on with a reply: sends all units that are kept for one, and where so asked tells of all but the last that
+    /// Goes on with a reply: sends all units that are kept for one, and if so asked tells of all but the last that
     /// others follow.
     pub(crate) fn send_kept(
         &self,
@@ -167,7 +167,7 @@ impl Network {
     }
 }
 
-/// Whether More Data is set for the unit at a place, from 0, of `count` units, where that is asked: others follow it.
+/// Whether More Data is set for the unit at a place, from 0, of `count` units, if that is asked: others follow it.
 fn more_data(shows_more: bool, place: usize, count: usize) -> bool
     requires { place < count }
     ensures { result ≡ (shows_more && nat_lt (place + 1) count) }

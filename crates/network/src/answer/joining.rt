@@ -15,7 +15,7 @@ use station_state::StationState;
 use stations::Change;
 
 impl Network {
-    /// The reply to the request of a known station to associate, or `again` to reassociate: its answer, and where it
+    /// The reply to the request of a known station to associate, or `again` to reassociate: its answer, and if it
     /// is served the station is associated.
     pub(crate) fn answer_association(
         &self,

@@ -13,8 +13,8 @@ use roster::kept_counts;
 use station_state::StationState;
 
 impl Network {
-    /// The reply to a poll: it is served where its station, in this state, dozes and names its own identifier. The unit
-    /// that was kept first for the station leaves as a frame where the reply is carried out.
+    /// The reply to a poll: it is served if its station, in this state, dozes and names its own identifier. The unit
+    /// that was kept first for the station leaves as a frame if the reply is carried out.
     pub(crate) fn answer_poll(
         &self,
         reply: &mut Reply,
@@ -31,7 +31,7 @@ impl Network {
             ≡ after_answer self.now.setting (outcome reply.new) self.now.network }
         ensures alone { IfSome reply.new.served (λ from. reply.new ≡ serves from self.now.network.sequence) }
     {
-        // none leaves where none is kept
+        // none leaves if none is kept
         kept_counts();
         if may_poll(aid, state) {
             reply.served = Some(from);

@@ -11,7 +11,7 @@ use beacon::write_response_with;
 use mac_frame::{MacAddr, NoMemory};
 
 impl Network {
-    /// The reply to a probe: a probe response, where the probe asks for this network.
+    /// The reply to a probe: a probe response, if the probe asks for this network.
     pub(crate) fn answer_probe(
         &self,
         reply: &mut Reply,

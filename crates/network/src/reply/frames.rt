@@ -76,7 +76,7 @@ impl Frames {
         self.first
     }
 
-    /// Makes room for the frames, and for one at least, after those that wait, which stay as they are. `NoMemory` where
+    /// Makes room for the frames, and for one at least, after those that wait, which stay as they are. `NoMemory` if
     /// memory ran out.
     #[inline(always)]
     pub fn reserve_in(&self, waiting: &mut VecDeque<Octets>) -> Result<(), NoMemory>

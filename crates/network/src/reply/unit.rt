@@ -42,7 +42,7 @@ pub struct Arrival<'a> {
 }
 
 impl Arrival<'_> {
-    /// The unit by itself, for which its body is copied. `NoMemory` where memory ran out.
+    /// The unit by itself, for which its body is copied. `NoMemory` if memory ran out.
     pub fn copy(&self, alloc: Global) -> Result<Unit, NoMemory>
         ensures { IfOk result (λ unit. unit ≡ unit_shown self.now) }
     {

@@ -1,4 +1,4 @@
-//! The programs of `docs/LIBRARY.md` on frames from outside: calls succeed where there is memory, and the octets are
+//! The programs of `docs/LIBRARY.md` on frames from outside: calls succeed if there is memory, and the octets are
 //! those of the standard.
 
 use super::{are_frames, are_same, count_of, have_left, octets, section_at};
@@ -13,7 +13,7 @@ use std::test::Fail;
 use std::thread::Threads;
 use workers::Finished;
 
-/// What is heard where a text spells it.
+/// What is heard if a text spells it.
 fn heard(alloc: Global, text: &str) -> Result<Event, Fail> {
     Ok(Event::Air(octets(alloc, text)?))
 }

@@ -15,7 +15,7 @@ use std::thread::Threads;
 use workers::{Finished, Gate, Line, PlayFault, play};
 
 /// Holds the first line of source 0 until source 1 comes to its second, and that one until source 0 comes to a line.
-/// Where that is line 0, nobody is held.
+/// If that is line 0, nobody is held.
 #[derive(Drop)]
 struct Order {
     line: u32,
@@ -197,7 +197,7 @@ fn a_line_is_given_once_the_gate_let_it(rt: HostRuntime) -> Result<(), Fail> {
     Ok(())
 }
 
-/// The networks of the frames that left, where one source gives two networks a tick, the first of them a request, and both
+/// The networks of the frames that left, if one source gives two networks a tick, the first of them a request, and both
 /// a tick again.
 fn places_of_left<R: Threads + Wait + Sync>(rt: &R, alloc: Global) -> Result<Vec<usize>, Fail> {
     let source = asking(alloc, AUTHENTICATION_REQUEST)?;
