@@ -16,7 +16,7 @@
 //!  wire2 ◀─┘  8 at most in a row                                                records  │                │
 //!  mon0 ◀──── beacons, at once ◀─ air                                                     └────────────────┘
 //!  mon0 ◀──── as much as the  ◀── scheduler: whose turn it is, of the networks and of a network's receivers
-//!             radio sends in      links: at which rate, and again where it is lost
+//!             radio sends in      links: at which rate, and again if it is lost
 //!             8 milliseconds  ◀── in_flight: what the radio has at once
 //!  mon0 ───▶ what became of it ─▶ corrects the shares
 //!  people ◀──────────────────── lines of tables and faults
@@ -41,19 +41,19 @@
 //! stations stay, `open PLACE...`, once the interfaces are there, with their sockets, `wire PLACE`, with the socket of
 //! a wire that is there again, `tables`, and `dismiss PLACE...`, by which all stations of these networks are told to
 //! join again; the end of its input ends it. It writes `ready`, once the networks are open, `sending`, once the first
-//! beacon was seen as sent, `unsent` where none was for a while, and `sending` again, `elsewhere MHZ` where the radio
+//! beacon was seen as sent, `unsent` if none was for a while, and `sending` again, `elsewhere MHZ` if the radio
 //! hears on another frequency than its channel's, and `here` once it is back, `alive` while the program answers, `down
-//! PLACE` where a wire ended, `dismissed`, `status N` with the status of the program, and `fault CODE TEXT`, after which it
-//! ends with status 1.
+//! PLACE` if a wire ended, `dismissed`, `status N` with the status of the program, and `fault CODE TEXT`, after which
+//! it ends with status 1.
 //!
-//! Where a bridge takes the place of another one, stations stay (`restart::replay`). The state that the one before
+//! If a bridge takes the place of another one, stations stay (`restart::replay`). The state that the one before
 //! has left in the files says who is associated, and by which request. The new program is told of these before anything
 //! else, and the record marks that by comments. What it answers to these events is swallowed: that alone of its answers
 //! isn't sent. Each second in which something changed, and at its end, the bridge leaves such a state itself
 //! (`restart::state_files`).
 //!
 //! By itself (`stations`) it watches which stations there are, tells what happens to them, and asks those
-//! that have fallen silent whether they are there; for one that isn't, or that doesn't associate where a network is
+//! that have fallen silent whether they are there; for one that isn't, or that doesn't associate if a network is
 //! nearly full, it tells the program that the station left. It answers who connects to its socket (`control::clients`).
 #![deny(unsafe_code)]
 // Shifts go before `&` and `|`, and need no parentheses for that: clippy 1.85 alone asks for them.
@@ -69,6 +69,7 @@ mod os;
 mod outbound;
 mod restart;
 mod run;
+mod spare;
 mod stations;
 #[cfg(test)]
 mod testing;
@@ -155,7 +156,7 @@ fn run(words: &Arguments) -> Result<(), Fault> {
     bridge.serve(|handed| open(words, handed))
 }
 
-/// How many octets a file has at most that the bridge writes: those of the state, and the record. There is no bound where
+/// How many octets a file has at most that the bridge writes: those of the state, and the record. There is no bound if
 /// the record has no limit, or the log is led into a file.
 fn most_of_files(words: &Arguments) -> Option<u64> {
     let of_record = if words.record.is_some() { words.record_limit } else { Some(0) };

@@ -95,7 +95,7 @@ impl Feeder {
         }
     }
 
-    /// Writes a comment into the record, where there is one.
+    /// Writes a comment into the record, if there is one.
     pub fn remark(&mut self, text: &str) {
         if let Some(record) = &mut self.record {
             record.remark(text);
@@ -134,7 +134,7 @@ impl Feeder {
         self.record.iter_mut().for_each(Recording::finish);
     }
 
-    /// The record, where there is one.
+    /// The record, if there is one.
     pub fn record(&self) -> Option<&Recording> {
         self.record.as_ref()
     }

@@ -37,14 +37,13 @@ pub struct Program {
     child: Child,
     output: ChildStdout,
     answers: Answers,
-    piece: Vec<u8>,
     /// Whether the last piece was all that there was: the next question need not be asked of the kernel.
     was_last: bool,
     has_ended: bool,
 }
 
 impl Program {
-    /// Starts it, within bounds where there are such; what is said to it is recorded, where there is a record.
+    /// Starts it, within bounds if there are such; what is said to it is recorded, if there is a record.
     pub fn start(
         path: &str,
         config: &str,
@@ -63,9 +62,7 @@ impl Program {
                 for pipe in [input.as_fd(), output.as_fd()] {
                     prepare(pipe)?;
                 }
-                let answers = Answers::new();
-                let piece = vec![0; PIECE_LEN];
-                let program = Program { child, output, answers, piece, was_last: false, has_ended: false };
+                let program = Program { child, output, answers: Answers::new(), was_last: false, has_ended: false };
                 Ok((program, Feeder::new(input, record)))
             }
             _ => Err(Fault::NotBegun(format!("{path}: it has no pipes"))),
@@ -88,11 +85,11 @@ impl Program {
         if std::mem::take(&mut self.was_last) {
             return Ok(false);
         }
-        match self.output.read(&mut self.piece) {
+        match self.output.read(self.answers.room(PIECE_LEN)) {
             Ok(0) => self.has_ended = true,
             Ok(length) => {
-                self.was_last = length < self.piece.len();
-                self.answers.take(&self.piece[..length]);
+                self.was_last = length < PIECE_LEN;
+                self.answers.came(length);
                 return Ok(true);
             }
             Err(fault) if matches!(fault.kind(), ErrorKind::WouldBlock | ErrorKind::Interrupted) => {}
@@ -111,7 +108,7 @@ impl Program {
         self.has_ended
     }
 
-    /// Its status once it has ended, as a shell tells it; it is killed where it doesn't end by then.
+    /// Its status once it has ended, as a shell tells it; it is killed if it doesn't end by then.
     pub fn status(&mut self, until: Instant) -> io::Result<i32> {
         while self.child.try_wait()?.is_none() && now() < until {
             sleep(EVERY);

@@ -1,8 +1,9 @@
-//! What is said to the program and what it answers, in records of octets (docs/PROTOCOL.md, 'Lines as they come'). All
+//! What is said to the program and what it answers, in records of octets (docs/FORMATS.md, 'Lines as they come'). All
 //! else of the bridge knows events and answers alone.
 use std::fmt;
 
 use crate::formats::frames::Address;
+use crate::spare::copy_of;
 
 /// What is said to the program.
 #[derive(Debug, Clone, Copy, PartialEq, Eq)]
@@ -75,9 +76,11 @@ pub fn answered_mark(line: &str) -> Option<u64> {
 /// Reads the answers of the program as they come, however they are cut.
 #[derive(Debug, Default)]
 pub struct Answers {
+    /// What came, and room for more behind it.
     octets: Vec<u8>,
-    /// Where what was not yet read of `octets` begins.
+    /// Where what was not yet read of `octets` begins, and where what came ends.
     begin: usize,
+    end: usize,
 }
 
 impl Answers {
@@ -86,17 +89,35 @@ impl Answers {
         Answers::default()
     }
 
-    /// A piece came.
-    pub fn take(&mut self, piece: &[u8]) {
-        self.octets.drain(..self.begin);
-        self.begin = 0;
-        self.octets.extend(piece);
+    /// Room for the next piece, of so many octets.
+    pub(super) fn room(&mut self, octets: usize) -> &mut [u8] {
+        if self.begin > 0 {
+            self.octets.copy_within(self.begin..self.end, 0);
+            (self.begin, self.end) = (0, self.end - self.begin);
+        }
+        let most = self.end + octets;
+        if self.octets.len() < most {
+            self.octets.resize(most, 0);
+        }
+        &mut self.octets[self.end..most]
     }
 
-    /// The next whole answer, or `None` where more has to come. A record that is cut is one that the program didn't
+    /// A piece came: the first so many octets of the room for it.
+    pub(super) fn came(&mut self, octets: usize) {
+        self.end += octets;
+    }
+
+    /// This piece came.
+    #[cfg(test)]
+    pub fn take(&mut self, piece: &[u8]) {
+        self.room(piece.len()).copy_from_slice(piece);
+        self.came(piece.len());
+    }
+
+    /// The next whole answer, or `None` if more has to come. A record that is cut is one that the program didn't
     /// write whole.
     pub fn next(&mut self) -> Result<Option<Answer>, Unknown> {
-        let found = next_record(&self.octets[self.begin..])?;
+        let found = next_record(&self.octets[self.begin..self.end])?;
         Ok(found.map(|(answer, length)| {
             self.begin += length;
             answer
@@ -130,8 +151,8 @@ fn next_record(octets: &[u8]) -> Result<Option<(Answer, usize)>, Unknown> {
 /// What a record says.
 fn record_of(kind: u8, bssid: Address, octets: &[u8]) -> Option<Answer> {
     match kind {
-        b'A' => Some(Answer::Air(bssid, octets.to_vec())),
-        b'W' => Some(Answer::Wire(bssid, octets.to_vec())),
+        b'A' => Some(Answer::Air(bssid, copy_of(octets))),
+        b'W' => Some(Answer::Wire(bssid, copy_of(octets))),
         b'N' if bssid == NOBODY => Some(Answer::Told(String::from_utf8_lossy(octets.strip_suffix(b"\n")?).into())),
         b'O' if octets.is_empty() && bssid.octets()[..5] == [0; 5] => Some(Answer::Ready(bssid.octets()[5].into())),
         _ => None,

@@ -1,4 +1,4 @@
-//! The recording of `--record`: the lines that the program is given, as `run` reads them (docs/PROTOCOL.md).
+//! The recording of `--record`: the lines that the program is given, as `run` reads them (docs/FORMATS.md).
 use std::fs::File;
 use std::io::{self, ErrorKind, Write};
 use std::sync::{Arc, Mutex, MutexGuard, PoisonError};
@@ -16,7 +16,7 @@ const MOST_WAITING: usize = 16 << 20;
 const TO_FINISH: Duration = Duration::from_secs(2);
 
 /// The lines that the program is given, as `run` reads them; a question for the tables stands there as a comment.
-/// Nobody waits for the file: lines that it doesn't take in time are left out, and a comment there counts them. Where
+/// Nobody waits for the file: lines that it doesn't take in time are left out, and a comment there counts them. If
 /// nothing more can be written, as on a full disk, or the file has reached its limit, the recording stops: it is told
 /// once, the file keeps whole lines alone, and all else goes on.
 #[derive(Debug)]
@@ -48,7 +48,7 @@ impl Progress {
 }
 
 impl Recording {
-    /// Into a file that is open for writing and empty, and which has so many octets at most, where it has a limit; its
+    /// Into a file that is open for writing and empty, and which has so many octets at most, if it has a limit; its
     /// name is for people.
     pub fn new(name: &str, file: File, limit: Option<u64>) -> io::Result<Recording> {
         Recording::with_most(name, file, limit, MOST_WAITING)
@@ -114,7 +114,7 @@ impl Recording {
         self.left_out += lines.iter().filter(|octet| **octet == b'\n').count();
     }
 
-    /// Where there is room again, a comment says how many lines are missing before it.
+    /// If there is room again, a comment says how many lines are missing before it.
     fn tell_left_out(&mut self) {
         let (lines, name) = (self.left_out, &self.name);
         if lines == 0 {
@@ -197,7 +197,7 @@ impl Lines {
         self.stop(written, Level::Warning, reason(fault));
     }
 
-    /// Stops the recording: so much was written, of which the last line is cut off where it isn't whole. Nobody is kept
+    /// Stops the recording: so much was written, of which the last line is cut off if it isn't whole. Nobody is kept
     /// waiting meanwhile who asks how far the file is.
     fn stop(&mut self, written: &[u8], level: Level, why: String) {
         let written = self.progress.lock().written + whole_lines(written) as u64;

@@ -1,4 +1,4 @@
-//! The program's tables (docs/PROTOCOL.md, 'Lines as they come'): who asked for them, and what they say.
+//! The program's tables (docs/FORMATS.md, 'Lines as they come'): who asked for them, and what they say.
 use std::collections::{HashMap, VecDeque};
 
 use crate::formats::frames::Address;

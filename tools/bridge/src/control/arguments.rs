@@ -30,7 +30,7 @@ pub struct Arguments {
     pub monitor: String,
     /// The beacon interval in time units.
     pub interval: u16,
-    /// By which interfaces the radio acknowledges, where that was said.
+    /// By which interfaces the radio acknowledges, if that was said.
     pub by: Option<By>,
     /// After how many seconds an associated station of which nothing was heard is asked; 0 asks nobody.
     pub idle: u32,
@@ -44,9 +44,9 @@ pub struct Arguments {
     pub has_sent: bool,
     /// The file of the record as a descriptor, with its name for people.
     pub record: Option<(RawFd, String)>,
-    /// How many octets that file has at most, where it has a limit.
+    /// How many octets that file has at most, if it has a limit.
     pub record_limit: Option<u64>,
-    /// How many octets of address space the program has, where it runs within bounds (`sandbox::Bounds`).
+    /// How many octets of address space the program has, if it runs within bounds (`sandbox::Bounds`).
     pub bounds: Option<u64>,
     /// The networks in the order of the configuration.
     pub networks: Vec<Network>,

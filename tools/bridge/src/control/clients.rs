@@ -35,7 +35,7 @@ const MOST_AT_A_TIME: usize = 1 << 18;
 const ROOT: u32 = 0;
 /// How many places are root's alone.
 const PLACES_OF_ROOT: usize = 4;
-/// So long after nobody could connect, as where this machine has no descriptors left, that is tried again.
+/// So long after nobody could connect, as when this machine has no descriptors left, that is tried again.
 const UNTIL_TRIED: Duration = SECOND;
 
 /// A question.
@@ -72,7 +72,7 @@ impl Question {
 pub struct Line(Rc<str>);
 
 impl Line {
-    /// Of this text. Where it is too long, the answer says that.
+    /// Of this text. If it is too long, the answer says that.
     pub fn of(text: String) -> Line {
         let mut text = text;
         if text.len() >= MOST_ANSWER {
@@ -123,7 +123,7 @@ pub struct Clients {
     clients: Vec<Option<Client>>,
     /// How many they are.
     connected: usize,
-    /// When it is tried again whether somebody can connect, where nobody could.
+    /// When it is tried again whether somebody can connect, if nobody could.
     closed_until: Option<Instant>,
     /// Whether it was told that nobody can connect.
     has_told: bool,
@@ -170,7 +170,7 @@ impl Clients {
         poller.remove(self.descriptor())
     }
 
-    /// Waits again for those who want to connect, where it is time.
+    /// Waits again for those who want to connect, if it is time.
     fn open_again(&mut self, poller: &Poller, now: Instant) -> Result<(), Fault> {
         if self.closed_until.map_or(false, |until| now >= until) {
             self.closed_until = None;
@@ -179,7 +179,7 @@ impl Clients {
         Ok(())
     }
 
-    /// One of this user has connected. Where there is no place for it, it is closed.
+    /// One of this user has connected. If there is no place for it, it is closed.
     fn enter(&mut self, stream: UnixStream, user: u32, poller: &Poller, now: Instant) {
         let place = match self.place_for(user) {
             Some(place) if stream.set_nonblocking(true).is_ok() => place,
@@ -198,7 +198,7 @@ impl Clients {
     }
 
     /// The place for one more client of a user: one that is free, or that of the client which wrote longest ago, which
-    /// is root's only where this one is too.
+    /// is root's only if this one is too.
     fn place_for(&self, user: u32) -> Option<usize> {
         let is_of_root = user == ROOT;
         let first = if is_of_root { 0 } else { PLACES_OF_ROOT };
@@ -339,7 +339,7 @@ impl Client {
         self.answer.is_some() && now >= self.took + MOST_UNTAKEN
     }
 
-    /// Reads what waits and may be kept; false where it is gone, or writes more than a client may.
+    /// Reads what waits and may be kept; false if it is gone, or writes more than a client may.
     fn read(&mut self, now: Instant) -> bool {
         let mut piece = [0; MOST_INPUT];
         let room = MOST_INPUT - self.input.len();
@@ -354,7 +354,7 @@ impl Client {
         }
     }
 
-    /// The next line, where it may ask.
+    /// The next line, if it may ask.
     fn next_line(&mut self) -> Option<Vec<u8>> {
         let place = self.input.iter().position(|octet| *octet == b'\n').filter(|_| self.is_free())?;
         let mut line: Vec<u8> = self.input.drain(..=place).collect();
@@ -362,7 +362,7 @@ impl Client {
         Some(line)
     }
 
-    /// Writes what it takes; false where it is gone.
+    /// Writes what it takes; false if it is gone.
     fn write(&mut self, now: Instant) -> bool {
         let (line, mut taken) = match self.answer.take() {
             Some((Line(line), taken)) => (line, taken),

@@ -238,7 +238,7 @@ fn root_has_places_that_others_never_take() {
     (0..MOST_CLIENTS).for_each(|place| stage.clients.take(place, true, false, Instant::from_nanos(300)));
     let (place, question) = stage.clients.next().unwrap();
     assert!(stage.clients.is_root(place) && matches!(question, Question::Kick { .. }));
-    // Where root has all places, others are closed at once.
+    // If root has all places, others are closed at once.
     root.extend(connect(&mut stage, ROOT, 400..420));
     let mut late = stage.connect_as(OTHER_USER, Instant::from_nanos(500));
     assert_eq!((stage.users(), late.read(&mut [0]).unwrap()), (vec![ROOT; MOST_CLIENTS], 0));
@@ -261,7 +261,7 @@ fn events_go_to_who_waits_longest() {
     assert_eq!((stage.clients.waits_longest_for_events(), stage.clients.has_questions()), (None, false));
 }
 
-/// As where this machine has no descriptors left: nobody waits busily, and a second later it is tried again.
+/// As when this machine has no descriptors left: nobody waits busily, and a second later it is tried again.
 #[test]
 fn where_nobody_can_connect_it_is_tried_again_later() {
     let mut stage = Stage::new("closed");

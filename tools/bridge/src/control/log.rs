@@ -1,4 +1,4 @@
-//! What is told to people on standard error. Where the journal of systemd reads it, a line begins with its level
+//! What is told to people on standard error. If the journal of systemd reads it, a line begins with its level
 //! (sd-daemon(3)), and the journal has the time; else lines of what happened begin with the time, in UTC.
 //!
 //! While the bridge serves, it waits for no line to be written: what standard error doesn't take is dropped, counted
@@ -20,7 +20,7 @@ use crate::os::clock::{now, wall_now, Duration, Instant, SECOND};
 
 /// How many lines are written in a second at most that stations of one network can cause.
 const MOST_OF_NETWORK: u64 = 50;
-/// How many lines are written in a second at most that stations can cause, of all networks: where there are more than
+/// How many lines are written in a second at most that stations can cause, of all networks: if there are more than
 /// four, each has an equal part of these. So no other network's lines keep those of one out.
 const MOST_A_SECOND: u64 = 200;
 /// How many faults of the program are written in a second at most: want of memory is one of each event.
@@ -30,7 +30,7 @@ const MOST_FAULTS: u64 = 10;
 const MOST_WAITING: usize = 4 << 20;
 /// How long what waits is written at the end.
 const TO_FINISH: Duration = Duration::from_secs(2);
-/// How often the thread that writes tries again where standard error is told not to wait.
+/// How often the thread that writes tries again if standard error is told not to wait.
 const UNTIL_TAKEN: Duration = Duration::from_millis(10);
 
 /// The name as long as it isn't known by which one a person has begun this.
@@ -78,7 +78,7 @@ impl Level {
     }
 }
 
-/// Writes a line of this bridge. Where nobody reads it any more, nothing is to be done.
+/// Writes a line of this bridge. If nobody reads it any more, nothing is to be done.
 pub fn write(level: Level, text: impl fmt::Display) {
     let text = text.to_string();
     let mut log = log();
@@ -131,7 +131,7 @@ pub fn write_at_once() {
     log().writer = None;
 }
 
-/// Writes pieces whole, also where somebody has told standard error not to wait. What this stream doesn't take any more
+/// Writes pieces whole, also if somebody has told standard error not to wait. What this stream doesn't take any more
 /// is lost: nobody is left who could be told.
 fn write_to(mut stream: File) -> impl FnMut(&[u8]) + Send {
     move |mut piece| {
@@ -163,7 +163,7 @@ impl Log {
         self.line(level, date, text)
     }
 
-    /// A line with this start where standard error isn't the journal's.
+    /// A line with this start if standard error isn't the journal's.
     fn line(&mut self, level: Level, start: String, text: impl fmt::Display) -> String {
         let start = match self.stream() {
             Stream::Journal => format!("<{}>", level.number()),
@@ -258,7 +258,7 @@ impl Bounded {
         self.lines[network] <= self.most
     }
 
-    /// Where a second is over, the next one begins; answers of which networks lines were left out in it, and how many.
+    /// Once a second is over, the next one begins; answers of which networks lines were left out in it, and how many.
     pub fn take_left_out(&mut self, now: Instant) -> Vec<(usize, u64)> {
         if now < self.second + SECOND {
             return Vec::new();
@@ -304,7 +304,7 @@ mod tests {
         format!("{number:99}\n")
     }
 
-    /// As where a terminal is paused. What fits waits, and is written once it goes on; the gap is told.
+    /// As when a terminal is paused. What fits waits, and is written once it goes on; the gap is told.
     #[test]
     fn where_nobody_reads_no_line_waits() {
         let (near, far) = UnixStream::pair().unwrap();
@@ -332,7 +332,7 @@ mod tests {
         assert!(missing > LINES / 2, "{missing}");
     }
 
-    /// As where whoever shares standard error has told it not to wait.
+    /// As when whoever shares standard error has told it not to wait.
     #[test]
     fn a_stream_that_does_not_wait_gets_each_line() {
         let (near, far) = UnixStream::pair().unwrap();

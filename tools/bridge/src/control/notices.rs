@@ -51,7 +51,7 @@ struct Notices {
     dropped: u64,
 }
 
-/// Tells `tools/live`. Where that has ended nothing is to be done: the bridge's input has ended too.
+/// Tells `tools/live`. If that has ended nothing is to be done: the bridge's input has ended too.
 pub fn say(notice: &Notice) {
     notices().say(notice);
 }

@@ -63,7 +63,7 @@ impl Requests {
         self.input.as_fd()
     }
 
-    /// The next request, or `None` where none waits. Other lines are none.
+    /// The next request, or `None` if none waits. Other lines are none.
     pub fn next(&mut self) -> Result<Option<Request>, Fault> {
         loop {
             if let Some(place) = self.octets.iter().position(|octet| *octet == b'\n') {

@@ -23,7 +23,7 @@ pub const VERSION: &str = match option_env!("BRIDGE_VERSION") {
     Some(version) => version,
     None => env!("CARGO_PKG_VERSION"),
 };
-/// Of which kind the document is: another number where a member is gone or means something else (docs/JSON.md).
+/// Of which kind the document is: another number if a member is gone or means something else (docs/FORMATS.md).
 const FORMAT: u32 = 1;
 /// What follows the last network.
 pub const END: &str = "]}";
@@ -51,7 +51,7 @@ impl Faults {
         self.lines.takes(0)
     }
 
-    /// How many weren't written in the second that is over, where some weren't.
+    /// How many weren't written in the second that is over, if some weren't.
     pub fn take_left_out(&mut self, now: Instant) -> Option<u64> {
         self.lines.take_left_out(now).first().map(|(_, more)| *more)
     }
@@ -60,14 +60,14 @@ impl Faults {
 /// Counts by what they count.
 pub type Named = BTreeMap<String, u64>;
 
-/// What is known of the radio; where all is well, nothing.
+/// What is known of the radio; if all is well, nothing.
 #[derive(Debug, Clone, Copy, Default)]
 pub struct OfRadio {
     /// Since when its interface is down.
     pub down_since: Option<Instant>,
     /// Since when it has shown no beacon as sent.
     pub unsent_since: Option<Instant>,
-    /// On which frequency it hears, in MHz, where that isn't its channel's.
+    /// On which frequency it hears, in MHz, if that isn't its channel's.
     pub elsewhere: Option<u16>,
     /// How many frames were heard on other frequencies.
     pub heard_elsewhere: u64,
@@ -79,7 +79,7 @@ pub struct Status<'a> {
     pub phy: &'a str,
     /// The channel.
     pub channel: u8,
-    /// By which interfaces it acknowledges, where that is known.
+    /// By which interfaces it acknowledges, if that is known.
     pub by: Option<By>,
     /// How it does.
     pub radio: OfRadio,
@@ -87,7 +87,7 @@ pub struct Status<'a> {
     pub began: Instant,
     /// The program's last faults.
     pub faults: &'a Faults,
-    /// What is recorded, where something is.
+    /// What is recorded, if something is.
     pub record: Option<&'a Recording>,
     /// The beacons so far.
     pub beacons: &'a BeaconDelays,

@@ -23,7 +23,7 @@ struct Begun {
 }
 
 impl StatusLine {
-    /// The last document, where it isn't too old.
+    /// The last document, if it isn't too old.
     pub fn line(&self, now: Instant) -> Option<Line> {
         let (made, line) = self.made.as_ref()?;
         (now < *made + SERVES).then(|| line.clone())

@@ -10,7 +10,7 @@ const LEAST_TYPE: u16 = 0x0600;
 const LEAST_LENGTH: usize = 3;
 const MOST_LENGTH: usize = 1500;
 
-/// The wired form of a unit that a network sends to a station: its destination, its source and its body. `None` where
+/// The wired form of a unit that a network sends to a station: its destination, its source and its body. `None` if
 /// it has none.
 pub fn wired_form(unit: &[u8]) -> Option<Vec<u8>> {
     Frame::of(unit).filter(Frame::is_unit)?;

@@ -54,7 +54,7 @@ impl Address {
         Address(octets)
     }
 
-    /// The address that stands at this place, or `None` where fewer than six octets follow.
+    /// The address that stands at this place, or `None` if fewer than six octets follow.
     pub fn at(octets: &[u8], place: usize) -> Option<Address> {
         let six = octets.get(place..place + 6)?;
         six.try_into().ok().map(Address)
@@ -181,17 +181,17 @@ impl<'a> Frame<'a> {
         Address::at(self.0, RECEIVER_AT).unwrap_or(Address::BROADCAST)
     }
 
-    /// Address 2, where there is one.
+    /// Address 2, if there is one.
     pub fn transmitter(&self) -> Option<Address> {
         Address::at(self.0, TRANSMITTER_AT)
     }
 
-    /// Address 3, where there is one: of a management frame the BSSID.
+    /// Address 3, if there is one: of a management frame the BSSID.
     pub fn third_address(&self) -> Option<Address> {
         Address::at(self.0, THIRD_ADDRESS_AT)
     }
 
-    /// The fragment number and the sequence number, where it has them: in a header of three addresses.
+    /// The fragment number and the sequence number, if it has them: in a header of three addresses.
     pub fn sequence_control(&self) -> Option<u16> {
         let is_numbered = matches!(self.frame_type(), FrameType::Management | FrameType::Data);
         (is_numbered && self.0.len() >= HEADER_LEN).then(|| u16::from_le_bytes([self.0[22], self.0[23]]))

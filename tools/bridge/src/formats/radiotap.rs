@@ -39,8 +39,8 @@ const BAD_PLCP: u16 = 0x0002;
 const FAILED: u16 = 0x0001;
 const KEEP_SEQUENCE_NUMBER: u16 = 0x0010;
 const FCS_LEN: usize = 4;
-/// How often the radio tries a frame to one station again at most, beyond the first time, where no acknowledgement
-/// comes; fewer where so many tries would take too long on the air (`air`).
+/// How often the radio tries a frame to one station again at most, beyond the first time, if no acknowledgement
+/// comes; fewer if so many tries would take too long on the air (`air`).
 pub const MOST_RETRIES: u8 = 10;
 /// The length of the header of a frame to be sent: the frame behind it begins at a multiple of four octets.
 pub const SENDING_LEN: usize = 16;
@@ -48,11 +48,11 @@ pub const SENDING_LEN: usize = 16;
 /// What became of a frame that this radio sent.
 #[derive(Debug, Clone, Copy, PartialEq, Eq)]
 pub struct Outcome {
-    /// Whether it was acknowledged, where it is one that is.
+    /// Whether it was acknowledged, if it is one that is.
     pub is_acknowledged: bool,
     /// How often it was sent again.
     pub retries: u8,
-    /// The rate of the last time, in units of 500 kb/s, where the radio says it.
+    /// The rate of the last time, in units of 500 kb/s, if the radio says it.
     pub rate: Option<u8>,
 }
 
@@ -63,11 +63,13 @@ pub struct Captured<'a> {
     pub frame: &'a [u8],
     /// Whether its check sequence or its physical header was wrong.
     pub is_damaged: bool,
-    /// What became of it, where this radio sent it.
+    /// What became of it, if this radio sent it.
     pub outcome: Option<Outcome>,
+    /// How it was heard, or sent.
+    pub reception: Reception,
 }
 
-/// What a packet of a monitor interface is, or `None` where it has no header of radiotap.
+/// What a packet of a monitor interface is, or `None` if it has no header of radiotap.
 pub fn captured(packet: &[u8]) -> Option<Captured<'_>> {
     let length = usize::from(u16::from_le_bytes([*packet.get(2)?, *packet.get(3)?]));
     if packet[0] != 0 || length < START_LEN || length > packet.len() {
@@ -83,7 +85,12 @@ pub fn captured(packet: &[u8]) -> Option<Captured<'_>> {
         retries: fields.octet(DATA_RETRIES).unwrap_or(0),
         rate: fields.octet(RATE),
     });
-    Some(Captured { frame, is_damaged, outcome })
+    let reception = Reception {
+        signal: fields.octet(SIGNAL).map(|octet| octet as i8),
+        rate: fields.octet(RATE),
+        frequency: fields.number(CHANNEL),
+    };
+    Some(Captured { frame, is_damaged, outcome, reception })
 }
 
 /// How a frame was heard.
@@ -97,27 +104,13 @@ pub struct Reception {
     pub frequency: Option<u16>,
 }
 
-/// What the header of a packet of a monitor interface says of how it was heard.
-pub fn reception(packet: &[u8]) -> Reception {
-    let length = packet.get(2..4).map_or(0, |two| usize::from(u16::from_le_bytes([two[0], two[1]])));
-    match packet.get(..length).filter(|header| header.len() >= START_LEN) {
-        None => Reception::default(),
-        Some(header) => {
-            let fields = Fields::of(header);
-            Reception {
-                signal: fields.octet(SIGNAL).map(|octet| octet as i8),
-                rate: fields.octet(RATE),
-                frequency: fields.number(CHANNEL),
-            }
-        }
-    }
-}
-
-/// Where the fields of a header stand.
+/// Where the fields of a header stand: one that isn't there at `NOWHERE`, since each stands behind the start.
 struct Fields<'a> {
     header: &'a [u8],
-    places: [Option<usize>; FIELDS.len()],
+    places: [u16; FIELDS.len()],
 }
+
+const NOWHERE: u16 = 0;
 
 impl<'a> Fields<'a> {
     /// The fields that the first word names; those that don't fit the header are left out.
@@ -132,26 +125,33 @@ impl<'a> Fields<'a> {
             }
             place += PRESENT_LEN;
         }
-        let mut places = [None; FIELDS.len()];
+        let mut places = [NOWHERE; FIELDS.len()];
         let mut rest = first & ((1 << FIELDS.len()) - 1);
         while rest != 0 {
             let number = rest.trailing_zeros() as usize;
             let (length, alignment) = FIELDS[number];
             // Alignments are powers of two.
             place = (place + alignment - 1) & !(alignment - 1);
-            places[number] = (place + length <= header.len()).then_some(place);
+            if place + length <= header.len() {
+                // A header has fewer than 65,536 octets.
+                places[number] = place as u16;
+            }
             place += length;
             rest &= rest - 1;
         }
         Fields { header, places }
     }
 
+    fn place(&self, number: usize) -> Option<usize> {
+        Some(self.places[number]).filter(|place| *place != NOWHERE).map(usize::from)
+    }
+
     fn octet(&self, number: usize) -> Option<u8> {
-        self.places[number].map(|place| self.header[place])
+        self.place(number).map(|place| self.header[place])
     }
 
     fn number(&self, number: usize) -> Option<u16> {
-        self.places[number].map(|place| u16::from_le_bytes([self.header[place], self.header[place + 1]]))
+        self.place(number).map(|place| u16::from_le_bytes([self.header[place], self.header[place + 1]]))
     }
 }
 
@@ -160,7 +160,7 @@ fn word(header: &[u8], place: usize) -> Option<u32> {
     four.try_into().ok().map(u32::from_le_bytes)
 }
 
-/// The header of a frame to be sent at this rate, in units of 500 kb/s, with the sequence number that it has; where no
+/// The header of a frame to be sent at this rate, in units of 500 kb/s, with the sequence number that it has; if no
 /// acknowledgement comes it is tried again so many times. Without that field Linux tries a frame once.
 pub fn sending_header(rate: u8, retries: u8) -> [u8; SENDING_LEN] {
     let present = 1u32 << RATE | 1 << TX_FLAGS | 1 << DATA_RETRIES;
@@ -181,7 +181,8 @@ mod tests {
     #[test]
     fn a_frame_is_what_follows_the_header() {
         let packet = radiotap(&data(), 1 << 1, &[0]);
-        assert_eq!(captured(&packet), Some(Captured { frame: &data(), is_damaged: false, outcome: None }));
+        let (outcome, reception) = (None, Reception::default());
+        assert_eq!(captured(&packet), Some(Captured { frame: &data(), is_damaged: false, outcome, reception }));
     }
 
     #[test]
@@ -223,11 +224,11 @@ mod tests {
 
     #[test]
     fn how_a_frame_was_heard_is_told() {
+        let reception = |packet: &[u8]| captured(packet).map(|found| found.reception);
         let heard = radiotap(&data(), 1 << 2 | 1 << 3 | 1 << 5, &[22, 0, 0x85, 9, 0xa0, 0, 0xe2]);
-        assert_eq!(reception(&heard), Reception { signal: Some(-30), rate: Some(22), frequency: Some(2437) });
-        assert_eq!(reception(&radiotap(&data(), 1 << 1, &[0])), Reception::default());
-        for packet in [&[][..], &[0, 0, 99, 0, 0xff, 0xff, 0, 0], &[0; 8], &[0, 0, 8, 0, 0x24, 0, 0, 0]] {
-            assert_eq!(reception(packet), Reception::default(), "{packet:?}");
+        assert_eq!(reception(&heard), Some(Reception { signal: Some(-30), rate: Some(22), frequency: Some(2437) }));
+        for packet in [&radiotap(&data(), 1 << 1, &[0])[..], &[0, 0, 8, 0, 0x24, 0, 0, 0]] {
+            assert_eq!(reception(packet), Some(Reception::default()), "{packet:?}");
         }
     }
 

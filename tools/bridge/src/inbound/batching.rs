@@ -1,5 +1,5 @@
-//! Where many frames come in a second, the bridge lets some gather before it reads them: each waking of the bridge and
-//! of the program then serves several. Where few come, each is read as it comes.
+//! If many frames come in a second, the bridge lets some gather before it reads them: each waking of the bridge and
+//! of the program then serves several. If few come, each is read as it comes.
 
 use crate::os::clock::{nanos, Duration, Instant, MILLISECOND};
 

@@ -51,7 +51,7 @@ impl Drawn {
         }
     }
 
-    /// About one a second, where so many networks have such beacon intervals; of each where they are rarer.
+    /// About one a second, if so many networks have such beacon intervals; of each where they are rarer.
     pub fn one_a_second(networks: usize, interval: Duration) -> Drawn {
         let all = SECOND * networks.max(1) as u32;
         if interval >= all {
@@ -127,7 +127,7 @@ fn of_frames_for_all(bssids: &[Address], neighbours: Drawn) -> Vec<sock_filter> 
     filter
 }
 
-/// The filter of the socket by which frames come that were sent, and acknowledged where that was awaited, cut after
+/// The filter of the socket by which frames come that were sent, and acknowledged if that was awaited, cut after
 /// their addresses; of beacons those that are drawn.
 pub fn acknowledged_filter(drawn: Drawn) -> Vec<sock_filter> {
     let mut filter =

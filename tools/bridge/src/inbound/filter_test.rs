@@ -7,7 +7,7 @@ fn kept(filter: &[sock_filter], packet: &[u8]) -> u32 {
     kept_of(filter, packet, 0)
 }
 
-/// The same where the kernel draws this number.
+/// The same if the kernel draws this number.
 fn kept_of(filter: &[sock_filter], packet: &[u8], drawn: u32) -> u32 {
     let (mut a, mut x, mut place) = (0u32, 0u32, 0);
     loop {
@@ -75,7 +75,7 @@ fn what_this_radio_sent_comes_as_long_as_it_is_asked_for() {
 }
 
 /// A frame that was sent comes by one of the two sockets, whatever its header names; by that which wakes nobody
-/// where it was acknowledged and the header is as mac80211 writes it.
+/// if it was acknowledged and the header is as mac80211 writes it.
 #[test]
 fn outcomes_come_by_one_socket_or_the_other() {
     let (waking, quiet) = (monitor_filter(&[OURS], Shown::Failures, Drawn::Each), acknowledged_filter(Drawn::Below(0)));
@@ -185,7 +185,7 @@ fn it_agrees_with_what_is_judged() {
         let unit = &unit[..seeded.below(unit.len() + 1)];
         let packet = if seeded.below(8) == 0 { shown(unit) } else { heard(unit) };
         let wanted = match Judge::new([OURS, OTHER]).judge(&packet, false, false) {
-            Judged::LeftOut(LeftOut::Controls | LeftOut::Others | LeftOut::Neighbours) => NONE,
+            Judged::LeftOut(LeftOut::Controls | LeftOut::Others) | Judged::Neighbours(_) => NONE,
             Judged::Sent(frame, _) if frame.len() < LEAST as usize => ALL,
             Judged::Sent(..) => OUTCOME_LEN,
             _ => ALL,

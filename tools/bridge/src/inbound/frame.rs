@@ -3,6 +3,7 @@ use std::fmt;
 
 use crate::formats::frames::{Address, Frame, FrameType};
 use crate::os::clock::{Duration, Instant};
+use crate::spare::copy_of;
 
 /// How long a frame of data waits at most, and a probe request: a station that looks for networks listens on a channel
 /// for some 20 to 100 ms.
@@ -102,13 +103,13 @@ impl InboundFrame {
     pub fn of_air(frame: Frame<'_>, changes_mode: bool, arrived: Instant) -> InboundFrame {
         let flow = (frame.transmitter().unwrap_or(NOBODY), frame.receiver());
         let priority = Priority::of(frame, changes_mode);
-        InboundFrame { priority, flow, arrived, octets: frame.octets().to_vec() }
+        InboundFrame { priority, flow, arrived, octets: copy_of(frame.octets()) }
     }
 
     /// A frame of a wire that came at this time.
     pub fn of_wire(octets: &[u8], arrived: Instant) -> InboundFrame {
         let flow = (Address::at(octets, 6).unwrap_or(NOBODY), Address::at(octets, 0).unwrap_or(NOBODY));
-        InboundFrame { priority: Priority::Data, flow, arrived, octets: octets.to_vec() }
+        InboundFrame { priority: Priority::Data, flow, arrived, octets: copy_of(octets) }
     }
 
     /// Whether it may say that its station dozes, is awake or leaves.

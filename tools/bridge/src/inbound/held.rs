@@ -1,6 +1,6 @@
 //! Frames of stations that are held, and for some of these stations also those for them. They wait apart; all other
 //! frames go on. A station is held while it falls asleep: units that come back go before what comes of it and for it
-//! (`outbound::air::sleeping`). It is held too where it wakes and what comes of that has to wait (`run::wake_timing`).
+//! (`outbound::air::sleeping`). It is held too if it wakes and what comes of that has to wait (`run::wake_timing`).
 //!
 //! So much for one station that is held: what is taken out of the queues of it and for it keeps its order, also with
 //! what comes once it is released. Of each priority a bounded number waits; one more drops the oldest. Of a network a
@@ -31,7 +31,7 @@ struct Held {
 }
 
 impl Held {
-    /// Takes out the oldest frame of a priority, where no more of it may wait.
+    /// Takes out the oldest frame of a priority, if no more of it may wait.
     fn take_excess(&mut self, priority: Priority) -> Option<(Source, InboundFrame)> {
         let is_one = |(_, frame): &(Source, InboundFrame)| frame.priority == priority;
         if self.frames.iter().filter(|frame| is_one(frame)).count() < MOST_HELD {

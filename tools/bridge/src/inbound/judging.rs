@@ -7,7 +7,8 @@ use std::collections::VecDeque;
 use std::fmt;
 
 use crate::formats::frames::{is_tagged, Address, AddressMap, Frame, FrameType, LEAST, MOST, PROBE_REQUEST};
-use crate::formats::radiotap::{captured, Outcome};
+use crate::formats::radiotap::{captured, Outcome, Reception};
+use crate::network::Places;
 
 /// Of how many senders a network knows the last sequence control.
 const MOST_SENDERS: usize = 4096;
@@ -60,10 +61,12 @@ impl fmt::Display for LeftOut {
 /// What is done with a packet of the monitor interface.
 #[derive(Debug, Clone, Copy, PartialEq, Eq)]
 pub enum Judged<'a> {
-    /// It goes on.
-    GoesOn(Frame<'a>),
+    /// It goes on, and was heard so.
+    GoesOn(Frame<'a>, Reception),
     /// It doesn't.
     LeftOut(LeftOut),
+    /// It doesn't, since it is for all and these networks can't use it; it was heard so.
+    Neighbours(Reception),
     /// The radio shows it as sent, with what became of it.
     Sent(&'a [u8], Outcome),
 }
@@ -73,8 +76,7 @@ pub enum Judged<'a> {
 /// a management frame between two tries of a data frame. Each network has a table of its own, which others don't fill.
 #[derive(Debug)]
 pub struct Judge {
-    /// The places of the networks.
-    places: AddressMap<usize>,
+    places: Places,
     /// Of each network.
     last: Vec<LastHeard>,
 }
@@ -82,17 +84,17 @@ pub struct Judge {
 impl Judge {
     /// Nothing was heard yet for these networks.
     pub fn new(bssids: impl IntoIterator<Item = Address>) -> Judge {
-        let places = bssids.into_iter().enumerate().map(|(place, bssid)| (bssid, place));
-        let (places, last) = places.map(|found| (found, LastHeard::default())).unzip();
-        Judge { places, last }
+        let bssids: Vec<Address> = bssids.into_iter().collect();
+        let last = bssids.iter().map(|_| LastHeard::default()).collect();
+        Judge { places: Places::new(bssids), last }
     }
 
     /// The place of the network with this address, in the order in which they were given.
     pub fn place_of(&self, bssid: &Address) -> Option<usize> {
-        self.places.get(bssid).copied()
+        self.places.of(bssid)
     }
 
-    /// What is done with a packet; `is_outgoing` where this machine sent it, `is_cut` where it was longer.
+    /// What is done with a packet; `is_outgoing` if this machine sent it, `is_cut` if it was longer.
     pub fn judge<'a>(&mut self, packet: &'a [u8], is_outgoing: bool, is_cut: bool) -> Judged<'a> {
         if is_outgoing {
             return Judged::LeftOut(LeftOut::Sent);
@@ -103,19 +105,19 @@ impl Judge {
                 Some(outcome) => Judged::Sent(found.frame, outcome),
                 None if found.is_damaged => Judged::LeftOut(LeftOut::Damaged),
                 None if is_cut => Judged::LeftOut(LeftOut::Long),
-                None => self.judge_frame(found.frame),
+                None => self.judge_frame(found.frame, found.reception),
             },
         }
     }
 
     /// What is done with a whole frame that was heard.
-    fn judge_frame<'a>(&mut self, octets: &'a [u8]) -> Judged<'a> {
+    fn judge_frame<'a>(&mut self, octets: &'a [u8], reception: Reception) -> Judged<'a> {
         let frame = match Frame::of(octets) {
             None => return Judged::LeftOut(LeftOut::Short),
             Some(_) if octets.len() > MOST => return Judged::LeftOut(LeftOut::Long),
             Some(frame) => frame,
         };
-        let is_own = frame.transmitter().map_or(false, |found| self.places.contains_key(&found));
+        let is_own = frame.transmitter().map_or(false, |found| self.place_of(&found).is_some());
         let network = self.place_of(&frame.receiver());
         if frame.frame_type() == FrameType::Control && !frame.is_ps_poll() {
             Judged::LeftOut(LeftOut::Controls)
@@ -124,18 +126,18 @@ impl Judge {
         } else if network.is_none() && frame.receiver() != Address::BROADCAST {
             Judged::LeftOut(LeftOut::Others)
         } else if network.is_none() && !self.is_of_use(frame) {
-            Judged::LeftOut(LeftOut::Neighbours)
+            Judged::Neighbours(reception)
         } else if network.map_or(false, |network| self.is_repeated(network, frame)) {
             Judged::LeftOut(LeftOut::Repeated)
         } else {
-            Judged::GoesOn(frame)
+            Judged::GoesOn(frame, reception)
         }
     }
 
     /// Whether networks can use a frame for all: it asks for networks, or names one of these as its own.
     fn is_of_use(&self, frame: Frame<'_>) -> bool {
         let bssid = frame.third_address();
-        frame.octets()[0] == PROBE_REQUEST || bssid.map_or(false, |bssid| self.places.contains_key(&bssid))
+        frame.octets()[0] == PROBE_REQUEST || bssid.map_or(false, |bssid| self.place_of(&bssid).is_some())
     }
 
     /// Whether the network of this place has taken it before; it is remembered as its sender's last.
@@ -164,7 +166,7 @@ struct LastNumbers {
 #[derive(Debug, Default)]
 struct LastHeard {
     numbers: AddressMap<LastNumbers>,
-    /// When each was heard, the oldest first; an entry counts where its time is the one of `numbers`.
+    /// When each was heard, the oldest first; an entry counts if its time is the one of `numbers`.
     order: VecDeque<(Address, u64)>,
     times: u64,
 }
@@ -176,7 +178,10 @@ impl LastHeard {
         let last = self.numbers.entry(sender).or_default();
         last.time = self.times;
         let before = if is_data { last.data.replace(number) } else { last.management.replace(number) };
-        self.order.push_back((sender, self.times));
+        match self.order.back_mut() {
+            Some((latest, time)) if *latest == sender => *time = self.times,
+            _ => self.order.push_back((sender, self.times)),
+        }
         while self.numbers.len() > MOST_SENDERS || self.order.len() > 4 * MOST_SENDERS {
             match self.order.pop_front() {
                 Some((oldest, time)) if self.is_last(&oldest, time) => self.take_oldest(oldest, time),
@@ -191,7 +196,7 @@ impl LastHeard {
         self.numbers.get(sender).map_or(false, |last| last.time == time)
     }
 
-    /// Forgets the sender heard longest ago, where there are too many; else puts it back at the begin.
+    /// Forgets the sender heard longest ago, if there are too many; else puts it back at the begin.
     fn take_oldest(&mut self, sender: Address, time: u64) {
         if self.numbers.len() > MOST_SENDERS {
             self.numbers.remove(&sender);
@@ -208,8 +213,8 @@ impl LastHeard {
     }
 }
 
-/// The frame of a wired port that goes on, or why it doesn't; `had_tag` where the kernel took a VLAN's tag off,
-/// `is_cut` where it was longer.
+/// The frame of a wired port that goes on, or why it doesn't; `had_tag` if the kernel took a VLAN's tag off,
+/// `is_cut` if it was longer.
 pub fn judge_wired(octets: &[u8], is_outgoing: bool, had_tag: bool, is_cut: bool) -> Result<&[u8], LeftOut> {
     if is_outgoing {
         Err(LeftOut::Sent)

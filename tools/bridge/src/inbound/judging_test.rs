@@ -1,6 +1,8 @@
 use super::*;
 use crate::testing::samples::{data, radiotap, Unit, OTHER, OURS, STATION, STRANGER};
 
+const OTHER_STATION: Address = Address::of([2, 0xaa, 0, 0, 0, 2]);
+
 fn air() -> Judge {
     Judge::new([OURS, OTHER])
 }
@@ -8,8 +10,9 @@ fn air() -> Judge {
 /// What is done with a frame that was heard with a plain header.
 fn judge(air: &mut Judge, frame: &[u8]) -> Result<Vec<u8>, LeftOut> {
     match air.judge(&radiotap(frame, 1 << 1, &[0]), false, false) {
-        Judged::GoesOn(found) => Ok(found.octets().to_vec()),
+        Judged::GoesOn(found, _) => Ok(found.octets().to_vec()),
         Judged::LeftOut(reason) => Err(reason),
+        Judged::Neighbours(_) => Err(LeftOut::Neighbours),
         Judged::Sent(..) => Err(LeftOut::Sent),
     }
 }
@@ -160,6 +163,11 @@ fn the_order_of_senders_does_not_grow_with_their_frames() {
     goes_on(air, Unit { transmitter: STRANGER, sequence: 0x30, ..Unit::default() });
     for number in 0..20 * MOST_SENDERS {
         goes_on(air, Unit { sequence: number as u16, ..Unit::default() });
+    }
+    assert_eq!(air.last[0].order.len(), 2);
+    for number in 0..20 * MOST_SENDERS {
+        let transmitter = if number % 2 == 0 { OTHER_STATION } else { STATION };
+        goes_on(air, Unit { transmitter, sequence: number as u16, ..Unit::default() });
     }
     assert!(air.last[0].order.len() <= 4 * MOST_SENDERS);
     assert!(!goes_on(air, Unit { transmitter: STRANGER, sequence: 0x30, ..again() }));

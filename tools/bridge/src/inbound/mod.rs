@@ -1,5 +1,5 @@
 //! The way of a frame from an interface to the program: the kernel's filter, what is left out, the queue before the
-//! program, and batching where many frames come.
+//! program, and batching if many frames come.
 pub mod batching;
 pub mod filter;
 mod flow_queue;

@@ -1,4 +1,4 @@
-//! Frames that wait for the program: bounded, and where more comes than goes through, what is dropped.
+//! Frames that wait for the program: bounded, and if more comes than goes through, what is dropped.
 //!
 //! Each network has two queues of its own: one of what the air brings for it, and one of its wire. What the air brings
 //! for all networks has one more. Queues take turns, and each has room of its own: what fills one takes from the others
@@ -9,7 +9,7 @@
 //! looks for networks and then authenticates may be answered in the other order. Nothing else comes of it: of what is
 //! for all, networks read probe requests alone, and those change no station (docs/PROTOCOL.md, 'What is read').
 //!
-//! A frame is dropped where it waited longer than its priority is worth, or where `MOST_OF_FLOW` younger ones of its
+//! A frame is dropped if it waited longer than its priority is worth, or if `MOST_OF_FLOW` younger ones of its
 //! priority wait of its sender to its receiver. A full queue drops the oldest frame of the priority that is worth
 //! least. So who sends more than goes through loses its own frames, and others don't wait behind them. A drop takes the
 //! same time however many frames wait, and each one is counted.

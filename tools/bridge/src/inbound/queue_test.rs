@@ -261,7 +261,7 @@ fn a_lane_is_as_its_rules_say() {
     for round in 0..60 {
         let (mut queue, mut slow) = (SourceQueue::default(), Slow::default());
         let (mut pushed, mut popped, mut now) = (0, 0, Instant::START);
-        // Where little leaves, one sender crowds itself, and many with long frames fill the queue.
+        // If little leaves, one sender crowds itself, and many with long frames fill the queue.
         let (senders, longest, pushes) = [(5, 3000, 5), (1, 300, 9), (2000, 12_000, 9)][round % 3];
         for _ in 0..2000 {
             now += Duration::from_nanos(seeded.below(600_000) as u64);
@@ -292,7 +292,7 @@ fn a_lane_is_as_its_rules_say() {
     }
 }
 
-/// Dropping the oldest of one sender takes no longer where thousands of others wait before and behind it.
+/// Dropping the oldest of one sender takes no longer if thousands of others wait before and behind it.
 #[test]
 fn dropping_takes_no_longer_where_many_wait() {
     let time = |others: usize| {
@@ -360,7 +360,7 @@ fn a_station_that_is_held_again_keeps_its_order() {
     assert_eq!(marks(&mut waiting, Instant::START), [1, 2, 3, 4].map(|mark| (AIR, mark)));
 }
 
-/// It wakes as it ends falling asleep, and waits for beacons. What comes behind its wake stays behind that, where the
+/// It wakes as it ends falling asleep, and waits for beacons. What comes behind its wake stays behind that, if the
 /// program takes only one frame before the beacons come.
 #[test]
 fn a_station_that_is_held_again_and_released_at_once_keeps_its_order() {

@@ -43,7 +43,7 @@ impl BackgroundWriter {
         Ok(BackgroundWriter(shared))
     }
 
-    /// A piece waits from now on. Where there is no room for it, it comes back.
+    /// A piece waits from now on. If there is no room for it, it comes back.
     pub fn push(&self, piece: Vec<u8>) -> Result<(), Vec<u8>> {
         let mut waiting = self.0.lock();
         if piece.len() > self.0.most_octets - waiting.octets || waiting.pieces.len() >= MOST_PIECES {
@@ -88,7 +88,7 @@ impl Shared {
 
     /// What the thread does: writes what waits, until nobody pushes any more.
     fn write_all(&self, mut write: impl FnMut(&[u8])) {
-        // The allocator makes calls of its own where a thread allocates for the first time.
+        // The allocator makes calls of its own if a thread allocates for the first time.
         self.lock().pieces.reserve(1);
         self.lock().has_begun = true;
         self.changed.notify_all();
@@ -99,7 +99,7 @@ impl Shared {
         }
     }
 
-    /// The next piece; `None` where none comes any more.
+    /// The next piece; `None` if none comes any more.
     fn next(&self) -> Option<Vec<u8>> {
         let idle = |waiting: &mut Waiting| waiting.pieces.is_empty() && !waiting.is_closed;
         let waited = self.changed.wait_while(self.lock(), idle);

@@ -180,10 +180,15 @@ impl Instant {
         self.0
     }
 
-    /// How long it is after an earlier moment; nothing where that is later.
+    /// How long it is after an earlier moment; nothing if that is later.
     pub const fn since(self, earlier: Instant) -> Duration {
         Duration::from_nanos(self.0.saturating_sub(earlier.0))
     }
+}
+
+/// The first of these moments that there are.
+pub fn earliest(moments: &[Option<Instant>]) -> Option<Instant> {
+    moments.iter().flatten().min().copied()
 }
 
 impl Add<Duration> for Instant {

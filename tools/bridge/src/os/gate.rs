@@ -30,7 +30,7 @@ impl<P: Port> Gate<P> {
         Gate { port, room: Room::Free }
     }
 
-    /// One waits for its room from now on exactly where it has none.
+    /// One waits for its room from now on exactly if it has none.
     pub fn settle(&mut self) {
         self.room = match self.room {
             Room::Free | Room::Back => Room::Free,
@@ -38,7 +38,7 @@ impl<P: Port> Gate<P> {
         };
     }
 
-    /// Whether one waits for its room exactly where it has none.
+    /// Whether one waits for its room exactly if it has none.
     pub fn is_settled(&self) -> bool {
         matches!(self.room, Room::Free | Room::Awaited)
     }

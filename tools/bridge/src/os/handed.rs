@@ -35,7 +35,7 @@ pub fn inherited_listener(number: RawFd) -> io::Result<UnixListener> {
 }
 
 /// Appends what a socket has to read, and the descriptors that come with it; answers how many octets came, and is
-/// refused where none wait. It is a fault of `InvalidData` where more descriptors came than there is room for: the
+/// refused if none wait. It is a fault of `InvalidData` if more descriptors came than there is room for: the
 /// kernel has closed the others.
 pub fn receive_handed(
     socket: &UnixStream,

@@ -9,7 +9,7 @@ pub struct Interfaces<P> {
     pub monitor: Gate<P>,
     /// By the same interface beacons alone are sent.
     pub beacons: Gate<P>,
-    /// By which the radio shows the frames that were acknowledged, where it doesn't by the first.
+    /// By which the radio shows the frames that were acknowledged, if it doesn't by the first.
     pub acknowledged: Option<P>,
     /// By the places of their networks.
     pub wires: Vec<Option<Gate<P>>>,

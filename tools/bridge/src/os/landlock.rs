@@ -69,7 +69,7 @@ const LIBRARIES: [(&str, u64); 5] = [
 /// Where the kernel tells a process of itself.
 pub const OF_ITSELF: &[u8] = b"/proc/self\0";
 
-/// A domain of Landlock in which the program can run itself and read its configuration, or `None` where this kernel has
+/// A domain of Landlock in which the program can run itself and read its configuration, or `None` if this kernel has
 /// none.
 pub fn domain(program: &Path, config: &Path) -> io::Result<Option<OwnedFd>> {
     // SAFETY: no memory is handed over.

@@ -36,7 +36,7 @@ pub struct PacketSocket {
 }
 
 impl PacketSocket {
-    /// The socket, where it wasn't closed.
+    /// The socket, if it wasn't closed.
     fn open_socket(&self) -> io::Result<BorrowedFd<'_>> {
         self.descriptor().ok_or_else(|| io::Error::from_raw_os_error(libc::ENETDOWN))
     }

@@ -4,7 +4,7 @@ use crate::inbound::filter::{monitor_filter, Drawn, Shown};
 use crate::os::clock::{now, wall_now, SECOND};
 use crate::testing::samples::{data, radiotap, tell_not_run, Unit, OURS, STRANGER};
 
-/// Two sockets on the loopback interface, or `None` where the machine gives none, as without root.
+/// Two sockets on the loopback interface, or `None` if the machine gives none, as without root.
 fn pair() -> Option<(PacketSocket, PacketSocket)> {
     match (open("lo"), open("lo")) {
         (Ok(hearing), Ok(sending)) => Some((hearing, sending)),

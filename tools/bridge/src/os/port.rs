@@ -25,7 +25,7 @@ pub struct Packet<'a> {
     pub had_tag: bool,
     /// Whether its checksum was left to an interface.
     pub has_no_checksum: bool,
-    /// When it came, by the wall clock, where the kernel says it.
+    /// When it came, by the wall clock, if the kernel says it.
     pub arrived: Option<Duration>,
 }
 
@@ -35,10 +35,10 @@ pub trait Port {
     fn descriptor(&self) -> Option<BorrowedFd<'_>>;
     /// The name of its interface.
     fn interface(&self) -> &str;
-    /// Reads as many packets as wait and fit, and answers how many: fewer than were asked for where no more wait.
+    /// Reads as many packets as wait and fit, and answers how many: fewer than were asked for if no more wait.
     fn receive(&mut self, batch: &mut Batch) -> io::Result<usize>;
     /// Sends the first so many of these frames as the interface has room for, and answers how many. An error is of the
-    /// first one alone: `WouldBlock` where there is no room.
+    /// first one alone: `WouldBlock` if there is no room.
     fn send(&mut self, frames: &[&[u8]]) -> io::Result<usize>;
     /// Hears from now on only what a filter lets through.
     fn set_filter(&mut self, filter: &[sock_filter]) -> io::Result<()>;
@@ -50,7 +50,7 @@ pub trait Port {
     fn link(&self) -> io::Result<Link> {
         Ok(Link::Up)
     }
-    /// Forgets that the interface was down, where nobody was told that yet.
+    /// Forgets that the interface was down, if nobody was told that yet.
     fn forget_fault(&self) {}
     /// Gives the interface up: nothing is heard or sent by it any more, and it has no descriptor. What is read or sent
     /// from then on is refused as by an interface that is down. A port without a socket has nothing to close.

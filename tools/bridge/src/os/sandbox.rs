@@ -7,7 +7,7 @@
 //! | new privileges by a file | none | none |
 //! | files (landlock(7)) | | reads its configuration and what the kernel tells of it, and runs itself |
 //! | calls (seccomp(2)) | no file opened, no socket made, no program run | no socket made, no process begun, no file opened for writing |
-//! | files that are written | bounded, where neither the record nor the log is a file without a limit | none |
+//! | files that are written | bounded, if neither the record nor the log is a file without a limit | none |
 //! | address space | | bounded, so that want of memory is an answer of the program and no kill |
 //!
 //! A call that isn't listed ends the process by the signal SIGSYS. What a library may try, and does without, is
@@ -39,7 +39,7 @@ const LAST_CAPABILITY: c_ulong = 63;
 pub fn give_up_capabilities() -> Result<(), Fault> {
     let none = [0u32; 6];
     let header = CapabilityHeader { version: CAPABILITY_VERSION, process: 0 };
-    // Those that a file could bring: where this process may not take them away they can't be had all the same.
+    // Those that a file could bring: if this process may not take them away they can't be had all the same.
     for capability in 0..=LAST_CAPABILITY {
         let _ = control_process(libc::PR_CAPBSET_DROP, capability);
     }
@@ -63,8 +63,8 @@ pub fn keep_to_calls(program: u32) -> Result<(), Fault> {
     calls.take_on().map_err(|fault| Fault::of("no list of calls can be kept to (seccomp)", &fault))
 }
 
-/// No file gets more octets by what this process writes from now on, where there is a bound. A write beyond it is an
-/// error, and ends nothing: so it is also where somebody else has set a bound.
+/// No file gets more octets by what this process writes from now on, if there is a bound. A write beyond it is an
+/// error, and ends nothing: so it is also if somebody else has set a bound.
 pub fn bound_files(most: Option<u64>) -> Result<(), Fault> {
     let outcome = ignore(libc::SIGXFSZ).and_then(|()| most.map_or(Ok(()), bound_written));
     outcome.map_err(|fault| Fault::of("what is written can't be bounded", &fault))

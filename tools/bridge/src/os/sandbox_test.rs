@@ -104,7 +104,7 @@ fn a_bridge_that_names_where_it_sends_is_refused_and_one_that_sends_messages_is_
     }
 }
 
-/// What libraries do seldom ends no bridge: where the allocator makes its ninth arena, and where one panics that tells
+/// What libraries do seldom ends no bridge: if the allocator makes its ninth arena, and if one panics that tells
 /// the frames of its stack.
 #[test]
 fn what_libraries_do_seldom_ends_no_bridge() {
@@ -249,7 +249,7 @@ fn capabilities_are_given_up() {
     assert!(outcome.unwrap().success());
     let output = {
         let mut command = Command::new("/bin/cat");
-        // SAFETY: nothing is allocated where nothing fails.
+        // SAFETY: nothing is allocated if nothing fails.
         unsafe {
             command.pre_exec(|| give_up_capabilities().map_err(|_| io::Error::from_raw_os_error(libc::EPERM)));
         }

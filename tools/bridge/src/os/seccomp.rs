@@ -16,17 +16,17 @@ pub enum Rule {
     Allowed(c_long),
     /// It is refused with this error.
     Refused(c_long, c_int),
-    /// It is made where this argument is one of these, and else refused.
+    /// It is made if this argument is one of these, and else refused.
     OneOf(c_long, u32, &'static [u32]),
-    /// It is made where this argument has none of these bits, and else refused.
+    /// It is made if this argument has none of these bits, and else refused.
     Without(c_long, u32, u32),
-    /// It is made where this argument has one of these bits; else it ends the process.
+    /// It is made if this argument has one of these bits; else it ends the process.
     With(c_long, u32, u32),
-    /// It is made where this argument, a place in memory, is none; else refused.
+    /// It is made if this argument, a place in memory, is none; else refused.
     Null(c_long, u32),
-    /// It is made where its first argument is the process of this number; else refused.
+    /// It is made if its first argument is the process of this number; else refused.
     OfProcess(c_long, u32),
-    /// It is made where its first argument is the process that keeps to the list; else refused.
+    /// It is made if its first argument is the process that keeps to the list; else refused.
     OfItself(c_long),
 }
 
@@ -96,7 +96,7 @@ pub const ANY: &[Rule] = &[
     // The allocator asks how many processors there are before it makes many arenas.
     Rule::Allowed(libc::SYS_sched_getaffinity),
     Rule::Refused(libc::SYS_faccessat, libc::EACCES),
-    // A program that panics tells the frames of its stack by it, where the environment asks for them.
+    // A program that panics tells the frames of its stack by it, if the environment asks for them.
     Rule::Refused(libc::SYS_getcwd, libc::EACCES),
     #[cfg(target_arch = "x86_64")]
     Rule::Allowed(libc::SYS_poll),
@@ -214,7 +214,7 @@ impl Calls {
         });
     }
 
-    /// Where the comparison holds, goes on behind `unless_not` steps, else behind `otherwise`.
+    /// If the comparison holds, goes on behind `unless_not` steps, else behind `otherwise`.
     fn unless(&mut self, comparison: u32, value: u32, otherwise: u8, then: u8) {
         let code = (libc::BPF_JMP | comparison | libc::BPF_K) as u16;
         self.steps.push(sock_filter { code, jt: then, jf: otherwise, k: value });
@@ -278,7 +278,7 @@ impl Calls {
         self.answer(ERRNO | libc::EPERM as u32);
     }
 
-    /// The verdict where one of the bits is set, and where none is.
+    /// The verdict if one of the bits is set, and if none is.
     fn looks_at_bits(&mut self, number: c_long, argument: u32, bits: u32, with: u32, without: u32) {
         self.of_call(number, 4);
         self.load(ARGUMENTS_AT + 8 * argument);

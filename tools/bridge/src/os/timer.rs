@@ -58,7 +58,7 @@ impl Timer {
             .map(drop)
     }
 
-    /// Reads it, where its time has come: from then on it can't be read before another time was set.
+    /// Reads it, if its time has come: from then on it can't be read before another time was set.
     pub fn clear(&self) {
         let mut times = 0u64;
         // SAFETY: the kernel writes at most eight octets into a number of eight. That it may write none is of no

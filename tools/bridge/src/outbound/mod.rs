@@ -6,9 +6,9 @@ pub mod monitor;
 mod wire;
 
 use crate::control::faults::Fault;
-use crate::formats::frames::{is_tagged, Address, AddressMap, Frame};
+use crate::formats::frames::{is_tagged, Address, Frame};
 use crate::formats::radiotap::Outcome;
-use crate::network::Network;
+use crate::network::{Network, Places};
 use crate::os::clock::Instant;
 use crate::os::gate::Gate;
 use crate::os::interfaces::Interfaces;
@@ -29,7 +29,7 @@ pub struct Outbound {
     /// Of each network.
     wires: Vec<WireQueue>,
     networks: Vec<Network>,
-    places: AddressMap<Place>,
+    places: Places,
     counts: Counts,
 }
 
@@ -40,7 +40,7 @@ impl Outbound {
             air: Transmitter::new(&networks),
             monitor: MonitorSender::default(),
             wires: networks.iter().map(|_| WireQueue::default()).collect(),
-            places: networks.iter().enumerate().map(|(place, network)| (network.bssid, place)).collect(),
+            places: Places::new(networks.iter().map(|network| network.bssid)),
             networks,
             counts: Counts::new(),
         }
@@ -75,7 +75,7 @@ impl Outbound {
 
     /// The place of the network with this address.
     pub fn place_of(&self, bssid: &Address) -> Option<Place> {
-        self.places.get(bssid).copied()
+        self.places.of(bssid)
     }
 
     /// Whether nothing waits for any interface, nor for its room.
@@ -91,7 +91,12 @@ impl Outbound {
         monitor::has_room(&self.air, interfaces) || wires.any(|(queue, wire)| !queue.is_empty() && has_room(wire))
     }
 
-    /// A network sends a frame on the air; a fault where there is no such network.
+    /// Whether the radio has beacons, or is about to have some, that it hasn't sent yet.
+    pub fn has_unsent_beacons<P: Port>(&self, interfaces: &Interfaces<P>) -> bool {
+        monitor::has_unsent_beacons(&self.air, interfaces)
+    }
+
+    /// A network sends a frame on the air; a fault if there is no such network.
     pub fn send_on_air(&mut self, bssid: Address, octets: Vec<u8>, now: Instant) -> Result<(), Fault> {
         let place = self.place(bssid)?;
         self.air.send(place, octets, now);
@@ -109,7 +114,7 @@ impl Outbound {
         }
     }
 
-    /// The place of the network of which the program says something; a fault where there is no such network.
+    /// The place of the network of which the program says something; a fault if there is no such network.
     pub fn place(&self, bssid: Address) -> Result<Place, Fault> {
         let unknown = || Fault::WrongAnswer("the program answered for a network that it doesn't have".to_owned());
         self.place_of(&bssid).ok_or_else(unknown)

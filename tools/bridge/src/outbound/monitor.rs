@@ -18,6 +18,11 @@ pub fn is_idle<P: Port>(air: &Transmitter, interfaces: &Interfaces<P>) -> bool {
     air.is_empty() && interfaces.monitor.is_settled()
 }
 
+/// Whether beacons wait for the radio, or it has some, as far as their socket says.
+pub fn has_unsent_beacons<P: Port>(air: &Transmitter, interfaces: &Interfaces<P>) -> bool {
+    air.has_beacons() || matches!(interfaces.beacons.port.unsent(), Ok(octets) if octets > 0)
+}
+
 /// Sends by the monitor interface, and counts what that refuses.
 #[derive(Debug, Default)]
 pub struct MonitorSender {

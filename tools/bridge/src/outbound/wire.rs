@@ -6,6 +6,7 @@ use crate::os::clock::{self, Instant};
 use crate::os::gate::Gate;
 use crate::os::port::{Port, AT_A_TIME};
 use crate::outbound::counts::{count, Counts, Refused};
+use crate::spare::give_back;
 
 pub const MOST_OCTETS: usize = 4 << 20;
 
@@ -97,7 +98,10 @@ impl WireQueue {
     }
 
     fn sent(&mut self, number: usize) {
-        self.octets -= self.leaving.drain(..number).map(|frame| frame.octets.len()).sum::<usize>();
+        for frame in self.leaving.drain(..number) {
+            self.octets -= frame.octets.len();
+            give_back(frame.octets);
+        }
         self.sent += number as u64;
     }
 }

@@ -3,7 +3,7 @@
 //!
 //! The program gives the least identifier that is free, so stations are said in ascending order of their identifiers.
 //! Gaps are filled by made-up stations, which leave last. Of each station its authentication is said, which is the same
-//! of all that are accepted, the association request that it sent itself, and where it dozes a Null frame that says so.
+//! of all that are accepted, the association request that it sent itself, and if it dozes a Null frame that says so.
 //! Then the tables are asked for: what comes before they end is the answer to all this, and is swallowed. A station
 //! whose identifier, listen interval and mode are those that it had stays. Any other is told to join again.
 use std::collections::{HashSet, VecDeque};

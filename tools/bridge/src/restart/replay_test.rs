@@ -200,7 +200,7 @@ fn who_is_answered_as_before_stays() {
     let restored = restore(&sample, &ours, Model::default());
     let stay: Vec<_> = stations.iter().map(|kept| ((0, kept.address), kept.clone())).collect();
     assert_eq!(restored, Restored { stay, swallowed: 8, ..Restored::default() });
-    // Where the bridge didn't write it at its end, who has dozed may doze: its units are kept until it wakes.
+    // If the bridge didn't write it at its end, who has dozed may doze: its units are kept until it wakes.
     let killed = restore(&State { is_last: false, ..sample }, &ours, Model::default());
     assert!(killed.stay.iter().all(|(_, kept)| kept.dozes));
     assert_eq!(killed.stay.len(), 2);
@@ -265,7 +265,7 @@ fn who_has_an_identifier_above_the_new_most_joins_again() {
     assert_eq!((restored.again, restored.leave), (members(&stations[2..]), vec![]));
 }
 
-/// Also where nobody else is to be said.
+/// Also if nobody else is to be said.
 #[test]
 fn who_alone_has_an_identifier_above_the_new_most_joins_again() {
     let ours = Network { max_stations: 3, ..network(OURS) };
@@ -346,7 +346,7 @@ fn all_that_fit_stay_whatever_gaps_there_are() {
     }
 }
 
-/// The built program, where it is there.
+/// The built program, if it is there.
 fn program() -> Option<PathBuf> {
     let path = std::env::var_os("PROGRAM").map_or_else(|| "../../build/apctl".into(), PathBuf::from);
     Some(path).filter(|path| path.exists())

@@ -30,7 +30,7 @@ pub struct NetworkState {
     pub ssid: Vec<u8>,
     /// Its rates, as the octets of its elements.
     pub rates: Vec<u8>,
-    /// How many units it kept, where the program has said so at its end.
+    /// How many units it kept, if the program has said so at its end.
     pub units: Option<u64>,
     /// For how many stations it kept units when its last beacon was sent.
     pub waiting: usize,
@@ -101,7 +101,7 @@ impl NetworkState {
     }
 }
 
-/// The newest whole state of these texts, of which an empty one is none, with its place, where it is to be used for a
+/// The newest whole state of these texts, of which an empty one is none, with its place, if it is to be used for a
 /// radio that is served so.
 pub fn choose(texts: &[Vec<u8>], setting: &Setting, now: Instant) -> Result<Option<(usize, State)>, NotUsed> {
     if texts.iter().all(Vec::is_empty) {

@@ -116,7 +116,7 @@ impl StateFiles {
         Ok(())
     }
 
-    /// A state was written. Where that failed it is told once, and tried again some time later, into the same file: the
+    /// A state was written. If that failed it is told once, and tried again some time later, into the same file: the
     /// other one may still be used.
     fn note(&mut self, outcome: io::Result<()>, octets: usize, changes: u64, now: Instant) {
         match outcome {
@@ -185,7 +185,7 @@ mod tests {
         paths.iter().for_each(|path| std::fs::remove_file(path).unwrap());
     }
 
-    /// Until the last piece is written the file before is the one that is whole; then it is shorter where it has to be.
+    /// Until the last piece is written the file before is the one that is whole; then it is shorter if it has to be.
     #[test]
     fn in_pieces_it_is_whole_once_the_last_one_is_written() {
         let paths = paths("pieces");

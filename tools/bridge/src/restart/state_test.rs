@@ -23,7 +23,7 @@ fn a_state_that_was_changed_or_cut_is_damaged() {
     assert_eq!(State::read(&[&text[..], b"\n"].concat()), None);
 }
 
-/// What can't be is damaged, also where the sum is right.
+/// What can't be is damaged, also if the sum is right.
 #[test]
 fn a_state_that_says_what_can_t_be_is_damaged() {
     let good = sample();

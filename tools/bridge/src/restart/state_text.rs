@@ -27,7 +27,7 @@ impl State {
         lines.end()
     }
 
-    /// Reads it; `None` where it is damaged.
+    /// Reads it; `None` if it is damaged.
     pub fn read(octets: &[u8]) -> Option<State> {
         let text = std::str::from_utf8(octets).ok()?.strip_suffix('\n')?;
         let end = text.rfind('\n')? + 1;

@@ -90,7 +90,7 @@ impl<P: OfSocket> Bridge<P> {
         }
     }
 
-    /// Tells how many faults of the program the log doesn't have, where there were more in a second than it takes.
+    /// Tells how many faults of the program the log doesn't have, if there were more in a second than it takes.
     pub(super) fn tell_faults(&mut self) {
         if let Some(more) = self.faults.take_left_out(self.time) {
             log::write_event(Level::Warning, format_args!("{more} more faults of the program in one second"));
@@ -208,7 +208,7 @@ impl<P: Port> Running<P> {
         }
     }
 
-    /// A network sends a frame on its wire. Where that has ended the frame is lost, and counted.
+    /// A network sends a frame on its wire. If that has ended the frame is lost, and counted.
     fn send_on_wire(&mut self, bssid: Address, octets: Vec<u8>, time: Instant) -> Result<(), Fault> {
         match self.judge.place_of(&bssid).and_then(|place| self.ended.get_mut(&place)) {
             Some(ended) if ended.since.is_some() => ended.lost += 1,

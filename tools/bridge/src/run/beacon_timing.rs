@@ -10,9 +10,9 @@ use crate::stations::keep_alive;
 /// How long what is to be sent waits at most for a beacon that is due.
 const TO_BEACON_ANSWER: Duration = Duration::from_millis(2);
 /// So long before a beacon interval begins stations are asked no more whether they are there: those that are asked at a
-/// time are on the air for 16 ms where nobody acknowledges. Where intervals are short it is half of one.
+/// time are on the air for 16 ms if nobody acknowledges. If intervals are short it is half of one.
 const BEFORE_BEACON: Duration = Duration::from_millis(20);
-/// How long stations aren't asked for want of a beacon that is due, and wakes wait for it.
+/// How long stations aren't asked for want of a beacon that is due, and wakes wait for it to come and to be sent.
 const TO_ALL_BEACONS: Duration = Duration::from_millis(50);
 /// So long before a beacon interval begins frames gather no more: a wait may end some 50 µs late.
 const BEFORE_TICK: Duration = Duration::from_micros(200);
@@ -57,9 +57,14 @@ impl BeaconTiming {
         Interval { begun: self.said, next: self.ticks.due(), awaits_beacons }
     }
 
-    /// Until when wakes wait for beacons at most, where these are due.
+    /// Until when wakes wait for beacons at most, if these are due.
     pub(super) fn awaits_until(&self) -> Option<Instant> {
         (self.awaited > 0).then_some(self.awaited_since + TO_ALL_BEACONS)
+    }
+
+    /// Until when wakes wait at most for the radio to send the beacons of the last interval.
+    pub(super) fn sent_by(&self) -> Instant {
+        self.said + TO_ALL_BEACONS.min(self.ticks.length() / 2)
     }
 
     /// Whether an interval is to begin at this time.
@@ -88,7 +93,7 @@ impl BeaconTiming {
         }
     }
 
-    /// Until when frames may gather, which is never where a beacon is awaited.
+    /// Until when frames may gather, which is never if a beacon is awaited.
     pub(super) fn gathers_until(&self) -> Option<Instant> {
         self.is_answered.then(|| self.ticks.due() - BEFORE_TICK)
     }
@@ -168,7 +173,7 @@ mod tests {
     use super::*;
     use crate::testing::samples::at;
 
-    /// Where intervals are short and each one begins before all beacons of the last one have come, they aren't awaited
+    /// If intervals are short and each one begins before all beacons of the last one have come, they aren't awaited
     /// for ever.
     #[test]
     fn beacons_are_awaited_for_a_bounded_time_in_a_row() {

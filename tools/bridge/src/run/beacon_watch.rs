@@ -1,9 +1,9 @@
 //! Whether the radio goes on sending: it shows each frame that it has sent, so of the beacons that it was given it
-//! shows some. Not all are looked at: about one a second is drawn, and each one where none came for a while (`filter`).
+//! shows some. Not all are looked at: about one a second is drawn, and each one if none came for a while (`filter`).
 
 use crate::os::clock::{Duration, Instant};
 
-/// For so long no beacon has to be shown before that is told, and for three beacon intervals where these last longer.
+/// For so long no beacon has to be shown before that is told, and for three beacon intervals if these last longer.
 const LEAST: Duration = Duration::from_secs(5);
 const INTERVALS: u32 = 3;
 /// After so long without one, each beacon that is shown is looked at.
@@ -33,12 +33,12 @@ pub struct BeaconWatch {
     limit: Duration,
     /// How many beacons are given to the radio in an interval.
     networks: usize,
-    /// Whether each beacon that is shown is looked at, also where there is no doubt.
+    /// Whether each beacon that is shown is looked at, also if there is no doubt.
     looks_at_each: bool,
     unseen: Option<Unseen>,
-    /// Since when it has shown none, where that was told.
+    /// Since when it has shown none, if that was told.
     unsent_since: Option<Instant>,
-    /// After how long it showed one again, where that wasn't told yet.
+    /// After how long it showed one again, if that wasn't told yet.
     again_after: Option<Duration>,
 }
 
@@ -75,7 +75,7 @@ impl BeaconWatch {
         Some(unseen.since + if now < unseen.since + TO_DOUBT { TO_DOUBT } else { self.limit }).filter(|due| now < *due)
     }
 
-    /// What is to be told, where it wasn't yet. That the radio sends none takes beacons of two intervals at least that
+    /// What is to be told, if it wasn't yet. That the radio sends none takes beacons of two intervals at least that
     /// were looked at: what became of those of the first was learned then. A program that makes none is no fault of the
     /// radio's.
     pub fn look(&mut self, now: Instant) -> Option<Told> {
@@ -89,7 +89,7 @@ impl BeaconWatch {
         is_unsent.then_some(Told::Unsent)
     }
 
-    /// Since when the radio has shown no beacon as sent, where that was told.
+    /// Since when the radio has shown no beacon as sent, if that was told.
     pub fn unsent_since(&self) -> Option<Instant> {
         self.unsent_since
     }
@@ -155,7 +155,7 @@ mod tests {
         assert_eq!(run(&mut watch, 5..6, length, |_| false), [(5, Told::Unsent)]);
     }
 
-    /// Also where it makes those of one interval from time to time, of which none is drawn.
+    /// Also if it makes those of one interval from time to time, of which none is drawn.
     #[test]
     fn a_program_that_makes_no_beacons_is_no_radio_that_sends_none() {
         let mut watch = BeaconWatch::new(INTERVAL, 16, false);

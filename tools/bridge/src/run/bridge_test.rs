@@ -183,11 +183,11 @@ struct Surroundings {
     silence: u32,
     /// How many networks there are: one or two.
     networks: usize,
-    /// The file of the record, where it isn't one of the stage.
+    /// The file of the record, if it isn't one of the stage.
     record: Option<&'static str>,
     /// Whether the second network's wire is there at the start.
     has_other_wire: bool,
-    /// The beginning of the names of the files of the state, where there are some.
+    /// The beginning of the names of the files of the state, if there are some.
     state: Option<&'static str>,
 }
 
@@ -398,7 +398,7 @@ fn it_is_asked_by_its_socket() {
     assert!(stage.sent.lock().unwrap().contains(&told));
 }
 
-/// Also where beacons are rare.
+/// Also if beacons are rare.
 #[test]
 fn who_does_not_associate_is_given_up_within_five_seconds_where_the_network_is_nearly_full() {
     let rare = Surroundings { interval: 60_000, max_known: 1, ..Surroundings::default() };

@@ -1,7 +1,7 @@
 //! A port in place of a packet socket.
 use super::*;
 
-/// A port in place of a packet socket. A radio's shows the frames that are sent by it, where `shows` says so.
+/// A port in place of a packet socket. A radio's shows the frames that are sent by it, if `shows` says so.
 pub(super) struct FakePort {
     pub(super) interface: &'static str,
     pub(super) near: UnixDatagram,

@@ -9,9 +9,10 @@ use crate::inbound::frame::{InboundFrame, Source};
 use crate::os::clock::Instant;
 use crate::os::poller::Token;
 use crate::os::port::{OfSocket, Port};
+use crate::spare::give_back;
 
 impl<P: OfSocket> Bridge<P> {
-    /// Begins a beacon interval where it is time, and asks for the tables where that was asked for. An interval begins
+    /// Begins a beacon interval if it is time, and asks for the tables if that was asked for. An interval begins
     /// only once the program has read the beginning of the one before: what it doesn't read doesn't pile up.
     pub(super) fn take_time(&mut self) -> Result<(), Fault> {
         let time = self.time;
@@ -101,7 +102,7 @@ impl<P: Port> Running<P> {
             match self.wakes_too_late(&frame, time) {
                 Some(member) => self.wait_for_beacons(member, source, frame, time),
                 None => {
-                    self.feed(source, &frame, feeder, time);
+                    self.feed(source, frame, feeder, time);
                     return true;
                 }
             }
@@ -110,7 +111,7 @@ impl<P: Port> Running<P> {
     }
 
     /// Says a frame to the program.
-    fn feed(&mut self, source: Source, frame: &InboundFrame, feeder: &mut Feeder, time: Instant) {
+    fn feed(&mut self, source: Source, frame: InboundFrame, feeder: &mut Feeder, time: Instant) {
         match source {
             Source::AirForAll | Source::Air(_) => {
                 self.given.air += 1;
@@ -123,6 +124,7 @@ impl<P: Port> Running<P> {
                 feeder.feed(Event::Wire(self.networks[place].bssid, &frame.octets))
             }
         }
-        self.note_kept(source, frame);
+        self.note_kept(source, &frame);
+        give_back(frame.octets);
     }
 }

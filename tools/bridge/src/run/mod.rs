@@ -26,7 +26,7 @@ mod wake_timing;
 mod wires;
 
 use phase::Phase;
-use running::FirstBeacon;
+use running::{FirstBeacon, Running};
 
 use crate::apctl::feeder::Feeder;
 use crate::apctl::program::Program;
@@ -39,7 +39,7 @@ use crate::control::status::Faults;
 use crate::control::status_line::StatusLine;
 use crate::network::Network;
 use crate::os::batch::Batch;
-use crate::os::clock::{now, Duration, Instant, SECOND};
+use crate::os::clock::{earliest, now, Duration, Instant, SECOND};
 use crate::os::interfaces::Interfaces;
 use crate::os::poller::{Poller, Ready, Token};
 use crate::os::port::OfSocket;
@@ -61,7 +61,7 @@ pub struct Manner {
     pub setting: Setting,
     /// The networks, in the order of their places.
     pub networks: Vec<Network>,
-    /// By which interfaces the radio acknowledges, where that is known.
+    /// By which interfaces the radio acknowledges, if that is known.
     pub by: Option<By>,
     /// After how long an associated station of which nothing was heard is asked; `None` asks nobody.
     pub most_silence: Option<Duration>,
@@ -90,7 +90,7 @@ pub struct Bridge<P> {
     faults: Faults,
     phase: Phase<P>,
     batch: Batch,
-    /// The files by which stations stay, where they do.
+    /// The files by which stations stay, if they do.
     state_files: Option<StateFiles>,
     state_draft: Option<StateDraft>,
     waits_for_room: bool,
@@ -184,7 +184,7 @@ impl<P: OfSocket> Bridge<P> {
         self.tell_alive();
         self.tell_faults();
         self.answer_clients()?;
-        self.look();
+        self.look()?;
         self.feed()?;
         self.send()?;
         self.take_acknowledged()?;
@@ -194,17 +194,19 @@ impl<P: OfSocket> Bridge<P> {
         Ok(())
     }
 
-    /// Looks at stations that are silent, where it is time.
-    fn look(&mut self) {
-        if let Some(running) = self.phase.running() {
-            running.look(self.time);
+    /// Looks at stations that are silent or may have moved, if it is time.
+    fn look(&mut self) -> Result<(), Fault> {
+        match self.phase.running() {
+            Some(running) => running.look(&mut self.batch, self.time),
+            None => Ok(()),
         }
     }
 
-    /// Lets frames gather where many come, but never where a beacon is awaited. What `tools/live` asks ends that.
+    /// Lets frames gather if many come, but never if a beacon is awaited, nor if the bridge is behind with
+    /// reading. What `tools/live` asks ends that.
     fn gather(&mut self) -> Result<(), Fault> {
         let time = self.time;
-        let until = self.phase.running().and_then(|running| {
+        let until = self.phase.running().filter(|running| !running.reading.is_behind).and_then(|running| {
             let most = running.timing.gathers_until()?;
             Some(running.batching.until(time)?.min(most))
         });
@@ -219,7 +221,7 @@ impl<P: OfSocket> Bridge<P> {
             self.ready[..=place].rotate_right(1);
         }
         self.time = now();
-        self.phase.still_running().into_iter().for_each(|running| running.reading.wakings += 1);
+        self.phase.still_running().into_iter().for_each(Running::begin_waking);
         Ok(())
     }
 
@@ -237,8 +239,10 @@ impl<P: OfSocket> Bridge<P> {
                 };
                 let (look, sends) = (running.timing.next_look(self.time), running.sends_next(self.time));
                 let (wakes, radio) = (running.next_wakes(self.time), running.radio.due(self.time));
-                let times = [first, running.outbound.air.due(), sends, alive, look, wakes, radio];
-                times.into_iter().flatten().fold(running.timing.next(self.time), Instant::min)
+                let (moves, ready) = (Some(running.stations.moves_due()), running.ready_due());
+                let next = Some(running.timing.next(self.time));
+                let times = [next, first, running.outbound.air.due(), sends, alive, look, wakes, radio, moves, ready];
+                earliest(&times).unwrap_or(Instant::NEVER)
             }
             Phase::SettingUp { .. } | Phase::Ending(_) => Instant::NEVER,
         }

@@ -1,13 +1,14 @@
 //! Stations doze, wake, join and leave: what waits for them on the air learns of that. What goes back to the program goes
 //! there right behind the frame that said it (`outbound::air::sleeping`).
 use super::running::Running;
+use super::wake_timing::Interval;
 use crate::apctl::feeder::Feeder;
 use crate::apctl::protocol::Event;
 use crate::formats::ethernet::update;
-use crate::formats::frames::{Address, Frame};
+use crate::formats::frames::{Address, Frame, FrameType};
 use crate::inbound::frame::{InboundFrame, Source};
 use crate::inbound::held::Holding;
-use crate::os::clock::Instant;
+use crate::os::clock::{Duration, Instant, MILLISECOND};
 use crate::os::port::Port;
 use crate::outbound::air::handing_back::Errand;
 use crate::stations::station::{Member, Move};
@@ -16,10 +17,14 @@ use crate::stations::station::{Member, Move};
 /// ask a station that dozes whether it is there.
 pub(super) const HANDED_BACK_FROM: &str = "handed back: the lines from here on are units of stations that doze";
 pub(super) const HANDED_BACK_TO: &str = "handed back: up to here";
-/// What stands in the record where the bridge tells a wire that a station is here.
+/// What stands in the record if the bridge tells a wire that a station is here.
 pub(super) const TOLD_WIRE: &str = "told the wire of";
 /// How often a wire is told so in a second at most.
 const MOST_UPDATES: u32 = 100;
+
+/// How long a station may take from its association until it takes units. A Linux station drops those that come in the
+/// first three milliseconds or so.
+const TO_GET_READY: Duration = Duration::from_millis(5);
 
 const DESTINATION_AT: usize = 16;
 
@@ -45,6 +50,7 @@ impl<P: Port> Running<P> {
                 Move::Joins { dozes } => {
                     if !dozes {
                         air.joins(place, station, time);
+                        self.gets_ready((place, station), time);
                     } else if !air.is_asleep(place, station) {
                         self.falls_asleep(place, station, feeder, time);
                     }
@@ -54,12 +60,47 @@ impl<P: Port> Running<P> {
         }
     }
 
-    /// The station that a frame wakes, where the program would answer that for too long before the next beacon interval.
+    /// A station has joined. What the wire brings for it waits until it sends data, or for some time.
+    pub(super) fn gets_ready(&mut self, member: Member, time: Instant) {
+        self.waiting.hold(member.0, member.1, Holding::OwnAndWired);
+        self.getting_ready.push_back((time + TO_GET_READY, member));
+    }
+
+    /// A frame of the air was heard. If a station that has just joined sends data, it takes units too.
+    pub(super) fn take_ready(&mut self, frame: Frame<'_>) {
+        if !self.getting_ready.is_empty() && frame.frame_type() == FrameType::Data {
+            let member = self.judge.place_of(&frame.receiver()).zip(frame.transmitter());
+            member.into_iter().for_each(|member| self.is_ready(member));
+        }
+    }
+
+    /// When `end_getting_ready` has something to do.
+    pub(super) fn ready_due(&self) -> Option<Instant> {
+        self.getting_ready.front().map(|(until, _)| *until)
+    }
+
+    /// Nothing waits any more for stations that have had some time since they joined.
+    pub(super) fn end_getting_ready(&mut self, time: Instant) {
+        while let Some((_, member)) = self.getting_ready.front().copied().filter(|(until, _)| *until <= time) {
+            self.is_ready(member);
+        }
+    }
+
+    /// Nothing waits any more for a station that has just joined.
+    fn is_ready(&mut self, member: Member) {
+        let before = self.getting_ready.len();
+        self.getting_ready.retain(|(_, found)| *found != member);
+        if self.getting_ready.len() < before {
+            self.waiting.release(member.0, member.1);
+        }
+    }
+
+    /// The station that a frame wakes, if the program would answer that for too long before the next beacon interval.
     pub(super) fn wakes_too_late(&self, frame: &InboundFrame, time: Instant) -> Option<Member> {
         let may_wait = frame.is_notice() && !self.is_ending;
         let (place, station) = may_wait.then(|| self.stations.woken_by(&frame.octets)).flatten()?;
         let units = self.outbound.air.kept_at_most(place, station);
-        let fits = self.wakes.fits((place, station), units, self.timing.interval(time), time);
+        let fits = units == 0 || self.wakes.fits((place, station), units, self.interval(time), time);
         (!fits).then_some((place, station))
     }
 
@@ -70,9 +111,20 @@ impl<P: Port> Running<P> {
         self.wakes.wait(station, self.timing.interval(time));
     }
 
-    /// When wakes that wait for beacons are tried again at the latest, where the beacons are due.
+    /// The interval that began last. Its beacons are awaited until the radio has sent them: what the program answers to
+    /// a wake takes the processor, and a radio may need that too.
+    pub(super) fn interval(&self, time: Instant) -> Interval {
+        let interval = self.timing.interval(time);
+        let has_unsent = || self.outbound.has_unsent_beacons(&self.interfaces);
+        Interval { awaits_beacons: interval.awaits_beacons || time < self.timing.sent_by() && has_unsent(), ..interval }
+    }
+
+    /// When wakes that wait for beacons are looked at again, if the program has still to make these or the radio to
+    /// send them. A radio doesn't tell that, so its socket is looked at.
     pub(super) fn next_wakes(&self, time: Instant) -> Option<Instant> {
-        self.timing.awaits_until().filter(|until| *until > time && self.wakes.has_waiting())
+        let interval = self.timing.interval(time);
+        let until = if interval.awaits_beacons { self.timing.awaits_until() } else { Some(time + MILLISECOND) };
+        until.filter(|_| self.wakes.has_untried(interval))
     }
 
     /// What comes of these stations waits for no beacons any more.
@@ -89,7 +141,7 @@ impl<P: Port> Running<P> {
         self.end_waits_for_beacons(waiting);
     }
 
-    /// The program was given a frame: where it has a unit for a station that dozes, the program keeps that.
+    /// The program was given a frame: if it has a unit for a station that dozes, the program keeps that.
     pub(super) fn note_kept(&mut self, source: Source, frame: &InboundFrame) {
         let destination = match source {
             Source::Wire(place) => Some((place, frame.receiver())),

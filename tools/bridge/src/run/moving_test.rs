@@ -219,7 +219,7 @@ fn wake() -> Vec<u8> {
     Unit { control: [0x48, 0x01], sequence: 0x80, ..Unit::default() }.octets()
 }
 
-/// Where all ends no other interval begins.
+/// If all ends no other interval begins.
 #[test]
 fn a_wake_that_waits_for_the_next_beacon_interval_is_given_before_the_end() {
     let program = SLOW_AT_A_WAKE.replace("ANSWER", ANSWER).replace("JOINED", JOINED);
@@ -265,7 +265,7 @@ fn a_wake_with_much_kept_waits_for_the_next_beacon_interval() {
     assert_eq!(order[3], 99, "{order:?}");
 }
 
-/// Where beacons always come in the second half of their interval, nobody looks at stations that are silent. A wake
+/// If beacons always come in the second half of their interval, nobody looks at stations that are silent. A wake
 /// that waits for the beacons is given all the same.
 #[test]
 fn a_wake_is_given_behind_beacons_that_always_come_late() {

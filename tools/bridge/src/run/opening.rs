@@ -58,7 +58,7 @@ impl<P: OfSocket> Bridge<P> {
     }
 
     /// The radio sends: from now on of the frames that it shows as sent only their outcomes come, and those that were
-    /// acknowledged wake nobody where they have a port of their own.
+    /// acknowledged wake nobody if they have a port of their own.
     fn filter_outcomes(&mut self) -> Result<(), Fault> {
         let running = match self.phase.running() {
             Some(running) => running,

@@ -86,8 +86,9 @@ fn a_stuck_log_keeps_no_beacon_waiting() {
     assert!(stage.sent.lock().unwrap().len() >= 6);
 }
 
-/// Where hundreds of frames wait to be sent, each beacon goes before them; those of which nobody is left to wait for
-/// them are dropped.
+/// Where hundreds of frames wait to be sent, beacons come all the same: between two of them no more frames go than the
+/// radio takes in an interval, and those of a receiver that may wait besides. That each goes before all that waits is
+/// seen where no clock counts (`sending_test`). Frames of which nobody is left to wait for them are dropped.
 #[test]
 fn what_waits_to_be_sent_does_not_keep_beacons() {
     let answers = format!("[air(OURS, bytes.fromhex('{ANSWER}')) for _ in range(80)]");
@@ -104,8 +105,8 @@ fn what_waits_to_be_sent_does_not_keep_beacons() {
     let sent = stage.sent.lock().unwrap().clone();
     let beacon = [&sending_header(2, 0)[..], &hex::decode(BEACON).unwrap()].concat();
     let between: Vec<usize> = sent.split(|frame| *frame == beacon).map(<[_]>::len).collect();
-    assert!((20..=640).contains(&between.iter().sum::<usize>()), "{between:?}");
-    assert!(between.len() > 10 && between.iter().all(|frames| *frames < 110), "{between:?}");
+    assert!((1..640).contains(&between.iter().sum::<usize>()), "{between:?}");
+    assert!(between.len() > 10 && between.iter().all(|frames| *frames <= 102 + 64), "{between:?}");
 }
 
 #[test]

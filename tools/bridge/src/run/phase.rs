@@ -55,7 +55,7 @@ impl<P> Phase<P> {
         }
     }
 
-    /// The end begins, where it hasn't yet; answers whether it does.
+    /// The end begins, if it hasn't yet; answers whether it does.
     pub(super) fn end(&mut self) -> bool {
         if self.is_ending() {
             return false;

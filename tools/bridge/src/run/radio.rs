@@ -9,7 +9,7 @@ use crate::control::notices::{say, Notice};
 use crate::control::status::OfRadio;
 use crate::formats::frames::Address;
 use crate::inbound::filter::{acknowledged_filter, monitor_filter, Drawn, Shown};
-use crate::os::clock::{Duration, Instant};
+use crate::os::clock::{earliest, Duration, Instant};
 use crate::os::link::Link;
 use crate::os::port::{OfSocket, Port};
 use crate::run::beacon_timing::BeaconTiming;
@@ -59,7 +59,7 @@ impl Radio {
     /// When something is to be looked at.
     pub(super) fn due(&self, time: Instant) -> Option<Instant> {
         let down = self.down.as_ref().map(|down| down.look_due);
-        [down, self.beacons.due(time), self.tuning.due()].into_iter().flatten().min()
+        earliest(&[down, self.beacons.due(time), self.tuning.due()])
     }
 
     /// What people are told of it.
@@ -74,7 +74,7 @@ impl Radio {
 }
 
 impl<P: OfSocket> Bridge<P> {
-    /// Looks at the radio, where it is time, and tells what is new.
+    /// Looks at the radio, if it is time, and tells what is new.
     pub(super) fn watch_radio(&mut self) -> Result<(), Fault> {
         let time = self.time;
         let running = match self.phase.running() {
@@ -96,14 +96,14 @@ impl<P: OfSocket> Bridge<P> {
 }
 
 impl<P: Port> Running<P> {
-    /// A socket of the radio says that its interface is down. A fault where the interface is gone; else what is to be
+    /// A socket of the radio says that its interface is down. A fault if the interface is gone; else what is to be
     /// sent waits until it is up again, and what waits too long is dropped.
     pub(super) fn went_down(&mut self, time: Instant) -> Result<(), Fault> {
         self.outbound.air.went_down();
         self.look_at_link(time)
     }
 
-    /// Looks whether an interface that is down is up again, where it is time.
+    /// Looks whether an interface that is down is up again, if it is time.
     fn look_at_link(&mut self, time: Instant) -> Result<(), Fault> {
         if !self.outbound.air.is_down() {
             return Ok(());
@@ -151,7 +151,7 @@ impl<P: Port> Running<P> {
         self.filter_acknowledged()
     }
 
-    /// From now on each frame of neighbours comes where it is in doubt on which channel the radio hears, and else some.
+    /// From now on each frame of neighbours comes if it is in doubt on which channel the radio hears, and else some.
     fn look_at_neighbours(&mut self) -> Result<(), Fault> {
         let wanted = if self.radio.tuning.wants_each() { Drawn::Each } else { Drawn::ONE_IN_HUNDRED };
         if wanted == self.radio.neighbours {

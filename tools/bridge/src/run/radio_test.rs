@@ -100,7 +100,7 @@ fn a_monitor_interface_that_is_down_for_a_while_ends_nothing() {
     assert_eq!(*stage.sent_on_wire.lock().unwrap(), [data()]);
 }
 
-/// Where it was down for less time than it takes to look, nothing is refused.
+/// If it was down for less time than it takes to look, nothing is refused.
 #[test]
 fn a_monitor_interface_that_was_down_for_a_moment_changes_nothing() {
     let mut status = String::new();

@@ -4,8 +4,8 @@ use super::{Bridge, Phase, IN_A_ROW};
 use crate::control::faults::{is_down, Fault};
 use crate::control::notices::{say, Notice};
 use crate::formats::frames::{Address, Frame, BEACON};
-use crate::formats::radiotap::{reception, Reception};
-use crate::inbound::frame::{InboundFrame, Source};
+use crate::formats::radiotap::Reception;
+use crate::inbound::frame::{InboundFrame, Source, LONGEST};
 use crate::inbound::judging::{judge_wired, Judged, LeftOut};
 use crate::os::batch::Batch;
 use crate::os::clock::{now, wall_now, Instant};
@@ -37,9 +37,10 @@ impl<P: OfSocket> Bridge<P> {
     }
 
     /// Reads the frames that the radio shows as acknowledged, once there may be many, and sends what waited for that, some
-    /// times at most; where frames wait for them still, they are waited for.
+    /// times at most; if frames wait for them still, they are waited for.
     pub(super) fn take_acknowledged(&mut self) -> Result<(), Fault> {
-        for _ in 0..IN_A_ROW {
+        let most = self.phase.running().map_or(0, |running| running.most_rounds());
+        for _ in 0..most {
             match self.phase.running() {
                 Some(running) if running.wants_outcomes() => running.read_outcomes(&mut self.batch, self.time)?,
                 _ => break,
@@ -65,6 +66,16 @@ impl<P: Port> Running<P> {
     fn wants_outcomes(&self) -> bool {
         let given = self.outbound.air.sent() - self.reading.sent_before;
         self.outbound.air.wants_outcomes(given)
+    }
+
+    /// How often in a row what the radio tells is read and what waited for that is sent. Once at most if the bridge
+    /// is behind with reading: what waits in the kernel would be late before it is read.
+    pub(super) fn most_rounds(&self) -> usize {
+        if self.reading.is_behind {
+            1
+        } else {
+            IN_A_ROW
+        }
     }
 
     /// Reads what the radio tells of frames that were acknowledged, some batches of it at most, and no more once it told of
@@ -122,6 +133,7 @@ impl<P: Port> Running<P> {
         let arrival = self.reading.arrivals.read(wall_now(), now());
         for packet in batch.packets() {
             let arrived = arrival(packet.arrived).min(time);
+            self.reading.is_behind |= token != Token::Acknowledged && time.since(arrived) > LONGEST / 2;
             match token {
                 Token::Wire(place) => self.take_wired(place, &packet, arrived),
                 _ => self.take_air(&packet, arrived),
@@ -130,7 +142,7 @@ impl<P: Port> Running<P> {
         Ok(number)
     }
 
-    /// How many packets are asked for at a time: one where an interface had nothing at the last waking, since a
+    /// How many packets are asked for at a time: one if an interface had nothing at the last waking, since a
     /// question for one more that isn't there costs as much as reading one.
     fn most_to_ask_for(&mut self, token: Token) -> usize {
         let way = match token {
@@ -151,11 +163,10 @@ impl<P: Port> Running<P> {
 
     fn take_air(&mut self, packet: &Packet<'_>, arrived: Instant) {
         match self.judge.judge(packet.octets, packet.is_outgoing, packet.is_cut) {
-            Judged::LeftOut(reason) => {
-                if reason == LeftOut::Neighbours {
-                    self.hear_on(reception(packet.octets), arrived);
-                }
-                self.leave_out(Way::Air, reason);
+            Judged::LeftOut(reason) => self.leave_out(Way::Air, reason),
+            Judged::Neighbours(reception) => {
+                self.hear_on(reception, arrived);
+                self.leave_out(Way::Air, LeftOut::Neighbours);
             }
             Judged::Sent(frame, outcome) => {
                 self.leave_out(Way::Air, LeftOut::Sent);
@@ -163,11 +174,11 @@ impl<P: Port> Running<P> {
                 self.stations.reported(frame, outcome, arrived);
                 self.outbound.reported(frame, outcome, arrived);
             }
-            Judged::GoesOn(frame) => {
-                let reception = reception(packet.octets);
+            Judged::GoesOn(frame, reception) => {
                 self.hear_on(reception, arrived);
                 self.outbound.heard(frame);
                 let changes_mode = self.stations.heard(frame, reception, arrived);
+                self.take_ready(frame);
                 self.wait_of_air(frame.octets(), changes_mode, arrived);
             }
         }
@@ -181,7 +192,7 @@ impl<P: Port> Running<P> {
         }
     }
 
-    /// The radio names the frequency on which it heard a frame, where it names one.
+    /// The radio names the frequency on which it heard a frame, if it names one.
     fn hear_on(&mut self, reception: Reception, time: Instant) {
         reception.frequency.into_iter().for_each(|frequency| self.radio.tuning.heard(frequency, time));
     }

@@ -5,10 +5,12 @@ use super::radio::Radio;
 use super::Manner;
 use crate::apctl::tables::Tables;
 use crate::control::events::Events;
+use crate::control::faults::Fault;
 use crate::inbound::batching::Batching;
 use crate::inbound::judging::{Judge, LeftOut};
 use crate::inbound::queue::InboundQueue;
 use crate::network::Network;
+use crate::os::batch::Batch;
 use crate::os::clock::{now, wall_now, Arrivals, Duration, Instant, SECOND};
 use crate::os::interfaces::Interfaces;
 use crate::os::poller::Token;
@@ -17,6 +19,7 @@ use crate::outbound::air::hand_back_pace::Pace;
 use crate::outbound::Outbound;
 use crate::run::beacon_timing::BeaconTiming;
 use crate::run::wake_timing::WakeTiming;
+use crate::stations::station::Member;
 use crate::stations::{Errand, Stations};
 
 /// Within this time the first beacon has to be seen as sent.
@@ -32,7 +35,7 @@ pub enum Way {
 /// A wire whose interface went down or away, or wasn't there yet.
 #[derive(Debug)]
 pub struct Ended {
-    /// Since when, where it isn't back.
+    /// Since when, if it isn't back.
     pub(super) since: Option<Instant>,
     /// How many frames of its network were lost while it was down.
     pub(super) lost: u64,
@@ -52,7 +55,7 @@ pub struct Given {
 /// Whether the first beacon was seen as sent.
 #[derive(Debug, Clone, Copy, PartialEq, Eq)]
 pub(super) enum FirstBeacon {
-    /// It has to be by this time. None is said where an earlier bridge saw the radio send as it is set up: if it doesn't
+    /// It has to be by this time. None is said if an earlier bridge saw the radio send as it is set up: if it doesn't
     /// now, the channel is busy, or `tools/live` sets it up anew.
     Awaited { until: Option<Instant> },
     /// It was.
@@ -67,6 +70,8 @@ pub(super) struct Reading {
     /// How often the bridge was woken, and in which waking the air and each wire were read last.
     pub(super) wakings: u64,
     pub(super) read_in: Vec<u64>,
+    /// Whether a packet that was read in this waking had waited in the kernel for half as long as data is worth.
+    pub(super) is_behind: bool,
     /// How many frames were sent on the air when those that were acknowledged were read last.
     pub(super) sent_before: u64,
     /// Whether one waits for frames that were acknowledged.
@@ -81,6 +86,7 @@ impl Reading {
         Reading {
             wakings: 0,
             read_in: vec![0; 1 + networks],
+            is_behind: false,
             sent_before: 0,
             awaits_acknowledged: false,
             arrivals: Arrivals::default(),
@@ -116,6 +122,8 @@ pub struct Running<P> {
     pub(super) hands_back: bool,
     /// Which stations wait for beacons before the program is told that they wake.
     pub(super) wakes: WakeTiming,
+    /// Stations that have just joined and sent nothing since, with until when what the wire brings for them waits.
+    pub(super) getting_ready: VecDeque<(Instant, Member)>,
     /// Units by which stations that doze are asked whether they are there, with the places of their networks.
     pub(super) questions: VecDeque<(usize, Vec<u8>)>,
     /// Whether people have asked for the tables, and the program wasn't asked for them yet.
@@ -157,6 +165,7 @@ impl<P: Port> Running<P> {
             update_paces: vec![Pace::default(); networks_len],
             hands_back: false,
             wakes: WakeTiming::new(),
+            getting_ready: VecDeque::new(),
             questions: VecDeque::new(),
             tables_asked: false,
             dismisses: false,
@@ -165,19 +174,35 @@ impl<P: Port> Running<P> {
         }
     }
 
+    /// The bridge was woken.
+    pub(super) fn begin_waking(&mut self) {
+        self.reading.wakings += 1;
+        self.reading.is_behind = false;
+    }
+
     /// Whether the wire of the network of this place has ended, and isn't back.
     pub(super) fn is_down(&self, place: usize) -> bool {
         self.ended.get(&place).map_or(false, |ended| ended.since.is_some())
     }
 
-    /// Does what is to be done of stations that are silent, or wait for beacons, where it is time.
-    pub(super) fn look(&mut self, time: Instant) {
+    /// Does what is to be done of stations that are silent, may have moved, or wait for beacons, if it is time. Of
+    /// one that may have moved it has to be known whether it has acknowledged a question by now.
+    pub(super) fn look(&mut self, batch: &mut Batch, time: Instant) -> Result<(), Fault> {
         if self.timing.looks(time) {
             let errands = self.stations.look(time);
             self.run(errands, time);
         }
-        let due = self.wakes.take_due(self.timing.interval(time));
-        self.end_waits_for_beacons(due);
+        if self.stations.moves_due() <= time {
+            self.receive(Token::Acknowledged, batch, time)?;
+            let errands = self.stations.look_who_moved(time);
+            self.run(errands, time);
+        }
+        self.end_getting_ready(time);
+        if self.wakes.has_untried(self.timing.interval(time)) {
+            let due = self.wakes.take_due(self.interval(time));
+            self.end_waits_for_beacons(due);
+        }
+        Ok(())
     }
 
     /// Sends and says what the bridge has to by itself.

@@ -21,7 +21,7 @@ impl<P: OfSocket> Bridge<P> {
 }
 
 impl<P: Port> Running<P> {
-    /// When what waits is sent next, where something has room.
+    /// When what waits is sent next, if something has room.
     pub(super) fn sends_next(&self, time: Instant) -> Option<Instant> {
         self.outbound.has_room(&self.interfaces).then(|| self.timing.sends_while(time).start.max(time))
     }

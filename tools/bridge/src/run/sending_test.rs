@@ -7,27 +7,36 @@ use std::rc::Rc;
 use libc::sock_filter;
 
 use super::*;
+use crate::formats::ethernet::update;
 use crate::formats::frames::Frame;
-use crate::os::clock::{now, MILLISECOND};
+use crate::formats::radiotap::{sending_header, Reception};
+use crate::inbound::frame::{InboundFrame, Source, LONGEST};
+use crate::network::Network;
+use crate::os::clock::{now, MILLISECOND, SECOND};
 use crate::os::interfaces::Interfaces;
+use crate::os::port::AT_A_TIME;
+use crate::restart::replay::Restored;
 use crate::restart::state::Setting;
-use crate::run::Manner;
-use crate::stations::own_frames::association_request;
-use crate::testing::samples::{network, Unit, OURS, STATION};
+use crate::run::{Manner, IN_A_ROW};
+use crate::stations::own_frames::{association_request, departure, mode_of_station};
+use crate::stations::station::KeptStation;
+use crate::stations::Errand;
+use crate::testing::samples::{data, network, radiotap, Unit, OTHER, OURS, STATION};
 
-/// A radio's port, which shows each frame that is sent by it as acknowledged where `shown` is, and counts how often it is
-/// asked what it has.
+/// A radio's port, which shows each frame that is sent by it as acknowledged if `shown` is. It has as many octets as
+/// `unsent` says, and counts how often it is asked that.
 struct RadioPort {
     near: UnixDatagram,
     shown: Option<UnixDatagram>,
     asked: Rc<Cell<usize>>,
+    unsent: Rc<Cell<usize>>,
 }
 
 impl RadioPort {
     /// One with its other end.
     fn new(shown: Option<UnixDatagram>) -> (RadioPort, UnixDatagram) {
         let (near, far) = UnixDatagram::pair().unwrap();
-        (RadioPort { near, shown, asked: Rc::default() }, far)
+        (RadioPort { near, shown, asked: Rc::default(), unsent: Rc::default() }, far)
     }
 }
 
@@ -59,7 +68,19 @@ impl Port for RadioPort {
 
     fn unsent(&self) -> io::Result<usize> {
         self.asked.set(self.asked.get() + 1);
-        Ok(0)
+        Ok(self.unsent.get())
+    }
+}
+
+fn manner() -> Manner {
+    Manner {
+        setting: Setting { phy: "phy0".into(), channel: 6, interval: 100 },
+        networks: vec![Network { quota: 2000, ..network(OURS) }],
+        by: None,
+        most_silence: None,
+        tells_wires: false,
+        tells_alive: false,
+        has_sent: true,
     }
 }
 
@@ -69,16 +90,7 @@ fn send_two(is_shown: bool) -> (usize, usize) {
     let (acknowledged, far) = RadioPort::new(None);
     let (monitor, _air) = RadioPort::new(is_shown.then_some(far));
     let (beacons, _beacons) = RadioPort::new(None);
-    let asked = Rc::clone(&monitor.asked);
-    let manner = Manner {
-        setting: Setting { phy: "phy0".into(), channel: 6, interval: 100 },
-        networks: vec![network(OURS)],
-        by: None,
-        most_silence: None,
-        tells_wires: false,
-        tells_alive: false,
-        has_sent: true,
-    };
+    let (asked, manner) = (Rc::clone(&monitor.asked), manner());
     let interfaces = Interfaces::new(monitor, beacons, vec![None]).with_acknowledged(acknowledged);
     let mut running = Running::new(interfaces, &manner);
     let request = association_request(&manner.networks[0], STATION);
@@ -104,4 +116,168 @@ fn what_became_of_a_frame_is_read_before_the_next_one_goes() {
 #[test]
 fn where_nothing_is_told_of_a_frame_the_socket_is_asked() {
     assert_eq!(send_two(false), (1, 2));
+}
+
+/// An authentication response to a station of this number, and a beacon.
+const RESPONSE: &str = "b000000002aa0000000N0200000001010200000001011000000002000000";
+const BEACON: &str = "80000000ffffffffffff020000000101020000000101";
+
+/// Sends nine responses that wait, and a beacon that comes behind them, at the begin of an interval of so many time
+/// units. Answers the first octets of the frames that went, in their order.
+fn send_nine_and_a_beacon(interval: u16) -> Vec<u8> {
+    let (radio, air) = UnixDatagram::pair().unwrap();
+    let [monitor, beacons] = [(); 2].map(|()| RadioPort::new(Some(radio.try_clone().unwrap())).0);
+    let networks = vec![Network { rates: vec![0x80 | 12], ..network(OURS) }];
+    let manner = Manner { setting: Setting { interval, ..manner().setting }, networks, ..manner() };
+    let mut running = Running::new(Interfaces::new(monitor, beacons, vec![None]), &manner);
+    let begun = running.timing.next(Instant::START);
+    assert!(running.timing.begin(begun, 1));
+    running.timing.take_beacon();
+    let responses = (1..=9).map(|number| RESPONSE.replace('N', &number.to_string()));
+    for frame in responses.chain([BEACON.to_owned()]) {
+        running.outbound.send_on_air(OURS, hex::decode(frame).unwrap(), begun).unwrap();
+    }
+    std::thread::sleep(std::time::Duration::from_millis(2));
+    running.send(begun, &Poller::new().unwrap(), &mut Batch::new(), true).unwrap();
+    air.set_nonblocking(true).unwrap();
+    let header = sending_header(2, 0).len();
+    let mut packet = [0; 256];
+    std::iter::from_fn(|| air.recv(&mut packet).ok().map(|_| packet[header])).collect()
+}
+
+/// Beacons go before all that waits. Once the next interval is to begin, no more goes than what was handed over at a
+/// time.
+#[test]
+fn beacons_go_before_what_waits_and_the_rest_waits_for_the_next_ones() {
+    for (interval, responses) in [(10_000, 9), (1, AT_A_TIME)] {
+        let wanted = [&[0x80][..], &vec![0xb0; responses]].concat();
+        assert_eq!(send_nine_and_a_beacon(interval), wanted, "{interval}");
+    }
+}
+
+/// Once what is read had waited for long, the bridge goes on with reading after one round, in which what the radio told
+/// is read and more is sent.
+#[test]
+fn where_the_bridge_is_behind_with_reading_outcomes_are_read_once() {
+    for (waited, rounds) in [(LONGEST, 1), (LONGEST / 4, IN_A_ROW)] {
+        let ((monitor, far), (beacons, _beacons)) = (RadioPort::new(None), RadioPort::new(None));
+        let mut running = Running::new(Interfaces::new(monitor, beacons, vec![None]), &manner());
+        running.begin_waking();
+        far.send(&radiotap(&data(), 0, &[])).unwrap();
+        // A packet without a time came when it is read.
+        running.receive(Token::Monitor, &mut Batch::new(), now() + waited).unwrap();
+        assert_eq!(running.most_rounds(), rounds, "{waited:?}");
+        running.begin_waking();
+        assert_eq!(running.most_rounds(), IN_A_ROW);
+    }
+}
+
+/// The radio doesn't wake the bridge for an acknowledgement, so that is read before one judges by it.
+#[test]
+fn a_station_that_acknowledges_the_question_behind_an_update_stays_for_now() {
+    for is_shown in [true, false] {
+        let (acknowledged, far) = RadioPort::new(None);
+        let (monitor, _air) = RadioPort::new(is_shown.then_some(far));
+        let interfaces = Interfaces::new(monitor, RadioPort::new(None).0, vec![None]).with_acknowledged(acknowledged);
+        let mut running = with_station(interfaces, false);
+        let (poller, mut batch, time) = (Poller::new().unwrap(), Batch::new(), now());
+        let null = mode_of_station(OURS, STATION, false);
+        running.stations.heard(Frame::of(&null).unwrap(), Reception::default(), time);
+        let errand = running.stations.wired(0, &update(STATION), true, time);
+        assert!(matches!(errand, Some(Errand::Send { .. })));
+        running.run(errand, time);
+        running.send(time, &poller, &mut batch, false).unwrap();
+        running.look(&mut batch, time + 30 * MILLISECOND).unwrap();
+        let said = running.waiting.pop(time + 30 * MILLISECOND).map(|(_, frame)| frame.octets);
+        assert_eq!(said, (!is_shown).then(|| departure(OURS, STATION)));
+    }
+}
+
+/// The networks with a station that has been associated for long, and dozes or doesn't.
+fn with_station(interfaces: Interfaces<RadioPort>, dozes: bool) -> Running<RadioPort> {
+    let manner = manner();
+    let mut running = Running::new(interfaces, &manner);
+    let request = association_request(&manner.networks[0], STATION);
+    running.outbound.air.restore(0, Frame::of(&request).unwrap());
+    let station = KeptStation { address: STATION, aid: 1, listen: 5, dozes, has_dozed: dozes, request };
+    let stay = vec![((0, STATION), station)];
+    running.stations.restore(&Restored { stay, again: vec![], leave: vec![], swallowed: 0 }, now() - 10 * SECOND);
+    running
+}
+
+/// A station that dozes, with so many units that the program keeps, and how many octets of beacons the radio has.
+fn with_kept(units: u32) -> (Running<RadioPort>, Rc<Cell<usize>>) {
+    let ((monitor, _), (beacons, _)) = (RadioPort::new(None), RadioPort::new(None));
+    let unsent = Rc::clone(&beacons.unsent);
+    let mut running = with_station(Interfaces::new(monitor, beacons, vec![None]), true);
+    running.outbound.air.has_dozed(0, STATION, now());
+    (0..units).for_each(|_| running.outbound.air.was_given(0, STATION));
+    (running, unsent)
+}
+
+/// What the program answers to a wake takes the processor, which the radio may need for the beacons that it has.
+#[test]
+fn a_wake_with_much_kept_waits_until_the_radio_has_sent_the_beacons() {
+    let (member, wake) = ((0, STATION), mode_of_station(OURS, STATION, false));
+    for is_sent in [true, false] {
+        let ((mut running, unsent), mut batch) = (with_kept(1500), Batch::new());
+        let begun = running.timing.next(Instant::START);
+        let frame = || InboundFrame::of_air(Frame::of(&wake).unwrap(), true, begun);
+        let after = |milliseconds| begun + milliseconds * MILLISECOND;
+        assert!(running.timing.begin(begun, 1));
+        assert_eq!(running.wakes_too_late(&frame(), begun), Some(member));
+        running.timing.take_beacon();
+        assert_eq!(running.wakes_too_late(&frame(), begun), None);
+        unsent.set(500);
+        assert_eq!(running.wakes_too_late(&frame(), begun), Some(member));
+        running.wait_for_beacons(member, Source::Air(0), frame(), begun);
+        running.look(&mut batch, after(1)).unwrap();
+        assert!(running.waiting.pop(after(1)).is_none());
+        assert_eq!(running.next_wakes(after(1)), Some(after(2)));
+        unsent.set(if is_sent { 0 } else { 500 });
+        running.look(&mut batch, after(2)).unwrap();
+        assert_eq!(
+            (running.waiting.pop(after(2)).is_some(), running.next_wakes(after(2)).is_none()),
+            (is_sent, is_sent)
+        );
+        // A radio that sends no beacons is awaited no longer than the program.
+        running.look(&mut batch, after(50)).unwrap();
+        assert_eq!((running.waiting.pop(after(50)).is_some(), running.next_wakes(after(50))), (!is_sent, None));
+    }
+}
+
+/// The answer to a wake with few units takes hardly longer than that to any other frame.
+#[test]
+fn a_wake_with_nothing_kept_waits_for_no_beacons() {
+    let (mut running, unsent) = with_kept(0);
+    let begun = running.timing.next(Instant::START);
+    assert!(running.timing.begin(begun, 1));
+    unsent.set(500);
+    let wake = mode_of_station(OURS, STATION, false);
+    let frame = InboundFrame::of_air(Frame::of(&wake).unwrap(), true, begun);
+    assert_eq!(running.wakes_too_late(&frame, begun), None);
+}
+
+/// A station that has just joined would drop what comes at once.
+#[test]
+fn what_the_wire_brings_for_a_station_that_has_just_joined_waits_a_little() {
+    let wired = [STATION.octets(), OTHER.octets(), &[8, 0, 1][..]].concat();
+    let heard = |control: u8| Unit { control: [control, 0x01], ..Unit::default() }.octets();
+    for sends in [None, Some(0x48), Some(0x08)] {
+        let (mut running, _) = with_kept(0);
+        let (mut batch, time) = (Batch::new(), now());
+        running.gets_ready((0, STATION), time);
+        running.gets_ready((0, STATION), time + MILLISECOND);
+        running.waiting.push(Source::Wire(0), InboundFrame::of_wire(&wired, time));
+        running.take_ready(Frame::of(&heard(0x00)).unwrap());
+        running.look(&mut batch, time + 4 * MILLISECOND).unwrap();
+        assert!(running.waiting.pop(time + 4 * MILLISECOND).is_none());
+        assert_eq!(running.ready_due(), Some(time + 5 * MILLISECOND));
+        match sends {
+            Some(control) => running.take_ready(Frame::of(&heard(control)).unwrap()),
+            None => running.look(&mut batch, time + 5 * MILLISECOND).unwrap(),
+        }
+        let found = running.waiting.pop(time + 5 * MILLISECOND).map(|(_, frame)| frame.octets);
+        assert_eq!((found, running.ready_due()), (Some(wired.clone()), None));
+    }
 }

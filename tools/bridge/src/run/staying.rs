@@ -21,7 +21,7 @@ pub(super) const RESTORED_FROM: &str = "restored: of the lines from here on the 
 pub(super) const RESTORED_TO: &str = "restored: up to here";
 
 impl<P: OfSocket> Bridge<P> {
-    /// The interfaces are there. Where an earlier bridge has left stations, the program is told of these first.
+    /// The interfaces are there. If an earlier bridge has left stations, the program is told of these first.
     pub(super) fn restore(&mut self, interfaces: Interfaces<P>) -> Result<(), Fault> {
         let state = match &mut self.state_files {
             Some(state_files) => left_state(state_files, &self.manner.setting, boot_now()),
@@ -80,7 +80,7 @@ impl<P: OfSocket> Bridge<P> {
         }
     }
 
-    /// Goes on by a step with what is left for the next bridge, where it is time.
+    /// Goes on by a step with what is left for the next bridge, if it is time.
     pub(super) fn keep(&mut self) {
         let (state_files, running) = match (&mut self.state_files, self.phase.still_running()) {
             (Some(state_files), Some(running)) => (state_files, running),
@@ -141,7 +141,7 @@ impl<P: Port> Running<P> {
         State { setting: setting.clone(), written: boot_now(), is_last: true, networks }
     }
 
-    /// The same of a network, with the number of units that it keeps where that is known.
+    /// The same of a network, with the number of units that it keeps if that is known.
     fn state_of(&self, place: usize, units: Option<u64>) -> NetworkState {
         let network = &self.networks[place];
         NetworkState {
@@ -155,7 +155,7 @@ impl<P: Port> Running<P> {
     }
 }
 
-/// What an earlier bridge has left; where it isn't used, that is told.
+/// What an earlier bridge has left; if it isn't used, that is told.
 pub(super) fn left_state(state_files: &mut StateFiles, setting: &Setting, now: Instant) -> Option<State> {
     let chosen = match state_files.left() {
         Ok(texts) => state::choose(&texts, setting, now),
@@ -175,7 +175,7 @@ pub(super) fn left_state(state_files: &mut StateFiles, setting: &Setting, now: I
     }
 }
 
-/// What is to be said to the program, where it is something.
+/// What is to be said to the program, if it is something.
 fn restoring_of(state: &State, networks: &[Network]) -> Option<Replay> {
     match Replay::of(state, networks) {
         Ok(replay) => Some(replay).filter(|replay| !replay.is_empty()),

@@ -11,7 +11,7 @@ use crate::os::clock::Instant;
 use crate::os::port::Port;
 
 impl<P: Port> Running<P> {
-    /// The answer to a question, or `None` where whoever asks waits; a station is kicked for root alone.
+    /// The answer to a question, or `None` if whoever asks waits; a station is kicked for root alone.
     pub(super) fn answer(&mut self, question: Question, is_root: bool, time: Instant) -> Option<String> {
         match question {
             Question::Status | Question::Events { .. } => None,

@@ -1,5 +1,5 @@
 //! On which frequency the radio hears: it names one of each frame (the field Channel of radiotap), which is that of its
-//! own channel, also where a frame of a neighbouring channel was heard. Something else on the machine may have taken it
+//! own channel, also if a frame of a neighbouring channel was heard. Something else on the machine may have taken it
 //! elsewhere.
 //!
 //! One odd frame proves nothing: a driver may name the frequency on which it looked for networks a moment ago. So the
@@ -32,7 +32,7 @@ pub enum Found {
     Elsewhere(u16),
 }
 
-/// The frequency that frames named last where it isn't the one that is believed.
+/// The frequency that frames named last if it isn't the one that is believed.
 #[derive(Debug, Clone, Copy)]
 struct Doubt {
     frequency: u16,
@@ -73,7 +73,7 @@ impl Tuning {
         self.doubt.map(|doubt| doubt.since + TO_BELIEVE)
     }
 
-    /// What is believed from now on, where that is something else.
+    /// What is believed from now on, if that is something else.
     pub fn look(&mut self, now: Instant) -> Option<Found> {
         let doubt = self.doubt.filter(|doubt| now >= doubt.since + TO_BELIEVE)?;
         self.doubt = None;
@@ -91,7 +91,7 @@ impl Tuning {
         self.wanted
     }
 
-    /// The frequency on which the radio is believed to be, where that isn't its channel's.
+    /// The frequency on which the radio is believed to be, if that isn't its channel's.
     pub fn elsewhere(&self) -> Option<u16> {
         Some(self.believed).filter(|believed| *believed != self.wanted)
     }
@@ -127,7 +127,7 @@ mod tests {
         assert_eq!((tuning.elsewhere(), tuning.heard_elsewhere()), (None, 2));
     }
 
-    /// Also where one frame alone is heard there.
+    /// Also if one frame alone is heard there.
     #[test]
     fn a_radio_that_hears_elsewhere_is_told_within_a_second() {
         for frames in [1, 5] {

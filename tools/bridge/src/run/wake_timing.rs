@@ -4,12 +4,13 @@
 //!
 //! The rules, of any order of calls:
 //!
-//! 1. Such a frame *fits* where the program is done with its answer, and with those to the wakes before it, before the
-//!    next interval begins, and where the beacons of this one have come. Or it makes beacons late by very little. One
-//!    that doesn't fit waits, and with it what comes of its station.
-//! 2. Once the beacons of an interval have come, those that wait are tried again, in their order, and once in each
-//!    interval. Beacons that don't come are awaited for a bounded time (`beacon_timing`).
-//! 3. One whose answer takes longer than an interval fits behind the beacons, if it is the first wake of its interval.
+//! 1. Such a frame *fits* if the program is done with its answer, and with those to the wakes before it, before
+//!    the next interval begins, and if the beacons of this one have come and the radio has sent them. Or it makes
+//!    beacons late by very little. One that doesn't fit waits, and with it what comes of its station.
+//! 2. Once the beacons of an interval are sent, those that wait are tried again, in their order, and once in each
+//!    interval. Beacons that don't come or aren't sent are awaited for a bounded time (`beacon_timing`).
+//! 3. One whose answer takes longer than an interval fits behind the beacons, if it is the first wake of its
+//!    interval.
 //! 4. Of those that have waited since an earlier interval the first one is *overdue*: it is given in any case. So one
 //!    goes at least in each interval, also one that fits behind the beacons of none.
 //! 5. How long the program takes for a unit is learned from its answers: a slower one counts at once, and faster ones
@@ -32,7 +33,8 @@ const MANY: u32 = 64;
 /// The weight of what was known, as parts of all, beside a faster answer.
 const KNOWN: u32 = 7;
 
-/// A beacon interval: when it began, when the next one does, and whether beacons of it are still awaited.
+/// A beacon interval: when it began, when the next one does, and whether beacons of it have still to come or to be
+/// sent.
 #[derive(Debug, Clone, Copy, PartialEq, Eq)]
 pub(super) struct Interval {
     pub(super) begun: Instant,
@@ -92,12 +94,12 @@ impl WakeTiming {
         self.waiting.push((station, interval.begun));
     }
 
-    /// Whether stations wait.
-    pub(super) fn has_waiting(&self) -> bool {
-        !self.waiting.is_empty()
+    /// Whether stations wait that weren't tried again in this interval.
+    pub(super) fn has_untried(&self, interval: Interval) -> bool {
+        !self.waiting.is_empty() && interval.begun != self.tried
     }
 
-    /// The stations that are tried again in this interval, in their order, once its beacons have come.
+    /// The stations that are tried again in this interval, in their order, once its beacons are sent.
     pub(super) fn take_due(&mut self, interval: Interval) -> Vec<Member> {
         let Interval { begun, awaits_beacons, .. } = interval;
         if awaits_beacons || begun == self.tried {
@@ -220,7 +222,8 @@ mod tests {
         assert_eq!(timing.take_due(interval(1)), [FIRST]);
         assert!(!timing.fits(FIRST, 3400, interval(1), interval(1).begun + MILLISECOND * 2));
         timing.wait(FIRST, interval(1));
-        assert_eq!((timing.take_due(interval(2)), timing.has_waiting()), (vec![FIRST], false));
+        assert!(!timing.has_untried(interval(1)) && timing.has_untried(interval(2)));
+        assert_eq!((timing.take_due(interval(2)), timing.has_untried(interval(3))), (vec![FIRST], false));
         assert!(timing.fits(FIRST, 3400, interval(2), interval(2).begun + MILLISECOND * 2));
     }
 

@@ -84,7 +84,7 @@ mod tests {
         }
     }
 
-    /// Where more frames go than are known, any frame may be an echo as long as one that was forgotten would be known.
+    /// If more frames go than are known, any frame may be an echo as long as one that was forgotten would be known.
     #[test]
     fn where_many_go_all_may_be_echoes() {
         let mut echoes = Echoes::default();

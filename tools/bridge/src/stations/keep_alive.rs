@@ -6,7 +6,7 @@
 //! the air at 1 Mb/s. Networks share this pace: the one whose last frame went longest ago is looked at first. So one
 //! that has thousands of silent stations takes no more of it, where others want it, than its turns.
 //!
-//! Where a network knows nearly as many stations as it may, those that authenticated and didn't associate are given up
+//! If a network knows nearly as many stations as it may, those that authenticated and didn't associate are given up
 //! soon and unasked, so that made-up addresses don't keep newcomers out: who is there associates at once, or else
 //! authenticates again. A queue has one entry for each station that is known, and none for those that left.
 use std::collections::BTreeSet;
@@ -19,7 +19,7 @@ use crate::stations::table::StationTable;
 
 /// After how long those are asked that are authenticated only, if not sooner.
 const AUTHENTICATED: Duration = Duration::from_secs(60);
-/// How often stations are looked at, where no beacon is in between.
+/// How often stations are looked at, if no beacon is in between.
 pub const EVERY: Duration = Duration::from_millis(100);
 /// How long an answer is awaited.
 const TO_ANSWER: Duration = SECOND;
@@ -34,9 +34,9 @@ const MOST_AT_A_TIME: u32 = 2;
 const MOST_LOOKED_AT: u32 = 64;
 /// When a station is looked at again that should have left: what was said to the program may have been dropped.
 const AGAIN: Duration = Duration::from_secs(5);
-/// A network is nearly full where so many tenths are known of the stations that it may know.
+/// A network is nearly full if so many tenths are known of the stations that it may know.
 const NEARLY_FULL: usize = 9;
-/// After how long those that are authenticated only are given up where their network is nearly full.
+/// After how long those that are authenticated only are given up if their network is nearly full.
 const TO_ASSOCIATE: Duration = Duration::from_secs(3);
 /// How large a part of a network's stations is given up at a time at most.
 const PARTS: usize = 8;
@@ -115,7 +115,7 @@ impl Pace {
 /// The stations of all networks.
 #[derive(Debug)]
 pub(super) struct KeepAlive {
-    /// After how long those are asked that are associated; `None` where nobody is asked.
+    /// After how long those are asked that are associated; `None` if nobody is asked.
     most: Option<Duration>,
     networks: Vec<Watched>,
     pace: Pace,

@@ -189,7 +189,7 @@ fn silent_stations_of_one_network_keep_those_of_another_from_no_question() {
     }
 }
 
-/// Where those that are authenticated only and those that are associated fell silent at once, the first are asked
+/// If those that are authenticated only and those that are associated fell silent at once, the first are asked
 /// first.
 #[test]
 fn who_is_authenticated_only_is_asked_before_who_is_associated() {
@@ -245,7 +245,7 @@ fn who_associates_in_time_or_comes_later_stays() {
     assert_eq!(table.known(0), 2);
 }
 
-/// What is said to the program may be dropped, where too much comes.
+/// What is said to the program may be dropped, if too much comes.
 #[test]
 fn who_stays_all_the_same_is_given_up_again() {
     let (mut table, mut keep_alive) = (StationTable::new(vec![OURS]), KeepAlive::new(None, [1]));

@@ -32,7 +32,7 @@ pub enum FromStation {
     Poll,
 }
 
-/// What a frame of a station to the network of this address says, or `None` where it changes nothing of a station.
+/// What a frame of a station to the network of this address says, or `None` if it changes nothing of a station.
 pub fn from_station(frame: Frame<'_>, bssid: Address) -> Option<FromStation> {
     let octets = frame.octets();
     if frame.is_ps_poll() {
@@ -90,7 +90,7 @@ pub struct Tim {
     pub aids: Vec<u16>,
 }
 
-/// What a frame of a network says, or `None` where it says nothing of a station.
+/// What a frame of a network says, or `None` if it says nothing of a station.
 pub fn from_network(frame: Frame<'_>) -> Option<FromNetwork> {
     let octets = frame.octets();
     let body = octets.get(HEADER_LEN..)?;

@@ -31,7 +31,7 @@ use crate::stations::station::{KeptStation, Member, Move, State};
 use crate::stations::table::StationTable;
 use crate::stations::tally::Tally;
 
-/// How often a question is tried again where nobody acknowledges it, and how often what a station is told that is
+/// How often a question is tried again if nobody acknowledges it, and how often what a station is told that is
 /// there.
 const QUESTION_RETRIES: u8 = 3;
 /// Where the source of a frame of Ethernet stands.
@@ -41,7 +41,7 @@ const WORD_RETRIES: u8 = 3;
 /// What is to be done for it.
 #[derive(Debug, Clone, PartialEq, Eq)]
 pub enum Errand {
-    /// The network of this place sends a frame, and so often again where nobody acknowledges it.
+    /// The network of this place sends a frame, and so often again if nobody acknowledges it.
     Send { place: usize, frame: Vec<u8>, retries: u8 },
     /// The program is told of a frame as of one that was heard.
     Say(Vec<u8>),
@@ -145,20 +145,31 @@ impl Stations {
         errand.into_iter().collect()
     }
 
-    /// What is to be done of stations that are silent, don't associate, or may have moved, at a time at which no beacon
-    /// is due.
+    /// What is to be done of stations that are silent or don't associate, at a time at which no beacon is due.
     pub fn look(&mut self, now: Instant) -> Vec<Errand> {
         let steps = self.keep_alive.look(&mut self.table, now);
-        let mut errands: Vec<Errand> =
-            steps.into_iter().flat_map(|(place, step)| self.take_step(place, step, now)).collect();
-        for step in self.roaming.look(&self.table, now) {
-            errands.extend(self.take_roaming_step(step, now));
-        }
+        let errands = steps.into_iter().flat_map(|(place, step)| self.take_step(place, step, now)).collect();
         self.tell(now);
         errands
     }
 
-    /// The wire of the network of this place brought a frame; answers what is to be done, where it shows that a station
+    /// When `look_who_moved` has something to do next, or before.
+    pub fn moves_due(&self) -> Instant {
+        self.roaming.look_due()
+    }
+
+    /// What is to be done of stations that may have moved, if that is due.
+    pub fn look_who_moved(&mut self, now: Instant) -> Vec<Errand> {
+        if now < self.moves_due() {
+            return Vec::new();
+        }
+        let steps = self.roaming.look(&self.table, now);
+        let errands = steps.into_iter().filter_map(|step| self.take_roaming_step(step, now)).collect();
+        self.tell(now);
+        errands
+    }
+
+    /// The wire of the network of this place brought a frame; answers what is to be done, if it shows that a station
     /// is elsewhere. `answers` says whether the radio tells of acknowledgements.
     pub fn wired(&mut self, place: usize, frame: &[u8], answers: bool, now: Instant) -> Option<Errand> {
         let member = (place, Address::at(frame, SOURCE_AT)?);

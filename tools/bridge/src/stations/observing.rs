@@ -20,7 +20,7 @@ impl StationTable {
         let bssid = self.bssids[member.0];
         match self.station_mut(&member) {
             Some(station) => {
-                station.heard = now;
+                (station.heard, station.frame_heard) = (now, now);
                 station.signal = reception.signal.or(station.signal);
                 station.from.rate = reception.rate.or(station.from.rate);
                 match from_station(frame, bssid) {

@@ -4,18 +4,24 @@
 //! elsewhere. An *update* is the frame that an access point puts on its wire for a station that has just joined
 //! (`formats::ethernet`). The rules, of any order of calls:
 //!
-//! 1. By an update a station moves that was associated here for a second, once nothing was heard of it for 100 ms. So
-//!    unasked it moves at most once in ten seconds.
-//! 2. By any other frame, and by an update within that second, the station is asked. It moves if nothing is heard of it
-//!    within a second. By a second update within ten seconds it is asked too, and moves if nothing is heard of it within
-//!    half a second. One that dozes is asked by a unit, and has five seconds.
-//! 3. An echo is no hint (`echoes`), unless it is an update: another access point's looks like one of this.
-//! 4. What is heard of a station meanwhile, its acknowledgement too, shows that it is here.
-//! 5. Of a station that moved within the last ten seconds and turns out to be here it is told, once, that the wire shows
-//!    it elsewhere.
-//! 6. At most two stations are asked in 100 ms, and of at most 256 is it awaited whether they are here. A second update
-//!    within ten seconds waits until its station may be asked; any other hint beyond that counts for nothing. Where the
-//!    radio tells of no acknowledgement, nobody is asked.
+//! 1. By an update a station moves that was associated here for a second and didn't move within the last ten. If
+//!    nothing was heard of it for 100 ms, it moves at once. So one that is here moves at most once in ten seconds.
+//! 2. If it was heard just before, that doesn't show where it is now. So it is asked, and moves if nothing is heard
+//!    of it within 30 ms. If it only acknowledges, it moves if it sends no frame within 100 ms of the update: on one
+//!    channel a station acknowledges whoever asks.
+//! 3. One that dozes isn't asked then, and neither is one if the radio tells of no acknowledgement or too many are
+//!    asked. It moves if it sends no frame until 100 ms after it was heard.
+//! 4. By any other frame, and by an update within that second, the station is asked. It moves if nothing is heard of
+//!    it within a second. By a second update within ten seconds it is asked too, and moves if nothing is heard of it
+//!    within half a second. One that dozes is asked by a unit, and has five seconds.
+//! 5. An echo is no hint (`echoes`), unless it is an update: another access point's looks like one of this.
+//! 6. What is heard of a station meanwhile shows that it is here: its acknowledgement too, unless 2 or 3 says
+//!    otherwise.
+//! 7. Of a station that moved within the last ten seconds and turns out to be here it is told, once, that the wire
+//!    shows it elsewhere.
+//! 8. At most two stations are asked in 100 ms, and of at most 256 is it awaited whether they are here. A second
+//!    update within ten seconds waits until its station may be asked; any other hint beyond that counts for nothing,
+//!    unless 3 says otherwise. If the radio tells of no acknowledgement, nobody is asked.
 //!
 //! Nothing is sent or timed here.
 use std::collections::{BTreeMap, VecDeque};
@@ -28,8 +34,10 @@ use crate::stations::table::StationTable;
 
 /// Since when a station must have been associated before an update moves it unasked.
 const TO_SETTLE: Duration = SECOND;
-/// For how long nothing must have been heard of it then.
+/// If nothing was heard of it for so long by then, it moves at once.
 const QUIET: Duration = Duration::from_millis(100);
+/// How long it has to acknowledge otherwise. The radio may have frames for some 8 ms before the question.
+const TO_ACKNOWLEDGE: Duration = Duration::from_millis(30);
 /// How long an answer is awaited, by a second update, and that of a station that dozes.
 const TO_ANSWER: Duration = SECOND;
 const TO_ANSWER_TO_UPDATE: Duration = Duration::from_millis(500);
@@ -57,13 +65,36 @@ pub(super) enum Step {
     Stay(Member),
 }
 
+/// What shows that a station is here.
+#[derive(Debug, Clone, Copy, PartialEq, Eq)]
+enum Sign {
+    /// Whatever is heard of it. It has still to be asked, since too many were.
+    AnythingOnceAsked,
+    /// Whatever is heard of it.
+    Anything,
+    /// A frame of its own; an acknowledgement shows only that one has to wait for that.
+    FrameIfAcknowledged,
+    /// A frame of its own.
+    Frame,
+}
+
 /// A station of which it is awaited whether it is here.
 #[derive(Debug, Clone, Copy)]
 struct Awaited {
     since: Instant,
     until: Instant,
-    /// Whether it has still to be asked, since too many were.
-    is_unasked: bool,
+    sign: Sign,
+}
+
+impl Awaited {
+    /// Whether a station has shown that it is here.
+    fn is_met_by(&self, station: &Station) -> bool {
+        let last = match self.sign {
+            Sign::AnythingOnceAsked | Sign::Anything => station.heard,
+            Sign::FrameIfAcknowledged | Sign::Frame => station.frame_heard,
+        };
+        last > self.since
+    }
 }
 
 /// A station that moved.
@@ -81,6 +112,8 @@ pub(super) struct Roaming {
     /// Of each network's wire.
     echoes: Vec<Echoes>,
     awaited: BTreeMap<Member, Awaited>,
+    /// When those are looked at next that are awaited: none of them is due before.
+    look_due: Instant,
     moved: VecDeque<Moved>,
     asked: (Instant, u32),
 }
@@ -91,6 +124,7 @@ impl Roaming {
         Roaming {
             echoes: (0..networks).map(|_| Echoes::default()).collect(),
             awaited: BTreeMap::new(),
+            look_due: Instant::NEVER,
             moved: VecDeque::new(),
             asked: (Instant::START, 0),
         }
@@ -125,18 +159,38 @@ impl Roaming {
             return Some(self.moves(member, now));
         }
         if moves {
-            self.awaits(member, Awaited { since: now, until: station.heard + QUIET, is_unasked: false });
-            return None;
+            return self.asks_if_still_here(member, station, answers, now);
         }
-        let step = self.asks(member, station, if is_settled { TO_ANSWER_TO_UPDATE } else { TO_ANSWER }, now);
+        let to_answer = if is_settled { TO_ANSWER_TO_UPDATE } else { TO_ANSWER };
+        let step = self.asks(member, station, (to_answer, Sign::Anything), now);
         if step.is_none() && is_settled {
-            self.awaits(member, Awaited { since: now, until: now + ASKED_IN, is_unasked: true });
+            let sign = Sign::AnythingOnceAsked;
+            self.awaits(member, Awaited { since: now, until: now + ASKED_IN, sign });
         }
         step
     }
 
+    /// By an update a station moves that was heard just before, unless it shows soon that it is still here.
+    fn asks_if_still_here(&mut self, member: Member, station: &Station, answers: bool, now: Instant) -> Option<Step> {
+        let may_be_asked = answers && !station.dozes;
+        let within = (TO_ACKNOWLEDGE, Sign::FrameIfAcknowledged);
+        let step = may_be_asked.then(|| self.asks(member, station, within, now)).flatten();
+        if step.is_none() {
+            self.awaits(member, Awaited { since: now, until: station.heard + QUIET, sign: Sign::Frame });
+        }
+        step
+    }
+
+    /// When `look` has something to do next, or before.
+    pub(super) fn look_due(&self) -> Instant {
+        self.look_due
+    }
+
     /// What is to be done of those that were awaited for long enough.
     pub(super) fn look(&mut self, table: &StationTable, now: Instant) -> Vec<Step> {
+        if now < self.look_due {
+            return Vec::new();
+        }
         let is_over = |awaited: &Awaited| awaited.until <= now;
         let over: Vec<(Member, Awaited)> =
             self.awaited.iter().filter(|(_, awaited)| is_over(awaited)).map(|(member, one)| (*member, *one)).collect();
@@ -146,20 +200,31 @@ impl Roaming {
             let is_associated = |station: &&Station| {
                 matches!(station.state, State::Associated(_)) && !station.is_leaving && station.since <= awaited.since
             };
-            match table.station(&member).filter(is_associated) {
-                Some(station) if station.heard > awaited.since => steps.extend(self.stays(member, now)),
-                Some(station) if awaited.is_unasked => {
-                    let step = self.asks(member, station, TO_ANSWER_TO_UPDATE, now);
-                    if step.is_none() {
-                        self.awaits(member, Awaited { until: now + ASKED_IN, ..awaited });
-                    }
-                    steps.extend(step);
-                }
-                Some(_) => steps.push(self.moves(member, now)),
-                None => {}
+            if let Some(station) = table.station(&member).filter(is_associated) {
+                steps.extend(self.look_at(member, station, awaited, now));
             }
         }
+        self.look_due = self.awaited.values().map(|awaited| awaited.until).min().unwrap_or(Instant::NEVER);
         steps
+    }
+
+    /// What is to be done of one that was awaited for long enough.
+    fn look_at(&mut self, member: Member, station: &Station, awaited: Awaited, now: Instant) -> Option<Step> {
+        match awaited.sign {
+            _ if awaited.is_met_by(station) => self.stays(member, now),
+            Sign::AnythingOnceAsked => {
+                let step = self.asks(member, station, (TO_ANSWER_TO_UPDATE, Sign::Anything), now);
+                if step.is_none() {
+                    self.awaits(member, Awaited { until: now + ASKED_IN, ..awaited });
+                }
+                step
+            }
+            Sign::FrameIfAcknowledged if station.heard > awaited.since => {
+                self.awaits(member, Awaited { until: awaited.since + QUIET, sign: Sign::Frame, ..awaited });
+                None
+            }
+            Sign::Anything | Sign::FrameIfAcknowledged | Sign::Frame => Some(self.moves(member, now)),
+        }
     }
 
     fn moves(&mut self, member: Member, now: Instant) -> Step {
@@ -190,13 +255,20 @@ impl Roaming {
     fn awaits(&mut self, member: Member, awaited: Awaited) -> bool {
         let has_room = self.awaited.len() < MOST_AWAITED || self.awaited.contains_key(&member);
         if has_room {
+            self.look_due = self.look_due.min(awaited.until);
             self.awaited.insert(member, awaited);
         }
         has_room
     }
 
-    /// A station is asked and awaited, if it may be asked now.
-    fn asks(&mut self, member: Member, station: &Station, to_answer: Duration, now: Instant) -> Option<Step> {
+    /// A station is asked if it may be asked now, and shows within a time that it is here, or doesn't.
+    fn asks(
+        &mut self,
+        member: Member,
+        station: &Station,
+        (to_answer, sign): (Duration, Sign),
+        now: Instant,
+    ) -> Option<Step> {
         let (to_answer, step) = match station.dozes {
             true => (TO_ANSWER_OF_DOZING, Step::AskByUnit(member)),
             false => (to_answer, Step::Ask(member)),
@@ -204,7 +276,7 @@ impl Roaming {
         if now >= self.asked.0 + ASKED_IN {
             self.asked = (now, 0);
         }
-        let awaited = Awaited { since: now, until: now + to_answer, is_unasked: false };
+        let awaited = Awaited { since: now, until: now + to_answer, sign };
         let may = self.asked.1 < MOST_ASKED && self.awaits(member, awaited);
         self.asked.1 += u32::from(may);
         may.then_some(step)

@@ -1,9 +1,9 @@
 use super::*;
 use crate::formats::ethernet::update;
 use crate::formats::frames::{Address, Frame};
-use crate::formats::radiotap::Reception;
+use crate::formats::radiotap::{Outcome, Reception};
 use crate::os::clock::MILLISECOND;
-use crate::stations::own_frames::mode_of_station;
+use crate::stations::own_frames::{mode_of_station, null};
 use crate::testing::samples::{at, Unit, OTHER, OURS, STATION, STRANGER};
 
 const MEMBER: Member = (1, STATION);
@@ -44,6 +44,12 @@ impl Site {
         let null = mode_of_station(OURS, STATION, false);
         self.table.heard(Frame::of(&null).unwrap(), Reception::default(), now);
     }
+
+    /// The station acknowledges a question.
+    fn acknowledges(&mut self, now: Instant) {
+        let outcome = Outcome { is_acknowledged: true, retries: 0, rate: None };
+        self.table.reported(&null(OURS, STATION, 1), outcome, false, now);
+    }
 }
 
 /// A frame from the station to a host.
@@ -58,20 +64,93 @@ fn by_an_update_a_quiet_station_moves_at_once() {
     assert_eq!(site.look(at(60 * SECOND)), []);
 }
 
+/// What was heard before the update says nothing of where the station is now.
 #[test]
-fn one_that_was_just_heard_moves_once_it_was_quiet_and_stays_if_it_is_heard_again() {
+fn one_that_was_just_heard_is_asked_and_moves_soon_if_it_is_silent() {
+    let mut site = Site::new();
+    let now = at(5 * SECOND);
+    site.is_heard(now);
+    assert_eq!(site.hint(MEMBER, &update(STATION), now + MILLISECOND), Some(Step::Ask(MEMBER)));
+    let until = now + MILLISECOND + TO_ACKNOWLEDGE;
+    assert_eq!((site.roaming.look_due(), site.look(until - MILLISECOND)), (until, vec![]));
+    assert_eq!(site.look(until), [Step::Move(MEMBER)]);
+    assert_eq!((site.roaming.look_due(), site.look(at(60 * SECOND))), (Instant::NEVER, vec![]));
+}
+
+#[test]
+fn one_that_was_just_heard_stays_if_a_frame_of_it_is_heard_again() {
+    for heard_again in [TO_ACKNOWLEDGE, TO_ACKNOWLEDGE + MILLISECOND, QUIET] {
+        let mut site = Site::new();
+        let now = at(5 * SECOND);
+        site.is_heard(now);
+        assert_eq!(site.hint(MEMBER, &update(STATION), now), Some(Step::Ask(MEMBER)));
+        site.acknowledges(now + MILLISECOND);
+        site.look(now + TO_ACKNOWLEDGE - MILLISECOND);
+        let steps = if heard_again > TO_ACKNOWLEDGE { site.look(now + TO_ACKNOWLEDGE) } else { vec![] };
+        site.is_heard(now + heard_again);
+        assert_eq!((steps, site.look(now + QUIET), site.look(at(60 * SECOND))), (vec![], vec![], vec![]));
+    }
+}
+
+/// On one channel a station acknowledges what the old access point sends, though it has moved.
+#[test]
+fn one_that_was_just_heard_and_only_acknowledges_moves_a_little_later() {
+    let mut site = Site::new();
+    let now = at(5 * SECOND);
+    site.is_heard(now);
+    assert_eq!(site.hint(MEMBER, &update(STATION), now), Some(Step::Ask(MEMBER)));
+    (1..9).for_each(|tenth| site.acknowledges(now + MILLISECOND * 10 * tenth));
+    assert_eq!((site.look(now + TO_ACKNOWLEDGE), site.look(now + QUIET - MILLISECOND)), (vec![], vec![]));
+    assert_eq!(site.look(now + QUIET), [Step::Move(MEMBER)]);
+}
+
+/// It may listen at its next beacon alone, so it has no time to answer.
+#[test]
+fn one_that_was_just_heard_and_dozes_is_not_asked_and_moves_once_it_was_quiet() {
     for is_heard_again in [false, true] {
         let mut site = Site::new();
-        site.is_heard(at(5 * SECOND));
-        let now = 5 * SECOND + QUIET - MILLISECOND;
-        assert_eq!(site.hint(MEMBER, &update(STATION), at(now)), None);
-        assert_eq!(site.look(at(now)), []);
+        let (now, later) = (at(5 * SECOND), MILLISECOND * 10);
+        site.is_heard(now);
+        site.table.fed(&mode_of_station(OURS, STATION, true), now);
+        assert_eq!(site.hint(MEMBER, &update(STATION), now + later), None);
         if is_heard_again {
-            site.is_heard(at(now + MILLISECOND));
+            site.is_heard(now + later + MILLISECOND);
         }
         let wanted = if is_heard_again { vec![] } else { vec![Step::Move(MEMBER)] };
-        assert_eq!(site.look(at(5 * SECOND + QUIET)), wanted);
-        assert_eq!(site.look(at(60 * SECOND)), []);
+        assert_eq!((site.look(now + QUIET - MILLISECOND), site.look(now + QUIET)), (vec![], wanted));
+    }
+}
+
+/// A stranger on the wire throws out no station that sends often, however often he claims it. One that sends seldom he
+/// throws out at most once in ten seconds.
+#[test]
+fn a_stranger_throws_out_no_station_that_sends_often() {
+    for (between, most) in [(50, 0), (90, 0), (1000, 6)] {
+        let mut site = Site::new();
+        let mut moves = 0;
+        site.is_heard(at(2 * SECOND));
+        for millisecond in (2000..62_000u32).step_by(5) {
+            let now = at(MILLISECOND * millisecond);
+            let mut steps = site.look(now);
+            if millisecond % between == 0 {
+                site.is_heard(now);
+            }
+            if millisecond % 100 == 35 {
+                steps.extend(site.hint(MEMBER, &update(STATION), now));
+            }
+            for step in steps {
+                match step {
+                    Step::Ask(_) => site.acknowledges(now + MILLISECOND),
+                    Step::Move(_) => {
+                        moves += 1;
+                        site.table.associate(MEMBER, 1, now);
+                    }
+                    Step::AskByUnit(_) => unreachable!("it doesn't doze"),
+                    Step::Stay(_) => {}
+                }
+            }
+        }
+        assert!(moves <= most && (most == 0 || moves > 0), "{between}: {moves}");
     }
 }
 
@@ -144,6 +223,11 @@ fn where_no_answer_would_be_told_nobody_is_asked() {
     assert_eq!(site.roaming.hint(MEMBER, station, &frame(), false, at(10 * SECOND)), None);
     let step = site.roaming.hint(MEMBER, station, &update(STATION), false, at(10 * SECOND));
     assert_eq!(step, Some(Step::Move(MEMBER)));
+    let mut site = Site::new();
+    site.is_heard(at(10 * SECOND));
+    let station = site.table.station(&MEMBER).unwrap();
+    assert_eq!(site.roaming.hint(MEMBER, station, &update(STATION), false, at(10 * SECOND + MILLISECOND)), None);
+    assert_eq!(site.look(at(10 * SECOND + QUIET)), [Step::Move(MEMBER)]);
 }
 
 #[test]
@@ -174,7 +258,7 @@ fn unasked_it_moves_once_in_ten_seconds_and_stays_if_it_answers_which_is_told_on
     assert_eq!(site.hint(MEMBER, &update(STATION), at(20 * SECOND)), Some(Step::Move(MEMBER)));
 }
 
-/// A station that roams to and fro is in one table alone soon after each roam.
+/// A station that roams to and fro is let go soon after each roam away from here.
 #[test]
 fn one_that_roams_again_within_ten_seconds_moves_if_it_is_silent() {
     let mut site = Site::new();
@@ -189,7 +273,7 @@ fn one_that_roams_again_within_ten_seconds_moves_if_it_is_silent() {
     }
 }
 
-/// Where many roam to and fro at once, each is asked in its turn.
+/// If many roam to and fro at once, each is asked in its turn.
 #[test]
 fn many_that_roam_again_at_once_are_asked_one_after_the_other() {
     let (mut site, members) = Site::with_many(8);
@@ -254,8 +338,8 @@ fn few_are_awaited_at_a_time() {
         let null = Unit { control: [0x48, 0x01], transmitter: *address, ..Unit::default() }.octets();
         site.table.heard(Frame::of(&null).unwrap(), Reception::default(), at(10 * SECOND));
     }
-    for member in &members {
-        assert_eq!(site.hint(*member, &update(member.1), at(10 * SECOND)), None);
-    }
-    assert_eq!(site.look(at(10 * SECOND + QUIET)).len(), MOST_AWAITED);
+    let asked = members.iter().filter(|member| site.hint(**member, &update(member.1), at(10 * SECOND)).is_some());
+    assert_eq!(asked.count(), MOST_ASKED as usize);
+    assert_eq!(site.look(at(10 * SECOND + TO_ACKNOWLEDGE)).len(), MOST_ASKED as usize);
+    assert_eq!(site.look(at(10 * SECOND + QUIET)).len(), MOST_AWAITED - MOST_ASKED as usize);
 }

@@ -36,7 +36,7 @@ pub struct Traffic {
     pub octets: u64,
     /// Their number.
     pub frames: u64,
-    /// The rate of the last one, in units of 500 kb/s, where the radio says it.
+    /// The rate of the last one, in units of 500 kb/s, if the radio says it.
     pub rate: Option<u8>,
 }
 
@@ -71,6 +71,8 @@ pub struct Station {
     pub since: Instant,
     /// When a frame or an acknowledgement of it was heard last.
     pub heard: Instant,
+    /// When a frame of it was heard last.
+    pub(super) frame_heard: Instant,
     /// The signal of its last frame in dBm.
     pub signal: Option<i8>,
     /// What was sent to it.
@@ -83,11 +85,11 @@ pub struct Station {
     pub(super) is_leaving: bool,
     /// Its turn among all: the order in which they were entered.
     pub turn: u64,
-    /// Its listen interval, where it is associated.
+    /// Its listen interval, if it is associated.
     pub listen: u16,
     /// Whether it has dozed since it was associated.
     pub has_dozed: bool,
-    /// The association request by which it was associated last, where it is.
+    /// The association request by which it was associated last, if it is.
     pub(super) joined_by: Option<Vec<u8>>,
     pub(super) wanted_listen: u16,
     /// Its association request that wasn't answered yet.

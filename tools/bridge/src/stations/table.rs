@@ -1,11 +1,12 @@
 //! The stations that the networks know, as the frames that pass show them (`observing`); the program isn't asked.
 //!
-//! A station is entered where the program answers its authentication with status 0, and taken out where its
+//! A station is entered if the program answers its authentication with status 0, and taken out if its
 //! deauthentication is said to the program. So the table holds every station that the program knows, and for a moment
-//! may hold one more: where an answer was on its way while the station left.
+//! may hold one more: if an answer was on its way while the station left.
 use std::collections::{BTreeMap, BTreeSet, HashMap};
 
 use crate::formats::frames::{Address, AddressMap};
+use crate::network::Places;
 use crate::os::clock::Instant;
 use crate::stations::news::{Forgotten, News};
 use crate::stations::station::{Asked, KeptStation, Member, Move, State, Station, Traffic};
@@ -14,7 +15,7 @@ use crate::stations::station::{Asked, KeptStation, Member, Move, State, Station,
 #[derive(Debug)]
 pub struct StationTable {
     pub(super) bssids: Vec<Address>,
-    places: AddressMap<usize>,
+    places: Places,
     /// Of each network.
     pub(super) stations: Vec<AddressMap<Station>>,
     pub(super) associated: HashMap<(usize, u16), Address>,
@@ -35,9 +36,8 @@ pub struct StationTable {
 impl StationTable {
     /// No stations of these networks.
     pub fn new(bssids: Vec<Address>) -> StationTable {
-        let places = bssids.iter().enumerate().map(|(place, bssid)| (*bssid, place)).collect();
         StationTable {
-            places,
+            places: Places::new(bssids.iter().copied()),
             stations: bssids.iter().map(|_| AddressMap::default()).collect(),
             associated: HashMap::new(),
             unassociated: vec![BTreeSet::new(); bssids.len()],
@@ -126,7 +126,7 @@ impl StationTable {
 
     /// The place of a network.
     pub fn place_of(&self, bssid: &Address) -> Option<usize> {
-        self.places.get(bssid).copied()
+        self.places.of(bssid)
     }
 
     /// A station.
@@ -208,6 +208,7 @@ impl StationTable {
             joins_dozing: false,
             since: now,
             heard: now,
+            frame_heard: now,
             signal: None,
             to: Traffic::default(),
             from: Traffic::default(),

@@ -171,7 +171,7 @@ fn who_is_forgotten_is_kept_no_more() {
     assert_eq!(table.kept(0), []);
 }
 
-/// A state is written anew where one joins or leaves, and says stations in the order of their identifiers.
+/// A state is written anew if one joins or leaves, and says stations in the order of their identifiers.
 #[test]
 fn who_is_kept_stands_in_the_order_of_identifiers_and_each_change_counts() {
     let mut table = table();
@@ -202,7 +202,7 @@ fn who_is_restored_is_there_as_before_without_a_word() {
     assert_eq!((found.state, found.listen, found.dozes), (State::Associated(1), 2, true));
     assert_eq!((table.take_news(), table.take_entered()), (vec![], vec![FIRST]));
     assert_eq!(table.kept(0), [KeptStation { has_dozed: true, ..dozing }]);
-    // One that had dozed before and was awake counts as one that may doze, where the next bridge doesn't know better.
+    // One that had dozed before and was awake counts as one that may doze, if the next bridge doesn't know better.
     let awake = KeptStation { dozes: false, has_dozed: true, ..before[0].clone() };
     table.restore(FIRST, &awake, at(9 * SECOND));
     assert_eq!(table.kept(0), [awake]);

@@ -1,4 +1,4 @@
-//! How often stations joined a network, left it and moved. Each time counts, also where the log and the events leave it
+//! How often stations joined a network, left it and moved. Each time counts, also if the log and the events leave it
 //! out.
 use crate::control::events::Happened;
 use crate::stations::news::{Forgotten, News};

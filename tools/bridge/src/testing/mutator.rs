@@ -3,7 +3,7 @@
 
 use crate::apctl::protocol::{Answer, Answers};
 use crate::formats::frames::{is_tagged, Address, Frame, BEACON, MOST};
-use crate::formats::radiotap::{captured, reception, Outcome, SENDING_LEN};
+use crate::formats::radiotap::{captured, Outcome, Reception, SENDING_LEN};
 use crate::inbound::filter::{monitor_filter, Drawn, Shown};
 use crate::inbound::judging::{judge_wired, Judge, Judged};
 use crate::network::Network;
@@ -77,7 +77,7 @@ fn packets_of_a_monitor_interface() {
         }
         let is_cut = seeded.below(9) == 0;
         match air.judge(&packet, seeded.below(9) == 0, is_cut) {
-            Judged::GoesOn(frame) => {
+            Judged::GoesOn(frame, _) => {
                 kinds[0] += 1;
                 assert!(frame.octets().len() <= MOST && !is_cut && frame.transmitter() != Some(OURS));
                 assert!(
@@ -88,7 +88,7 @@ fn packets_of_a_monitor_interface() {
                 kinds[1] += 1;
                 assert!(frame.len() < packet.len());
             }
-            Judged::LeftOut(_) => kinds[2] += 1,
+            Judged::LeftOut(_) | Judged::Neighbours(_) => kinds[2] += 1,
         }
     }
     assert!(kinds.iter().all(|number| *number > 10_000), "{kinds:?}");
@@ -234,7 +234,8 @@ fn what_the_bridge_does_by_itself() {
         time += Duration::from_nanos(seeded.below(1 << 27) as u64);
         match (seeded.below(4), Frame::of(&octets)) {
             (0, Some(frame)) => {
-                stations.heard(frame, reception(&octets), time);
+                let reception = captured(&octets).map_or(Reception::default(), |found| found.reception);
+                stations.heard(frame, reception, time);
             }
             (1, _) => stations.fed(&octets, time),
             (2, _) => {
@@ -243,7 +244,8 @@ fn what_the_bridge_does_by_itself() {
             }
             _ => {
                 let answered = stations.answered(OURS, &octets, time);
-                for errand in answered.into_iter().chain(stations.look(time)) {
+                let looked = stations.look(time).into_iter().chain(stations.look_who_moved(time));
+                for errand in answered.into_iter().chain(looked.collect::<Vec<_>>()) {
                     match errand {
                         Errand::Send { place, frame, .. } => {
                             sent += 1;

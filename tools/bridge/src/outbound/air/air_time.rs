@@ -1,6 +1,6 @@
 //! What a frame takes of the air of the 2.4 GHz band: what shares of the air are reckoned by.
 //!
-//! A frame is sent for its preamble and its octets, and for SIFS and the acknowledgement where one is awaited (the crate
+//! A frame is sent for its preamble and its octets, and for SIFS and the acknowledgement if one is awaited (the crate
 //! `tx_time`). A try takes DIFS and half of its contention window besides, which doubles with each try (IEEE Std
 //! 802.11-2016, 10.3.3). What a radio really draws isn't told: the mean is reckoned.
 
@@ -55,7 +55,7 @@ impl Cost {
         Duration::from_nanos(time)
     }
 
-    /// How many tries fit into a time, of so many at most, and `least` where fewer do.
+    /// How many tries fit into a time, of so many at most, and `least` if fewer do.
     pub fn tries_within(self, time: Duration, least: u8, most: u8) -> u8 {
         let (time, mut number, mut taken, mut window) = (nanos(time), 0, 0, self.window);
         while number < most {

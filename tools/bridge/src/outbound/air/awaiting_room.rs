@@ -39,7 +39,7 @@ impl Transmitter {
         self.interface = Interface::Down;
     }
 
-    /// The interface is up again after so long. What had its turn before is dropped where it waited too long meanwhile;
+    /// The interface is up again after so long. What had its turn before is dropped if it waited too long meanwhile;
     /// what waits for its turn is looked at when that comes.
     pub fn came_up(&mut self, after: Duration, now: Instant) {
         self.interface = Interface::Up;

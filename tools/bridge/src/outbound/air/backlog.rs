@@ -60,7 +60,7 @@ impl Backlogs {
         self.stations.entry(station).or_default().kept.push_back(frame);
     }
 
-    /// A frame waits behind those that were kept. Gives back the oldest such one where it was one too many.
+    /// A frame waits behind those that were kept. Gives back the oldest such one if it was one too many.
     pub fn push_behind(&mut self, station: Address, frame: OutboundFrame) -> Option<OutboundFrame> {
         let behind = &mut self.stations.entry(station).or_default().behind;
         behind.push_back(frame);

@@ -56,7 +56,7 @@ impl Caller {
         self.air.send(place, octets, self.now);
     }
 
-    /// Three units come for a station, and have their turn where they may.
+    /// Three units come for a station, and have their turn if they may.
     fn send_units(&mut self, place: Place, receiver: Address) {
         for _ in 0..3 {
             self.sequence = (self.sequence + 1) % 4096;

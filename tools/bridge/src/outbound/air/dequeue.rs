@@ -20,16 +20,16 @@ const MOST_TRYING: Duration = Duration::from_micros(25_200);
 /// One that has to be acknowledged is tried twice, however long that takes.
 const LEAST_TRIES: u8 = 2;
 /// How long the radio takes at most for the frames of one network that it has at once, if nobody acknowledges any of
-/// them, unless that is one frame. A beacon waits so long where a station has gone.
+/// them, unless that is one frame. A beacon waits so long if a station has gone.
 pub const MOST_TRYING_AT_ONCE: Duration = Duration::from_millis(50);
-/// So often a unit is tried at most that goes behind others of its network, to a station that loses few tries: where it
+/// So often a unit is tried at most that goes behind others of its network, to a station that loses few tries: if it
 /// loses a tenth of them, one unit in 10,000 goes once more. So the radio may have enough of them at once.
 const MOST_TRIES_BEHIND: u8 = 4;
 /// While no more frames wait for a station that loses some, the radio has one of them at a time.
 pub const FEW: usize = 8;
 /// Answers are tried twice at most while one other is sent or waits, and once while more than so many are or do.
 const MOST_TRIED_TWICE: usize = 8;
-/// How often the radio's socket is looked at, where the radio doesn't say what became of a frame.
+/// How often the radio's socket is looked at, if the radio doesn't say what became of a frame.
 pub const LOOK_EVERY: Duration = MILLISECOND;
 /// A radio that had as much as it may have at once is busy for so long.
 const BUSY_SINCE_FULL: Duration = Duration::from_millis(100);
@@ -62,7 +62,7 @@ impl Transmitter {
     }
 
     /// The frame that waits first is worth nothing any more. A unit that answers a poll goes back to the program, as long
-    /// as its station dozes. Where what was kept for a station doesn't drain, all of it is dropped.
+    /// as its station dozes. If what was kept for a station doesn't drain, all of it is dropped.
     fn give_up(&mut self, place: Place, receiver: Receiver, now: Instant) {
         let frame = match self.queue.take_first(place, receiver) {
             Some(frame) => frame,
@@ -102,7 +102,7 @@ impl Transmitter {
         }
     }
 
-    /// What may go is chosen: the radio's socket is looked at some time later, where frames wait for the radio.
+    /// What may go is chosen: the radio's socket is looked at some time later, if frames wait for the radio.
     pub fn set_look(&mut self, now: Instant) {
         let waits_for_radio = match self.intake {
             Intake::Closed => true,
@@ -113,14 +113,14 @@ impl Transmitter {
         self.look_due = waits_for_radio.then(|| self.look_due.unwrap_or_else(|| self.next_look(now)));
     }
 
-    /// When the radio's socket is looked at: once its first frame is overdue, and at once where it never tells
+    /// When the radio's socket is looked at: once its first frame is overdue, and at once if it never tells
     /// anything.
     fn next_look(&self, now: Instant) -> Instant {
         let overdue = self.in_flight.overdue().filter(|_| self.links.is_told());
         overdue.unwrap_or(now).max(now + LOOK_EVERY)
     }
 
-    /// Chooses the frame that goes next; false where none may go now.
+    /// Chooses the frame that goes next; false if none may go now.
     fn choose_one(&mut self, now: Instant) -> bool {
         if !self.queue.notices.is_empty() {
             self.queue.admit_notice(now);
@@ -159,7 +159,7 @@ impl Transmitter {
         }
     }
 
-    /// For how long a frame may be tried that costs so much a try; `None` where it waits until the radio told of others
+    /// For how long a frame may be tried that costs so much a try; `None` if it waits until the radio told of others
     /// of its network.
     fn most_trying(
         &self,
@@ -180,7 +180,7 @@ impl Transmitter {
         (others + trying <= MOST_TRYING_AT_ONCE).then_some(trying)
     }
 
-    /// If all is held of the network whose turn it is, the others wait with it until the radio told of its frames. Where
+    /// If all is held of the network whose turn it is, the others wait with it until the radio told of its frames. If
     /// the radio has none of them, that may take long, and it is passed over. Answers whether it is.
     fn pass_over(&mut self) -> bool {
         let held = self.queue.scheduler.held();
@@ -190,7 +190,7 @@ impl Transmitter {
     }
 
     /// Whether what comes next for a station waits for what became of a frame before: of one that takes long, and of
-    /// one that may be lost, since a unit is sent once more only where nothing went to its station since. Where many
+    /// one that may be lost, since a unit is sent once more only if nothing went to its station since. If many
     /// wait, the radio has several of them all the same, unless the last one was lost.
     fn awaits(&self, place: Place, address: Address, outlook: Outlook, now: Instant) -> bool {
         if outlook.is_sure {
@@ -243,7 +243,7 @@ impl Transmitter {
         true
     }
 
-    /// How often a frame is tried again at most that goes next, where others wait to be answered: most of them may be
+    /// How often a frame is tried again at most that goes next, if others wait to be answered: most of them may be
     /// addresses that somebody made up, and who is there asks again. So one that is lost costs the others little.
     fn retries_beside_others(&self, place: Place, receiver: Receiver, kind: FrameKind) -> u8 {
         match kind {
@@ -291,7 +291,7 @@ impl Transmitter {
     }
 }
 
-/// How often a frame is tried within a time, where it is tried again so often at most.
+/// How often a frame is tried within a time, if it is tried again so often at most.
 fn tries_within(cost: Cost, time: Duration, retries: u8) -> u8 {
     match retries {
         0 => 1,

@@ -47,7 +47,7 @@ impl Transmitter {
         follows
     }
 
-    /// A unit waits for its station, goes back where that dozes, or is dropped where that left.
+    /// A unit waits for its station, goes back if that dozes, or is dropped if that left.
     fn push_unit(&mut self, place: Place, frame: OutboundFrame) {
         let address = frame.address;
         match self.sleepers.mode(place, address) {

@@ -1,4 +1,4 @@
-//! What goes back to the program where its station leaves meanwhile, polls, or comes and goes very often.
+//! What goes back to the program if its station leaves meanwhile, polls, or comes and goes very often.
 use super::*;
 
 /// The units that nobody acknowledged before their station left don't go back, and are counted.

@@ -10,7 +10,7 @@ const PART: Duration = Duration::from_millis(1000 / PARTS as u64);
 pub struct Pace {
     /// The part of all time in which a unit went back last.
     last: u64,
-    /// Those that went back in that part and in the ones before it, each where its number leaves the remainder.
+    /// Those that went back in that part and in the ones before it, each if its number leaves the remainder.
     units: [u32; PARTS + 1],
 }
 
@@ -40,7 +40,7 @@ mod tests {
     use crate::os::clock::{MILLISECOND, SECOND};
     use crate::testing::samples::{at, Seeded};
 
-    /// Whenever a second begins: no more go back in it than may, and nearly as many do where all the time more would.
+    /// Whenever a second begins: no more go back in it than may, and nearly as many do if all the time more would.
     #[test]
     fn no_second_has_more_than_may_go_back() {
         let mut seeded = Seeded(11);

@@ -60,7 +60,7 @@ impl Transmitter {
         matches!(self.sleepers.mode(place, station), Mode::Dozes | Mode::FallsAsleep)
     }
 
-    /// The program was given a unit for a station, which it keeps where that dozes.
+    /// The program was given a unit for a station, which it keeps if that dozes.
     pub fn was_given(&mut self, place: Place, station: Address) {
         self.sleepers.was_given(place, station);
     }

@@ -67,13 +67,13 @@ pub struct FrameName {
 struct FrameInFlight<W> {
     name: FrameName,
     what: W,
-    /// What of the radio's time it is reckoned to take from now on.
+    /// Estimated air time still to come.
     reckoned: Duration,
     since: Instant,
     /// When it has been out for twice the time in which the radio was reckoned to be done with it. That time began when
     /// the radio got it, or when one before it that took longer was told of.
     overdue: Instant,
-    /// The same, where what the radio got later for others and let go before it makes that time longer.
+    /// The same, if what the radio got later for others and let go before it makes that time longer.
     awaited: Instant,
     state: State,
 }
@@ -257,7 +257,7 @@ impl<W> InFlight<W> {
         self.frames.iter().any(|given| given.name.receiver == receiver && given.name.place == place)
     }
 
-    /// How long those frames of a network may take in all that were given and of which nothing was read, where
+    /// How long those frames of a network may take in all that were given and of which nothing was read, if
     /// `longest` says it of one. One that has left the radio took no longer than it was out.
     pub fn longest_of(&self, place: Place, now: Instant, longest: impl Fn(&W) -> Duration) -> Duration {
         let takes = |given: &FrameInFlight<W>| match given.state {

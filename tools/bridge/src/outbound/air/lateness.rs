@@ -1,9 +1,9 @@
 //! When late data for a station is dropped: a rule as CoDel's (RFC 8289), with the limits that Linux has for slow
 //! stations (`sta_update_codel_params` of `net/mac80211/sta_info.c`).
 //!
-//! `air` says of a unit that it is late where it could have gone for 50 ms. Late units go all the same, until
+//! `air` says of a unit that it is late if it could have gone for 50 ms. Late units go all the same, until
 //! those of their station have been late for 300 ms; from then on they are dropped. Once none of a station was late for
-//! as long, late ones go again. So nothing is lost where others take the air for a while, and no queue stays long. What
+//! as long, late ones go again. So nothing is lost if others take the air for a while, and no queue stays long. What
 //! is known of a station is forgotten some time after its last late unit. Nothing is sent or timed here.
 use std::collections::BTreeMap;
 

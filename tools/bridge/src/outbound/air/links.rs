@@ -1,10 +1,10 @@
-//! What is known of each station: at which rate it is sent to, and what is done where it acknowledges nothing.
+//! What is known of each station: at which rate it is sent to, and what is done if it acknowledges nothing.
 //!
 //! The rates of a station are those of its association request that its network has too; units go at the rate that the
 //! rule of `rate_control` chooses, all else at the network's lowest basic rate. Whatever the radio is given it gives
 //! back, with how often it was sent and whether it was acknowledged. A unit that wasn't is sent once more, with Retry
-//! set, where nothing was sent to its station since; later it would come out of order. So what comes next for a station
-//! waits while a sample is on the air, and after a unit that was lost until one is acknowledged. Where tries are lost,
+//! set, if nothing was sent to its station since; later it would come out of order. So what comes next for a station
+//! waits while a sample is on the air, and after a unit that was lost until one is acknowledged. If tries are lost,
 //! `air` gives the radio one frame of a station at a time, unless many wait.
 //!
 //! Each network has tables of its own: what strangers do to one takes nothing from another. Nothing is sent or timed
@@ -21,6 +21,7 @@ use crate::outbound::air::rate_control::{Choice, RateControl};
 use crate::outbound::air::reporting::Reporting;
 use crate::outbound::air::scheduler::Place;
 use crate::outbound::air::station_requests::StationRequests;
+use crate::spare::give_back_shared;
 
 /// How long the frames for a station wait at most for what became of the one before.
 const MOST_WAIT: Duration = MOST_OUT;
@@ -78,7 +79,7 @@ struct Last {
 struct Link {
     rates: RateControl,
     last: Option<Last>,
-    /// Until when frames for it wait, where they do.
+    /// Until when frames for it wait, if they do.
     waits_until: Option<Instant>,
     /// Since when they don't.
     goes_since: Instant,
@@ -220,7 +221,7 @@ impl Links {
         })
     }
 
-    /// How a frame is sent to a station now, where the radio is busy or isn't, and whether what comes next for it waits
+    /// How a frame is sent to a station now, if the radio is busy or isn't, and whether what comes next for it waits
     /// for what becomes of it.
     pub fn choose(
         &mut self,
@@ -247,7 +248,10 @@ impl Links {
             (None, false) => plainly,
         };
         let waits = was_again || choice.is_sample || station.rates.is_in_doubt();
-        station.last = Some(Last { frame: Rc::clone(frame), number: number(frame), choice, was_again });
+        let last = Last { frame: Rc::clone(frame), number: number(frame), choice, was_again };
+        if let Some(before) = station.last.replace(last) {
+            give_back_shared(before.frame);
+        }
         if waits {
             let until = now + MOST_WAIT;
             station.waits_until = Some(until);
@@ -309,7 +313,7 @@ impl Links {
         self.unacknowledged[place].lost += 1;
     }
 
-    /// The first of the waits is one that hasn't ended, or there is none: nobody is woken for one that has.
+    /// Drops ended waits from the front, so that they schedule no wake-up.
     fn forget_ended_waits(&mut self) {
         while let Some((until, place, address)) = self.waits.front() {
             let station = self.networks[*place].links.get(address);

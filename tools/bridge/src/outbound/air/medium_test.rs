@@ -37,7 +37,7 @@ pub(super) struct Medium {
     seeded: Seeded,
     /// How many percent of the tries to a station are lost.
     pub(super) losses: Vec<(Address, usize)>,
-    /// At which rate the radio sends to a station, where it doesn't do as it is asked.
+    /// At which rate the radio sends to a station, if it doesn't do as it is asked.
     pub(super) own_rates: Vec<(Address, u8)>,
     /// How long the clock went on by each network's tries, what is waited before each included.
     pub(super) clock: [Duration; BSSIDS.len()],
@@ -81,7 +81,7 @@ impl Medium {
         }
     }
 
-    /// Goes on to the next moment at which something happens, or to this one where that is before. Answers what the
+    /// Goes on to the next moment at which something happens, or to this one if that is before. Answers what the
     /// radio told of then.
     pub(super) fn advance(&mut self, until: Instant) -> Option<(Place, Seen)> {
         self.wake();
@@ -96,7 +96,7 @@ impl Medium {
         told
     }
 
-    /// When the bridge is woken by what the radio told of a frame: of an acknowledged one only where it waits for that.
+    /// When the bridge is woken by what the radio told of a frame: of an acknowledged one only if it waits for that.
     fn next_waking(&self) -> Option<Instant> {
         let awaits = self.driver.air.awaits_outcomes();
         self.unread.iter().find(|done| awaits || !done.outcome.is_acknowledged).map(|done| done.shown)

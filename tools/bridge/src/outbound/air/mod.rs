@@ -309,3 +309,7 @@ mod tests;
 #[cfg(test)]
 #[path = "calls_test.rs"]
 mod calls_tests;
+
+#[cfg(test)]
+#[path = "downlink_test.rs"]
+mod downlink_tests;

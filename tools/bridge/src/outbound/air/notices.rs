@@ -6,7 +6,7 @@
 //!
 //! 1. For an address one notice of a network waits: a newer one takes its place.
 //! 2. Of a network `MOST_WAITING` wait. One more drops the oldest.
-//! 3. In all networks one goes each `EVERY`, and `MOST_SAVED` more where none went for a while.
+//! 3. In all networks one goes each `EVERY`, and `MOST_SAVED` more if none went for a while.
 //! 4. Of the networks that may send one they take turns. Of a network the newest goes.
 //!
 //! Nothing is sent or timed here.
@@ -21,7 +21,7 @@ use crate::outbound::air::scheduler::Place;
 pub const MOST_WAITING: usize = 64;
 /// How often one goes: 50 a second take about 6 % of the air at 1 Mb/s.
 pub const EVERY: Duration = Duration::from_millis(20);
-/// How many more go at once where none went for a while.
+/// How many more go at once if none went for a while.
 pub const MOST_SAVED: u32 = 8;
 
 /// The notices of all networks that wait.
@@ -112,7 +112,7 @@ impl Notices {
         (!self.is_empty()).then(|| self.goes_from().max(self.look_due))
     }
 
-    /// The time is this: where one might go and doesn't, one looks again soon.
+    /// The time is this: if one might go and doesn't, one looks again soon.
     pub fn expire(&mut self, now: Instant) {
         if self.due().map_or(false, |due| due <= now) {
             self.look_due = now + EVERY;

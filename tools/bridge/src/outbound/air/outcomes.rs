@@ -2,7 +2,7 @@
 use super::{microseconds, Intake, Reports, Sent, Transmitter};
 use crate::formats::frames::{Address, Frame};
 use crate::formats::radiotap::Outcome;
-use crate::os::clock::Instant;
+use crate::os::clock::{earliest, Instant};
 use crate::os::port::AT_A_TIME;
 use crate::outbound::air::dequeue::LOOK_EVERY;
 use crate::outbound::air::frame::{FrameKind, OutboundFrame, Receiver};
@@ -68,8 +68,8 @@ impl Transmitter {
         self.release(place, address);
     }
 
-    /// What became of a frame of the program for a station is learned. A unit that was lost is sent once more where its
-    /// station listens, and goes back to the program where that dozes.
+    /// What became of a frame of the program for a station is learned. A unit that was lost is sent once more if its
+    /// station listens, and goes back to the program if that dozes.
     fn take_outcome(&mut self, name: FrameName, frame: &[u8], sent: Option<Sent>, outcome: Outcome, now: Instant) {
         let FrameName { place, receiver: address, number } = name;
         let mode = self.sleepers.mode(place, address);
@@ -109,8 +109,7 @@ impl Transmitter {
     /// When `expire` has something to do.
     pub fn due(&self) -> Option<Instant> {
         let notices = self.queue.notices.due();
-        let times = [self.links.due(), self.in_flight.due(), self.sleepers.due(), notices, self.look_due];
-        times.into_iter().flatten().min()
+        earliest(&[self.links.due(), self.in_flight.due(), self.sleepers.due(), notices, self.look_due])
     }
 
     /// What has waited long enough for what became of the frame before is sent, and what the radio doesn't have any

@@ -53,7 +53,7 @@ impl NetworkDebts {
     }
 
     /// Whose turn it is: of those that have a frame waiting the one that owes least, and of several the one of the
-    /// lowest place. `None` where none has.
+    /// lowest place. `None` if none has.
     pub fn choose(&self) -> Option<Place> {
         // SAFETY: the debts are as many as is said, of the library's layout, and are only read.
         let place = unsafe { air_share_choose(self.debts.as_ptr(), self.debts.len()) };
@@ -61,7 +61,7 @@ impl NetworkDebts {
     }
 
     /// The network whose turn it is sends a frame that is reckoned to take so many microseconds; false, and nothing
-    /// changes, where it is another's turn.
+    /// changes, if it is another's turn.
     pub fn serve(&mut self, place: Place, cost: u32) -> bool {
         // SAFETY: the debts are as many as is said, of the library's layout, and nobody else reads or writes them.
         unsafe { air_share_served(self.debts.as_mut_ptr(), self.debts.len(), place, cost) }

@@ -1,4 +1,4 @@
-//! What waits of each network: how much may, and which frame is dropped where more would (rules 2 to 6 of `air`).
+//! What waits of each network: how much may, and which frame is dropped if more would (rules 2 to 6 of `air`).
 use crate::formats::frames::Address;
 use crate::os::clock::Instant;
 use crate::outbound::air::account::{Account, Unsent};
@@ -81,7 +81,7 @@ impl Queue {
         }
     }
 
-    /// A unit waits that the program kept for its station until now, behind all for that. It drops none; where it has
+    /// A unit waits that the program kept for its station until now, behind all for that. It drops none; if it has
     /// no room itself, it is dropped.
     pub fn push_kept(&mut self, place: Place, frame: OutboundFrame) {
         let (receiver, backlog) = (Receiver::Station(frame.address), &mut self.backlogs[place]);
@@ -118,7 +118,7 @@ impl Queue {
         }
     }
 
-    /// One frame for a receiver is gone: where more wait apart and few in its queue, the next one waits in its place.
+    /// One frame for a receiver is gone: if more wait apart and few in its queue, the next one waits in its place.
     fn refill(&mut self, place: Place, receiver: Receiver) {
         let address = match receiver {
             Receiver::Station(address) if self.backlogs[place].waits(address) => address,
@@ -170,7 +170,7 @@ impl Queue {
         }
     }
 
-    /// The notice whose turn it is waits among the answers of its network from now on, where none of these waits.
+    /// The notice whose turn it is waits among the answers of its network from now on, if none of these waits.
     pub fn admit_notice(&mut self, now: Instant) {
         while let Some((place, late)) = self.notices.take_late(now) {
             self.count_dropped(place, [late], Unsent::Late);
@@ -204,7 +204,7 @@ impl Queue {
         }
     }
 
-    /// A frame is sent once more: it waits before all others for its receiver, of which the oldest is dropped where
+    /// A frame is sent once more: it waits before all others for its receiver, of which the oldest is dropped if
     /// there is no room for one more.
     pub fn push_first(&mut self, place: Place, receiver: Receiver, frame: OutboundFrame) {
         if self.scheduler.waiting(place, receiver) >= most_for(receiver) {

@@ -130,7 +130,7 @@ impl Model {
         self.drop_excess(0);
     }
 
-    /// Rule 3, where so many octets come.
+    /// Rule 3, if so many octets come.
     fn drop_excess(&mut self, more: usize) {
         while self.octets() + more > 2 << 20 {
             let longest = self.longest().unwrap();

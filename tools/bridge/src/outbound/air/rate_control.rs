@@ -6,8 +6,8 @@
 //! one goes at a faster rate, as a sample, with two tries. A unit that nobody acknowledged goes once more at the
 //! slowest rate of OFDM, a sample at the best one. It lets the next one go at the slowest rate of all, until an
 //! acknowledgement comes, and what was known of the rates above the middle is forgotten, so that a station that went
-//! away is found within a few units. Where rates are untried, each unit samples the middle one of them: a faster rate
-//! is not expected to be heard where a slower one isn't.
+//! away is found within a few units. If rates are untried, each unit samples the middle one of them: a faster rate
+//! is not expected to be heard if a slower one isn't.
 //!
 //! Nothing is sent, heard or timed here: what to do is asked, and what came of it is told.
 
@@ -24,19 +24,19 @@ const SPREAD: [u8; 4] = [2, 4, 11, 22];
 const BITS: f64 = 8.0 * 1200.0;
 /// The weight of one try in a share.
 const WEIGHT: f64 = 1.0 / 8.0;
-/// Where so large a share of tries is acknowledged, a unit that all of its tries lose is one in millions.
+/// If so large a share of tries is acknowledged, a unit that all of its tries lose is one in millions.
 const SURE_SHARE: f64 = 0.9;
 /// The weight of one try in the share of all tries: more of the past is in it, so that a row of luck is no good air.
 const WEIGHT_OF_ALL: f64 = 1.0 / 32.0;
 /// A share below this is none: the rate is sampled, and not used.
 const LEAST_SHARE: f64 = 0.05;
-/// How often a sample is sent again where no acknowledgement comes, and a unit to a station that seems to be gone.
+/// How often a sample is sent again if no acknowledgement comes, and a unit to a station that seems to be gone.
 const SAMPLE_RETRIES: u8 = 1;
 const GONE_RETRIES: u8 = 1;
 /// After so many units in a row without an acknowledgement a station seems to be gone.
 const GONE: u32 = 4;
-/// Where all rates were tried, a unit is a sample after so many others, or after this time. A sample keeps the units
-/// behind it waiting, and so costs turns where the radio is busy: there it comes less often.
+/// If all rates were tried, a unit is a sample after so many others, or after this time. A sample keeps the units
+/// behind it waiting, and so costs turns if the radio is busy: there it comes less often.
 const UNITS_PER_SAMPLE: u32 = 16;
 const UNITS_PER_SAMPLE_BUSY: u32 = 64;
 const SAMPLE_EVERY: Duration = Duration::from_millis(500);
@@ -46,9 +46,9 @@ const SAMPLE_EVERY: Duration = Duration::from_millis(500);
 pub struct Choice {
     /// In units of 500 kb/s.
     pub rate: u8,
-    /// How often it is sent again where no acknowledgement comes.
+    /// How often it is sent again if no acknowledgement comes.
     pub retries: u8,
-    /// Whether it is sent so to learn of the rate: where it isn't acknowledged, it has to be sent again.
+    /// Whether it is sent so to learn of the rate: if it isn't acknowledged, it has to be sent again.
     pub is_sample: bool,
 }
 
@@ -62,7 +62,7 @@ enum Known {
 }
 
 impl Known {
-    /// The share; 0 where nothing is known.
+    /// The share; 0 if nothing is known.
     fn share(self) -> f64 {
         match self {
             Known::Untried => 0.0,
@@ -126,7 +126,7 @@ fn most_throughput(rate: u8) -> f64 {
 #[derive(Debug, Clone)]
 pub struct RateControl {
     rates: Vec<Rate>,
-    /// The one that brings the most through; the slowest where none brings anything.
+    /// The one that brings the most through; the slowest if none brings anything.
     best: usize,
     /// The share of tries at whatever rate that was acknowledged, samples not counted.
     of_all: f64,
@@ -140,7 +140,7 @@ pub struct RateControl {
 }
 
 impl RateControl {
-    /// The rates that a station's elements and a network's have both, whether basic or not; `None` where they have none
+    /// The rates that a station's elements and a network's have both, whether basic or not; `None` if they have none
     /// of the band's. The slowest is taken for good until a unit shows otherwise.
     pub fn common(station: &[u8], network: &[u8]) -> Option<RateControl> {
         let has = |octets: &[u8], rate: u8| octets.iter().any(|octet| octet & !BASIC == rate);
@@ -158,7 +158,7 @@ impl RateControl {
         })
     }
 
-    /// How the next unit is to be sent, at this time since any fixed moment, where the radio is busy or isn't.
+    /// How the next unit is to be sent, at this time since any fixed moment, if the radio is busy or isn't.
     pub fn next(&mut self, now: Instant, is_busy: bool) -> Choice {
         match self.sample(now, is_busy) {
             Some(place) => {
@@ -190,7 +190,7 @@ impl RateControl {
         }
     }
 
-    /// At the rate of this place, tried less where the station seems to be gone.
+    /// At the rate of this place, tried less if the station seems to be gone.
     fn at(&self, place: usize) -> Choice {
         let retries = if self.failures < GONE { MOST_RETRIES } else { GONE_RETRIES };
         Choice { rate: self.rates[place].rate, retries, is_sample: false }
@@ -236,7 +236,7 @@ impl RateControl {
         }
     }
 
-    /// The rate that brings the most through; the slowest where none brings anything.
+    /// The rate that brings the most through; the slowest if none brings anything.
     fn find_best(&self) -> usize {
         let (mut best, mut most) = (0, 0.0);
         for (place, rate) in self.rates.iter().enumerate() {
@@ -248,7 +248,7 @@ impl RateControl {
         best
     }
 
-    /// The rate to be sampled, where it is time for it.
+    /// The rate to be sampled, if it is time for it.
     fn sample(&mut self, now: Instant, is_busy: bool) -> Option<usize> {
         if self.failures > 0 {
             return None;

@@ -20,7 +20,7 @@
 //! 6. The work of a call doesn't grow with the frames that wait. It grows with the number of networks, and with the
 //!    logarithm of the number of receivers. The first `longest` of a network with many receivers puts them in order by
 //!    how many frames wait. The order is kept until half of the network's frames are gone.
-//! 7. Of receivers for which nothing waits no more than some thousands are known for what they owe. Where more of a
+//! 7. Of receivers for which nothing waits no more than some thousands are known for what they owe. If more of a
 //!    network owe, all of them are forgotten, and owe nothing.
 //! 8. What waits for a receiver when it is hurried goes before all else of its network, and is charged to the receiver.
 //!    No debt of its network's receivers is lowered for it. Which network goes next isn't changed.
@@ -103,14 +103,14 @@ impl<R: Copy + Ord + Hash, T> Scheduler<R, T> {
         self.debts.any_waits().then(|| self.debts.choose()).flatten()
     }
 
-    /// Whose frame goes next, with the frame; `None` where none may go.
+    /// Whose frame goes next, with the frame; `None` if none may go.
     pub fn first(&self) -> Option<(Place, R, &T)> {
         let place = self.turn()?;
         let (receiver, frame) = self.networks[place].first()?;
         Some((place, receiver, frame))
     }
 
-    /// The network whose turn it is, where all that waits of it is held: no other one's frame goes before.
+    /// The network whose turn it is, if all that waits of it is held: no other one's frame goes before.
     pub fn held(&self) -> Option<Place> {
         self.turn().filter(|place| self.networks[*place].ready.is_empty())
     }
@@ -122,7 +122,7 @@ impl<R: Copy + Ord + Hash, T> Scheduler<R, T> {
     }
 
     /// The frame of a network that goes next goes, and is reckoned to cost so many microseconds; `None`, and nothing
-    /// changes, where it is another network's turn, or all that waits of this one is held.
+    /// changes, if it is another network's turn, or all that waits of this one is held.
     pub fn serve(&mut self, place: Place, cost: u32) -> Option<T> {
         let has_ready = self.networks.get(place).map_or(false, |network| !network.ready.is_empty());
         if !has_ready || !self.debts.serve(place, cost) {
@@ -241,12 +241,12 @@ struct NetworkQueues<R, T> {
 #[derive(Debug)]
 struct ByLength<R> {
     receivers: BTreeSet<(usize, R)>,
-    /// The order is kept while so many frames of the network wait: it pays where `longest` is asked again and again.
+    /// The order is kept while so many frames of the network wait: it pays if `longest` is asked again and again.
     least: usize,
 }
 
 impl<R: Copy + Ord> ByLength<R> {
-    /// So many frames wait for a receiver, where others did before.
+    /// So many frames wait for a receiver, if others did before.
     fn change(&mut self, receiver: R, before: usize, waiting: usize) {
         if before > 0 {
             self.receivers.remove(&(before, receiver));
@@ -313,7 +313,7 @@ impl<R: Copy + Ord + Hash, T> NetworkQueues<R, T> {
         Some(*receiver)
     }
 
-    /// So many frames wait for a receiver, where others did before.
+    /// So many frames wait for a receiver, if others did before.
     fn count(&mut self, receiver: R, before: usize, waiting: usize) {
         self.waiting = self.waiting + waiting - before;
         if let Some(by_length) = self.by_length.as_mut().filter(|_| waiting != before) {
@@ -372,7 +372,7 @@ impl<R: Copy + Ord + Hash, T> NetworkQueues<R, T> {
         answer
     }
 
-    /// Receivers for which nothing waits, and which owe nothing any more, are forgotten; where that leaves too many,
+    /// Receivers for which nothing waits, and which owe nothing any more, are forgotten; if that leaves too many,
     /// all for which nothing waits.
     fn forget_rested(&mut self) {
         let begun = self.begun;

@@ -420,7 +420,7 @@ impl PartialOrd for Counted {
     }
 }
 
-/// As where a network's 2 MB are full: each frame that comes drops one for the receiver for which most wait.
+/// As when a network's 2 MB are full: each frame that comes drops one for the receiver for which most wait.
 #[test]
 fn the_longest_queue_of_many_is_found_without_a_look_at_all() {
     const RECEIVERS: u32 = 2007;

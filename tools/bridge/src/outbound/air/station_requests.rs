@@ -13,7 +13,7 @@ const SUPPORTED_RATES: u8 = 1;
 const EXTENDED_RATES: u8 = 50;
 const HEADER_LEN: usize = 24;
 
-/// What stations ask of one network. Where more ask than are kept, the oldest request is forgotten.
+/// What stations ask of one network. If more ask than are kept, the oldest request is forgotten.
 #[derive(Debug, Default)]
 pub struct StationRequests {
     joining: VecDeque<(Address, RateControl)>,

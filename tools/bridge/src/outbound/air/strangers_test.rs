@@ -153,7 +153,7 @@ impl Scene {
         }
     }
 
-    /// Where the medium is free, one of those goes that have a frame.
+    /// If the medium is free, one of those goes that have a frame.
     fn contend(&mut self) {
         let given = self.driver.flush();
         self.driver.on_air.extend(given);
