@@ -18,16 +18,16 @@ def is_in_memory() -> bool:
     return TOP == IN_MEMORY
 
 
-def go_on_in_memory(program: str) -> None:
+def go_on_in_memory(program: str, read_too: tuple[tuple[str, ...], ...] = ()) -> None:
     """Goes on as a copy of a program of tools/guest in the guest's own memory, with the same words, once all others
-    were read; it doesn't come back."""
+    were read, these too; it doesn't come back."""
     shutil.rmtree(IN_MEMORY, ignore_errors=True)
     shutil.copytree(os.path.join(TOP, "tools"), os.path.join(IN_MEMORY, "tools"), symlinks=True)
     bridge = os.path.join(IN_MEMORY, os.path.relpath(COMPILED, TOP))
     os.makedirs(os.path.dirname(bridge))
     shutil.copy(COMPILED, bridge)
     own = [(os.path.join(IN_MEMORY, "tools", name), "--help") for name in ("live", "guest/stamped")]
-    for words in (*READ_ONCE, *own):
+    for words in (*READ_ONCE, *own, *read_too):
         subprocess.run(words, stdin=subprocess.DEVNULL, capture_output=True, check=False)
     path = os.path.join(IN_MEMORY, "tools", "guest", program)
     os.execv(path, [path, *sys.argv[1:]])

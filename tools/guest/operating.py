@@ -375,9 +375,9 @@ class Reload(Part):
 
 
 class ByHand:
-    """The commands of docs/LIVE.md, 'By hand', as they stand there but for the radios' names."""
+    """The commands of docs/OPERATING.md, 'By hand', as they stand there but for the radios' names."""
 
-    SECTION, NEXT = "\n## By hand\n", "\n## "
+    SECTION, NEXT = "\n### By hand\n", "\n## "
     BLOCK = re.compile(r"^```(?:toml|bash)\n(.*?)^```$", re.MULTILINE | re.DOTALL)
 
     def __init__(self, folder: str, program: str) -> None:
@@ -386,7 +386,7 @@ class ByHand:
 
     def run(self) -> str:
         """A station joins and pings the host; what was recorded is what `run` takes."""
-        with open(os.path.join(TOP, "docs", "LIVE.md"), encoding="utf-8") as file:
+        with open(os.path.join(TOP, "docs", "OPERATING.md"), encoding="utf-8") as file:
             section = file.read().partition(self.SECTION)[2].partition(self.NEXT)[0]
         config, wires, serving, joining = self.BLOCK.findall(section)
         self.check_out()

@@ -1,4 +1,4 @@
-"""The program's records (docs/PROTOCOL.md, 'Lines as they come'), on their way from it to whoever started this."""
+"""The program's records (docs/FORMATS.md, 'Lines as they come'), on their way from it to whoever started this."""
 import struct
 import subprocess
 import sys

@@ -85,7 +85,7 @@ class Section:
 
 
 def text_of(answers: bytes) -> str:
-    """The records that the program wrote, as lines of text (docs/PROTOCOL.md); a record that was cut is left out."""
+    """The records that the program wrote, as lines of text (docs/FORMATS.md); a record that was cut is left out."""
     lines, place = [], 0
     while place + RECORD_HEADER.size <= len(answers):
         kind, bssid, length = RECORD_HEADER.unpack_from(answers, place)

@@ -1,11 +1,10 @@
-"""What the cases of an access point that is a service share: the station and the host beside it, how a case is tried and
-told, and what systemd and its journal know of the service."""
+"""What the cases of an access point that is a service share: the station and the host beside it, and what systemd and
+its journal know of the service."""
 import argparse
 import json
 import os
-import time
-import traceback
 
+from runner import Runner
 from stage import BY, processes_of
 from stations import Failed, Host, Station, load_radios, run, unload_radios
 
@@ -13,12 +12,8 @@ FREQUENCY = 2437
 SETTINGS = "/etc/waltigon"
 
 
-class ServiceCases:
-    """The stage of these cases, and how many of them passed; each word chooses those whose name has it."""
-
-    def __init__(self, words: list[str]) -> None:
-        self.words = words
-        self.passed = self.failed = 0
+class ServiceCases(Runner):
+    """The stage of these cases."""
 
     def make_stage(self, more: int = 0) -> str:
         """Makes a station and a host, with so many more radios: the name of the access point's radio."""
@@ -43,21 +38,9 @@ class ServiceCases:
             part.delete()
         unload_radios()
 
-    def case(self, name: str, call) -> None:
-        """Tries one case, and tells of it."""
-        if self.words and not any(word in name for word in self.words):
-            return
-        begun = time.monotonic()
-        try:
-            told = call()
-            self.passed += 1
-            print(f"passed: {name}{f': {told}' if told else ''} ({time.monotonic() - begun:.0f} s)", flush=True)
-        except Exception as fault:
-            self.failed += 1
-            print(f"FAILED: {name}: {fault} ({time.monotonic() - begun:.0f} s)", flush=True)
-            print(run("journalctl", "-u", self.unit, "-n", "12", "--no-pager", "-o", "short-monotonic"), flush=True)
-            if not isinstance(fault, Failed):
-                traceback.print_exc()
+    def after_failure(self) -> None:
+        """The journal says why."""
+        print(run("journalctl", "-u", self.unit, "-n", "12", "--no-pager", "-o", "short-monotonic"), flush=True)
 
     def property(self, name: str) -> str:
         """What systemd knows of the service."""
@@ -102,6 +85,4 @@ def main_of(kind, description: str) -> int:
     cases.run()
     cases.write("/outcome/journal", run("journalctl", "-u", cases.unit, "--no-pager", "-o", "short-monotonic"))
     cases.take_down()
-    print(f"{os.uname().release}, {time.monotonic():.0f} seconds since the guest's start", flush=True)
-    print(f"{cases.passed} passed, {cases.failed} failed")
-    return 1 if cases.failed or not cases.passed else 0
+    return cases.end()

@@ -6,7 +6,7 @@ use std::fmt;
 use crate::exchange::Exchange;
 use crate::frame::{Address, Kind};
 
-/// Frames of one kind from one address to another; an address is None where frames are too short to say it.
+/// Frames of one kind from one address to another; an address is None if frames are too short to say it.
 #[derive(Clone, Copy, Debug, PartialEq, Eq, PartialOrd, Ord)]
 pub struct Flow {
     pub from: Option<Address>,
@@ -18,7 +18,7 @@ pub struct Flow {
 #[derive(Clone, Copy, Debug, Default, PartialEq, Eq)]
 pub struct Airtime {
     pub tries: u64,
-    /// The frames, each with the time of its acknowledgement where one is wanted, whether it comes or not.
+    /// The frames, each with the time of its acknowledgement if one is wanted, whether it comes or not.
     pub sending: u64,
     /// DIFS and the slots of backoff before each try.
     pub spaces: u64,
@@ -54,7 +54,7 @@ impl Airtimes {
     }
 }
 
-/// Writes an address in hexadecimal, or `nobody` where there is none.
+/// Writes an address in hexadecimal, or `nobody` if there is none.
 struct Named(Option<Address>);
 
 impl fmt::Display for Named {

@@ -12,7 +12,7 @@ pub struct Exchange {
     pub sent: Sent,
     pub frame: Rc<Vec<u8>>,
     pub kind: Kind,
-    /// None where the frame is too short to say.
+    /// None if the frame is too short to say.
     pub transmitter: Option<Address>,
     pub receiver: Option<Address>,
     pub tried: Vec<Attempt>,
@@ -36,7 +36,7 @@ impl Exchange {
         !self.sent.wants_no_acknowledgement() && self.receiver.map_or(false, |address| !is_group(address))
     }
 
-    /// The rate of the next try, or None where it was tried as often as its sender asked.
+    /// The rate of the next try, or None if it was tried as often as its sender asked.
     pub fn next_rate(&self) -> Option<Rate> {
         let mut left = self.tries;
         self.sent.attempts.iter().find_map(|attempt| match left.checked_sub(u32::from(attempt.count)) {

@@ -88,7 +88,7 @@ impl FromStr for Kind {
     }
 }
 
-/// The address that is written as six pairs of digits with `:` between, or None where it isn't.
+/// The address that is written as six pairs of digits with `:` between, or None if it isn't.
 pub fn read_address(word: &str) -> Option<Address> {
     let is_pair = |pair: &&str| pair.len() == 2 && pair.bytes().all(|digit| digit.is_ascii_hexdigit());
     let read = |pair| Some(pair).filter(is_pair).and_then(|pair| u8::from_str_radix(pair, 16).ok());
@@ -96,12 +96,12 @@ pub fn read_address(word: &str) -> Option<Address> {
     octets.try_into().ok()
 }
 
-/// Whom a frame is for, or None where it is too short to say.
+/// Whom a frame is for, or None if it is too short to say.
 pub fn receiver(frame: &[u8]) -> Option<Address> {
     frame.get(RECEIVER)?.try_into().ok()
 }
 
-/// The address of whom a frame is from, or None where it is too short to say.
+/// The address of whom a frame is from, or None if it is too short to say.
 pub fn transmitter(frame: &[u8]) -> Option<Address> {
     frame.get(TRANSMITTER)?.try_into().ok()
 }
@@ -126,7 +126,7 @@ pub fn has_more_data(frame: &[u8]) -> bool {
     frame.get(FLAGS_AT).map_or(false, |flags| flags & MORE_DATA != 0)
 }
 
-/// The association identifier of a PS-Poll, or None where it is too short to say.
+/// The association identifier of a PS-Poll, or None if it is too short to say.
 pub fn identifier(poll: &[u8]) -> Option<u16> {
     let octets = poll.get(IDENTIFIER)?.try_into().ok()?;
     Some(u16::from_le_bytes(octets) & IDENTIFIER_BITS)

@@ -87,7 +87,7 @@ fn radio_of(address: Address) -> Option<Radio> {
     (address_of(radio) == address).then_some(radio)
 }
 
-/// What a message says, or None where it is of no use here.
+/// What a message says, or None if it is of no use here.
 pub fn read(message: &Heard<'_>) -> Option<Said> {
     match *message {
         Heard::Answer(0) => None,
@@ -115,7 +115,7 @@ fn read_frame(from: Radio, attributes: Attributes<'_>) -> Option<Sent> {
     })
 }
 
-/// The rates that a frame is to be tried at, each with its number of tries; the slowest once where none is said.
+/// The rates that a frame is to be tried at, each with its number of tries; the slowest once if none is said.
 fn read_attempts(octets: &[u8]) -> Vec<Attempt> {
     let said = octets.chunks_exact(2).map(|pair| (pair[0] as i8, pair[1]));
     let used = said.take_while(|(number, _)| *number >= 0).filter(|(_, count)| *count > 0);

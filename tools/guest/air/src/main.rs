@@ -29,7 +29,7 @@
 //! ```
 //!
 //! Each time in the answer to `airtime` is in nanoseconds. `sending` is that of the frames, each with that of its
-//! acknowledgement where one is wanted, heard or not; `spaces` is that of DIFS and backoff before them; both together
+//! acknowledgement if one is wanted, heard or not; `spaces` is that of DIFS and backoff before them; both together
 //! are what nobody else could use. A frame that its radio drops is reported to the kernel as not acknowledged.
 
 mod airtime;

@@ -3,7 +3,7 @@
 //! A machine of states without a clock: it is told what the time is and answers what happened. One frame is on the air
 //! at a time. Radios that have something to send take turns, a try each; before each try comes DIFS and a number of
 //! slots that is drawn from a window which doubles with each try (IEEE Std 802.11-2016, 10.3.4.3), so there are no
-//! collisions. A try that is heard by the radio that it is for is acknowledged; where the frame or the acknowledgement
+//! collisions. A try that is heard by the radio that it is for is acknowledged; if the frame or the acknowledgement
 //! is lost it is sent again, with Retry set, at the rates and as often as its sender asked. In which order the frames of
 //! one radio go is the module `queues`; what each used is the module `airtime`; what a radio that dozes hears is the
 //! module `sleepers`.
@@ -65,7 +65,7 @@ impl Draws {
 #[derive(Clone, Copy, Debug, PartialEq, Eq, PartialOrd, Ord)]
 pub struct Way {
     pub from: Radio,
-    /// None where it is for a group, or for an address that no radio has.
+    /// None if it is for a group, or for an address that no radio has.
     pub to: Option<Radio>,
     pub kind: Kind,
     pub rate: Rate,
@@ -86,7 +86,7 @@ struct OnAir {
     rate: Rate,
     /// Nanoseconds of DIFS and slots before it.
     spaces: u64,
-    /// Nanoseconds of the frame and, where one is wanted, of its acknowledgement.
+    /// Nanoseconds of the frame and, if one is wanted, of its acknowledgement.
     sending: u64,
     ends: u64,
 }
@@ -129,7 +129,7 @@ impl Medium {
         self.owners.give(radio, address);
     }
 
-    /// It doesn't any more, where this was said as often as that it does.
+    /// It doesn't any more, if this was said as often as that it does.
     pub fn take_address(&mut self, radio: Radio, address: Address) {
         self.owners.take(radio, address);
         self.sleepers.forget(radio, address);
@@ -150,7 +150,7 @@ impl Medium {
         dropped.map(|exchange| self.drop_frame(exchange))
     }
 
-    /// When something happens next, in nanoseconds; None where nothing is on the air.
+    /// When something happens next, in nanoseconds; None if nothing is on the air.
     pub fn due(&self) -> Option<u64> {
         self.on_air.as_ref().map(|on_air| on_air.ends)
     }

@@ -42,7 +42,7 @@ impl Owners {
         *told = Told { radio, times };
     }
 
-    /// It tells that the radio has it no more: that holds where it is told as often as that the radio has it.
+    /// It tells that the radio has it no more: that holds if it is told as often as that the radio has it.
     pub fn take(&mut self, radio: Radio, address: Address) {
         match self.told.get_mut(&address) {
             Some(told) if told.radio == radio && told.times > 1 => told.times -= 1,

@@ -19,11 +19,11 @@ pub enum Discipline {
     /// All frames go in the order in which they came, however many wait.
     #[default]
     Unbounded,
-    /// All frames go in the order in which they came. Where `MOST_WAITING` frames of data wait, one more is dropped;
+    /// All frames go in the order in which they came. If `MOST_WAITING` frames of data wait, one more is dropped;
     /// beacons and management have no bound.
     One,
     /// Beacons go first, between two tries of another frame too; then management, then data. Data has a line for each transmitter's address and receiver, and
-    /// the line that has used least air goes next. In each line the oldest is dropped where more than `MOST_WAITING`
+    /// the line that has used least air goes next. In each line the oldest is dropped if more than `MOST_WAITING`
     /// wait.
     Fair,
 }
@@ -47,7 +47,7 @@ pub struct Queue {
     discipline: Discipline,
     /// What is tried again; of several, of which all but the last gave way to a beacon, the last goes first.
     again: Vec<Exchange>,
-    /// What waits where all frames go in one order.
+    /// What waits if all frames go in one order.
     ordered: VecDeque<Exchange>,
     fair: Fair,
 }
@@ -71,7 +71,7 @@ impl Queue {
         None
     }
 
-    /// Takes the frame whose turn it is, or None where nothing waits.
+    /// Takes the frame whose turn it is, or None if nothing waits.
     pub fn take(&mut self) -> Option<Exchange> {
         let beacon = self.fair.beacons.pop_front();
         beacon.or_else(|| self.again.pop()).or_else(|| self.ordered.pop_front()).or_else(|| self.fair.take())

@@ -107,7 +107,7 @@ fn read_share(word: &str) -> Option<f64> {
     (0.0..=100.0).contains(&percent).then_some(percent / 100.0)
 }
 
-/// The rules in order; where none speaks of a frame it isn't lost.
+/// The rules in order; if none speaks of a frame it isn't lost.
 #[derive(Debug, Default)]
 pub struct Rules(Vec<Rule>);
 

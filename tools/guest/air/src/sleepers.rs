@@ -129,7 +129,7 @@ impl Sleepers {
         }
     }
 
-    /// A frame that says so lets a radio doze, where it doesn't already.
+    /// A frame that says so lets a radio doze, if it doesn't already.
     fn doze(&mut self, radio: Radio, octets: &[u8]) {
         if let (Some(network), Some(station)) = (frame::receiver(octets), frame::transmitter(octets)) {
             let is_same = |sleeper: &Sleeper| (sleeper.network, sleeper.station) == (network, station);

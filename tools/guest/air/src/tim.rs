@@ -22,7 +22,7 @@ pub struct Tim<'a> {
 }
 
 impl<'a> Tim<'a> {
-    /// That of a beacon, or None where it has none that can be read.
+    /// That of a beacon, or None if it has none that can be read.
     pub fn of_beacon(beacon: &'a [u8]) -> Option<Tim<'a>> {
         let mut rest = beacon.get(HEADER_LEN + BEACON_FIXED_LEN..)?;
         loop {
