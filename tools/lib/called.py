@@ -5,7 +5,7 @@ import re
 import sys
 
 TOP = os.path.dirname(os.path.dirname(os.path.dirname(os.path.realpath(__file__))))
-DOCUMENTS = os.path.join("..", "..", "share", "doc", "waltigon", "docs")  # from there, where it is installed
+DOCUMENTS = os.path.join("..", "..", "share", "doc", "waltigon")  # from there, where it is installed
 
 
 def is_installed() -> bool:
@@ -38,9 +38,9 @@ def program_comes() -> str:
     return "install Waltigon anew" if is_installed() else "`make apctl` builds it"
 
 
-def document(file: str) -> str:
-    """Where a document is."""
-    return os.path.normpath(os.path.join(TOP, DOCUMENTS, file)) if is_installed() else f"docs/{file}"
+def document(file: str, folder: str = "docs") -> str:
+    """Where a document of a folder is."""
+    return os.path.normpath(os.path.join(TOP, DOCUMENTS, folder, file)) if is_installed() else f"{folder}/{file}"
 
 
 def helped(text: str) -> str:

@@ -9,7 +9,6 @@ from explaining.values import rates_of_megabits
 
 UNIT = 100  # hostapd's rates are in units of 100 kb/s
 YES, NO = "true", "false"
-RADIO_LINES = ("interval", "channel", "rates")
 
 
 @dataclass(frozen=True)

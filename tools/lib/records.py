@@ -1,4 +1,4 @@
-"""The records of `apctl live --octets` (docs/PROTOCOL.md, "Lines as they come"), and the lines that say the same."""
+"""The records of `apctl live --octets` (docs/FORMATS.md, "Lines as they come"), and the lines that say the same."""
 import re
 
 NOBODY = bytes(6)

@@ -1,4 +1,4 @@
-"""The program's texts, as docs/PROTOCOL.md says them: a trace, and a report with a section for each network; and what a
+"""The program's texts, as docs/FORMATS.md says them: a trace, and a report with a section for each network; and what a
 configuration says of units."""
 import re
 import sys

@@ -9,8 +9,9 @@ from common import ROOT, ToolTest
 
 SECONDS = 60
 TOOLCHAIN = "rattle-kit-test logic 0"
-COPIED = (".ci", "share", "tools/lib", "tools/guest/stations.py", "tools/systemd", "docs", "examples", "tests/check",
-          "tests/cases", "tests/several_networks", "tests/play", "README.md", "CHANGELOG.md", "HANDLES")
+COPIED = (".ci", "share", "tools/lib", "tools/guest/stations.py", "tools/guest/README.md", "tools/systemd", "docs",
+          "examples", "tests/check", "tests/cases", "tests/several_networks", "tests/play", "README.md", "CHANGELOG.md",
+          "HANDLES")
 # Parts of the gate that look at the machine and at this repository's tools: there they say that all is well.
 QUIET = (".ci/packages", ".ci/lint", "tools/dev/test")
 # The toolchain stands in the small repository's own folder. Each of its commands fails where a file `fails` is there, and

@@ -30,6 +30,12 @@ class Calls(unittest.TestCase):
         for name in ("decode", "read", "Elements::first", "run", "read_config", "Replay::take", "LiveIn::feed"):
             self.assertIn(name, names)
 
+    def test_laws_are_left_out(self):
+        """They compute nothing; a method isn't one, whatever it takes."""
+        names = ROW.findall(calls.page())
+        self.assertFalse({"two_worlds", "reachable", "cut_anywhere"} & set(names))
+        self.assertIn("MacAddr::octets", names)
+
     def test_only_the_first_sentence_is_told(self):
         self.assertEqual(calls.sentence("/// What [`decode`] reads (9.2.4.3). It takes\n/// no memory.\n"),
                          "What `decode` reads")

@@ -20,6 +20,8 @@ FILES = {
     "crates/part/specs/Part.antt": "-- what it is\nabbrev pub alone : Unit\n",
     "wrong/other.toml": "[[run_does_nothing]]\n[[run_does_nothing]]\n",
     "wrong/part.toml": "[[run_twice]]\n",
+    "tools/lib/told.py": "TOLD = called.document(\"RULES.md\")\nALSO = document('README.md', 'docs')\n",
+    "docs/README.md": "# Pages\n",
     "crates/library_examples/src/shown.rt": "use part::run;\n\nfn shown() {}\n",
 }
 # A text of a file in place of another, and what is found then.
@@ -38,6 +40,8 @@ WRONG = [
     ("docs/RULES.md", "crates/NAME/src", "crates/NAME/tests", "no crates/NAME/tests"),
     ("docs/LIBRARY.md", "fn shown() {}", "fn shown() { }", "not in crates/library_examples/src"),
     ("crates/part/src/lib.rt", "docs/RULES.md", "docs/RULE.md", "no docs/RULE.md"),
+    ("tools/lib/told.py", "RULES.md", "RULE.md", "no document docs/RULE.md"),
+    ("tools/lib/told.py", "'docs'", "'tools'", "no document tools/README.md"),
 ]
 
 
@@ -66,7 +70,7 @@ class Documents(ToolTest):
 
     def test_right_documents_pass(self):
         """Where nothing is wrong nothing is found."""
-        self.assertEqual(self.found(), (0, "7 passed, 0 failed\n"))
+        self.assertEqual(self.found(), (0, "9 passed, 0 failed\n"))
 
     def test_wrong_documents_are_found(self):
         """Each wrong name is told with its file."""

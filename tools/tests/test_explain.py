@@ -10,12 +10,13 @@ from collections import Counter
 from types import SimpleNamespace
 
 import mistakes
+import mistakes_of_people
 from common import CASES, PROGRAM, ROOT, THREE, ToolTest, heard, input_of, needs_program, tool, with_report
 from explaining import odd_config, whole
 from explaining.answers import Answer, read_fault, run_program
+from explaining.files import missing_file
 from explaining.source import Source
 from explaining.toml_scan import NoToml, scan
-from explaining.words import missing_file
 from frames import BROADCAST
 from live.checks import check_config
 from live.faults import Fault as LiveFault
@@ -24,6 +25,7 @@ from reading import hears, request_of, unread_kind, wired_unread_kind
 from records import record
 from texts import read_text
 
+TEXTS = mistakes.TEXTS + mistakes_of_people.TEXTS
 LEAST_ROWS, LEAST_OF_EACH, MUTATIONS = 100, 4, 10_000
 TEXT_CODES = [f"C{number}" for number in range(1, 14)] + [f"L{number}" for number in range(1, 6)]
 OTHER_FAULT = re.compile(r"\b(?:C\d+|L\d|F[234])\b")
@@ -39,7 +41,7 @@ WORDS = [
     (["check"], "fault words", ["CONFIG is missing", "check CONFIG"]),
     (["run", "my.toml"], "fault words", ["TRACE is missing", "run CONFIG TRACE"]),
     (["run", "my.toml", "my.trace", "my.trace"], "fault words", ["two words", "play CONFIG TRACE..."]),
-    (["check", "my.toml", "my.trace"], "fault words", ["one word", "run CONFIG TRACE"]),
+    (["check", "my.toml", "my.trace"], "fault words", ["takes a configuration alone", "write `run my.toml my.trace`"]),
     (["chekc", "my.toml"], "fault words", ["no word `chekc`", "write `check my.toml`"]),
     (["RUN", "my.toml", "my.trace"], "fault words", ["no word `RUN`", "write `run my.toml my.trace`"]),
     (["--", "my.toml", "run", "my.trace"], "fault words", ["the command comes first", "write `run my.toml my.trace`"]),
@@ -58,8 +60,22 @@ WORDS = [
     (["check", "-v"], "fault words", ["begins with `-`", "check -- -v"]),
     (["play", "my.toml"], "fault words", ["TRACE is missing"]),
     (["live", "--octets"], "fault words", ["CONFIG is missing", "live --octets CONFIG"]),
-    (["live", "--octet", "my.toml"], "fault words", ["no option but `--octets`", "write `live --octets my.toml`",
-                                                              "live -- --octet my.toml"]),
+    (["live", "--octet", "my.toml"], "fault words", ["no option but `--octets`", "write `live --octets my.toml`"]),
+    (["live", "\u2013octets", "my.toml"], "fault words", ["a dash of print (U+2013)", "write `live --octets my.toml`"]),
+    (["live", "--binary", "my.toml"], "fault words", ["write `live --octets my.toml`"]),
+    (["live", "--octets", "my.toml", "-v"], "fault words", ["write `live --octets my.toml`"]),
+    (["live", "octets", "my.toml"], "fault words", ["the option has two hyphens", "write `live --octets my.toml`"]),
+    (["live", "--", "--octets", "my.toml"], "fault words", ["behind `--` stand "
+                                                            "names", "write `live --octets my.toml`"]),
+    (["live", "kick", LAB, "02:aa:00:00:00:01"], "fault words", ["asked of tools/live", "write `tools/live kick"]),
+    (["run", "my.toml", "my.trace", "out.txt"], "fault words", ["writes its report on standard output",
+                                                                "write `run my.toml my.trace > out.txt`"]),
+    (["validate", "my.toml"], "fault words", ["no word `validate`", "write `check my.toml`"]),
+    (["run", "my", "lab.toml", "my.trace"], "fault words", ["`my lab.toml` is a file, and its blanks make 2 words",
+                                                            "write `run 'my lab.toml' my.trace`"]),
+    (["apctl", "check", "my.toml"], "fault words", ["`apctl` stands among the program's "
+                                                    "words", "write `check my.toml`"]),
+    (["trace-from-capture", "x.pcap"], "fault words", ["a tool of its own", "write `tools/trace-from-capture x.pcap`"]),
     (["--", "explode"], "fault words", ["no word `explode`"]),
     (["check", b"\xff.toml"], "fault words", ["isn't UTF-8"]),
 ]
@@ -67,6 +83,10 @@ FILES = [
     (["check", "my.tmol"], "fault file my.tmol", ["isn't there", "`my.toml` is there, and may be meant"]),
     (["check", "none/my.toml"], "fault file none/my.toml", ["there is no folder `none`"]),
     (["check", "folder"], "fault file folder", ["is a folder"]),
+    (["check", "other.toml"], "fault file other.toml", ["`other.toml` isn't there, and `other.toml.txt` is"]),
+    (["check", "\u201cmy.toml\u201d"], "fault file \u201cmy.toml\u201d", ["the quotes are a part of this name"]),
+    (["check", "$CONFIG"], "fault file $CONFIG", ["a variable's value"]),
+    (["live", "status"], "fault file status", ["asked of tools/live", "write `tools/live status`"]),
     (["check", "-"], "fault file -", ["`-` names a file here"]),
     (["check", ""], "fault file ", ["the name of a file is empty"]),
     (["run", "my.toml", "trace"], "fault file trace", ["isn't there"]),
@@ -132,12 +152,13 @@ RUNS = [
                                                        "02:99:00:00:00:01 (1)"]),
     ([heard("80000000", "00" * 12, "ffffffffffff"), JOIN[0].replace(OURS, "029900000001")],
      ["no frame of this trace is to a network", LAB, "02:99:00:00:00:01 (1)"]),
-    (JOIN + [PROBE], ["network 02:00:00:00:00:02 (guest): no frame of this trace is to it", "it took 1 frame to all",
-                      "no line `T`"]),
+    (JOIN + [PROBE], ["network 02:00:00:00:00:02 (guest): no frame of this trace is to it", "it took 1 frame to all"]),
     ([heard("b0000000", "0000 0100 0000", sender=f"02aa000000{number:02x}") for number in range(16)],
      ["it knows as many stations as it may, `max_known = 16`"]),
-    (JOIN + [heard(QOS, f"0000 {UNIT}")] * 3, ["data frames of QoS (WMM), unread (U3): all", "my.trace:3:1"]),
-    (JOIN + [heard(QOS, f"0000 {UNIT}"), heard(DATA, UNIT)], ["data frames of QoS (WMM), unread (U3): 1 of 2"]),
+    (JOIN + [heard(QOS, f"0000 {UNIT}")] * 3,
+     ["data frames of QoS (WMM), which it can't read (U3): all", "my.trace:3:3"]),
+    (JOIN + [heard(QOS, f"0000 {UNIT}"), heard(DATA, UNIT)],
+     ["data frames of QoS (WMM), which it can't read (U3): 1 of 2"]),
     (["T"] * 101, ["its history is full, `max_events = 100`", "my.trace:101:1", "left out: 1"]),
     ([heard("b0000000", "0000 0100 0000", sender=f"02aa000000{number:02x}") for number in range(17)],
      ["an authentication is refused with status 1, of 02:aa:00:00:00:10: `max_known = 16` is reached"]),
@@ -156,7 +177,7 @@ RUNS = [
      ["5 of 5 frames on the air are four octets longer than they say", "my.trace:1:74"]),
     (list(map(with_four_octets, [*JOIN, heard(DATA, f"{UNIT[:-3]} 4500 0014 {'00' * 16}")])),
      ["3 of 3 frames on the air are four octets longer"]),
-    ([*JOIN, with_four_octets(PROBE)], ["no line `T`"]),
+    ([*JOIN, with_four_octets(PROBE)], ["four octets are too many at the end"]),
     ([*JOIN, f"A {STATION} 02bb00000001 0800 01"], ["frames on the air that no network took: 1 of 3", "(Address 1 is",
                                                    "1 frame behind `A`", "begin as Ethernet's do", f"as `W {LAB}`"]),
     ([*JOIN, *["A ffffffffffff 02bb00000001 0806 0001"] * 2], ["took: 2 of 4", "my.trace:3:1", "2 frames behind `A`"]),
@@ -166,7 +187,7 @@ RUNS = [
     ([heard(DATA, UNIT)], ["reason 7", "it joined before the trace begins"]),
     (JOIN + [heard("08410000", "0100002000000000 a1b2")], ["my.trace:3:5", "lab can't read it (U4): it is encrypted"]),
     (JOIN + [heard("08010000", UNIT, sequence="1000"), heard("08090000", UNIT, sequence="1000")],
-     ["frames sent again: 1", "my.trace:4:1"]),
+     ["frames sent again: 1", "my.trace:4:5"]),
     (JOIN + [heard("48110000")] + [f"W {LAB} {STATION} 02bb00000001 0800 01"] * 9,
      ["my.trace:12:1", "lab loses a unit", "above the quota: `quota = 8`"]),
     ([heard("80000000", "00" * 12, "ffffffffffff", OURS)], ["(U3)", "a beacon, which the network sends itself"]),
@@ -195,7 +216,7 @@ class Mistakes(ToolTest):
 
     def test_each_mistake_is_named(self):
         """Of each mistake the place, the cause and what to write are said, below the program's own line."""
-        for mistake in mistakes.TEXTS:
+        for mistake in TEXTS:
             found = self.explained(mistake)
             self.assertEqual(found.split("\n")[0], mistake.said)
             for words in mistake.says:
@@ -203,17 +224,17 @@ class Mistakes(ToolTest):
 
     def test_table_has_enough(self):
         """At least a hundred inputs, at least four of each fault of a text, of words and of files."""
-        counts = Counter(read_fault(mistake.said).code for mistake in mistakes.TEXTS)
-        self.assertGreaterEqual(len(mistakes.TEXTS), LEAST_ROWS)
+        counts = Counter(read_fault(mistake.said).code for mistake in TEXTS)
+        self.assertGreaterEqual(len(TEXTS), LEAST_ROWS)
         self.assertGreaterEqual(min(counts[code] for code in TEXT_CODES), LEAST_OF_EACH)
         self.assertGreaterEqual(min(len(WORDS), len(FILES)), LEAST_OF_EACH)
-        inputs = [(mistake.config, mistake.trace) for mistake in mistakes.TEXTS]
+        inputs = [(mistake.config, mistake.trace) for mistake in TEXTS]
         self.assertEqual(len(set(inputs)), len(inputs))
 
     @needs_program
     def test_program_answers_as_the_table_says(self):
         """The program's own line of each mistake is the table's, so that what is said is said of the right fault."""
-        for mistake in mistakes.TEXTS:
+        for mistake in TEXTS:
             self.write("my.toml", octets_of(mistake.config))
             words, given = ["check", self.path("my.toml")], None
             if mistake.is_joined:
@@ -227,7 +248,7 @@ class Mistakes(ToolTest):
     def test_bridge_shows_it(self):
         """Where the program refuses a configuration, tools/live tells the fault and its reason."""
         count = 0
-        for mistake in mistakes.TEXTS:
+        for mistake in TEXTS:
             if mistake.trace is not None or mistake.is_joined:
                 continue
             self.write("my.toml", octets_of(mistake.config))
@@ -258,6 +279,8 @@ class Mistakes(ToolTest):
         """The test's folder, with files to be read and some that can't be."""
         self.write("my.toml", CONFIG.encode())
         self.write("my.trace", TRACE.encode())
+        self.write("other.toml.txt", CONFIG.encode())
+        self.write("my lab.toml", CONFIG.encode())
         os.mkdir(self.path("folder"))
         os.symlink("gone", self.path("link"))
 
@@ -594,7 +617,7 @@ class Mutations(ToolTest):
         inputs = [os.path.join(folder, "input") for folder in with_report()]
         texts = [open(path, "rb").read() for path in inputs]
         joined = [octets_of(mistake.config) + b"---\n" + (octets_of(mistake.trace) or TRACE.encode())
-                  for mistake in mistakes.TEXTS]
+                  for mistake in TEXTS]
         return [text for text in texts + joined if len(text) < 5000] + [f"{CONFIG}---\n{TRACE}".encode()] * 40
 
     @needs_program

@@ -29,7 +29,7 @@ class Joined(ToolTest):
         text = f"{CONFIG}---\nW 02:00:00:00:00:01 ffffffffffff 02bb00000001 8100 0007 0800 01\nT\n"
         status, said, _ = tool("explain", "--program", PROGRAM, program_input=text)
         self.assertEqual(status, 0, said)
-        self.assertIn("the tag of a VLAN (`8100`) stands where the type does", said)
+        self.assertIn("the tag of a VLAN (`8100`) stands where the type of a frame on a wire does", said)
         self.assertIn("leave `8100` and the two octets behind it out", said)
 
     def test_an_option_behind_the_files_is_named(self):

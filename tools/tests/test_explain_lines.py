@@ -149,7 +149,9 @@ class Shown(ToolTest):
         self.write(CONFIG, "T\nA 4\n")
         config, trace = self.path("my.toml"), self.path("my.trace")
         status, stdout, _ = tool("explain", "--lines", config, trace)
-        self.assertEqual((status, stdout.split("\n")[0]), (1, "fault L2 line 2"))
+        self.assertEqual((status, stdout.split("\n")[0]), (1, f"command: build/apctl run {config} {trace} "
+                                                           "(`run` is added)"))
+        self.assertEqual(stdout.split("\n")[1], "fault L2 line 2")
         self.write(CONFIG, "T\n")
         self.refused("explain", "--lines", "play", config, trace, trace, says="--lines takes a configuration and one "
                      "trace")

@@ -95,7 +95,7 @@ CASES = [
     ([managed("2000", "00056174746963 010402040b16")],
      ["the 10 octets before the elements are missing", "Current AP Address 6", f"write `01000a00{ATTIC}` there"], []),
     ([auth(THIRD), join(THIRD, rates="010401020511")],
-     ["my.trace:6:1", "its rates `01020511` are written in Mb/s, and stand in units of 500 kb/s", "`02040b16`"],
+     ["my.trace:6:82", "its rates `01020511` are written in Mb/s, and stand in units of 500 kb/s", "`02040b16`"],
      ["add `"]),
     ([auth(THIRD), join(THIRD, rates="01040102050b")], ["its rates `0102050b` are written in Mb/s"], ["add `"]),
     ([auth(THIRD), join(THIRD, rates="0103020b16")], ["it lacks the basic rate 2 Mb/s", "add `04`"], ["in Mb/s, and"]),
@@ -111,7 +111,8 @@ CASES = [
     ([null(), wire(), join(), null(), poll()], ["no unit is kept for the station: the last one was dropped in line 7"],
      []),
     # units that are kept at the end
-    ([null(), wire()], ["attic): units are kept at the end for 02:aa:00:00:00:01 (1): a beacon told of them", "`a400`"],
+    ([null(), wire()], ["attic): units are kept at the end for 02:aa:00:00:00:01 (1), which dozes since line "
+                        "5", "`a400`"],
      ["for the group"]),
     (["T", null(station=OTHER, network=CELLAR), wire("ffffffffffff", bssid=CELLARS)],
      ["cellar): units for the group are kept at the end: 1; they follow a DTIM's beacon, one of 3"], ["told of"]),

@@ -4,7 +4,7 @@ import random
 
 from common import PROGRAM, ToolTest, mutated, needs_program, tool
 from explaining.changes import has_effect
-from explaining.config import networks_of
+from explaining.configuration import networks_of
 from explaining.line_by_line import steps
 from explaining.outcomes import MOST_GROUPS, Outcomes
 from explaining.source import Source
@@ -176,20 +176,23 @@ CASES = [
     ([managed("2000", f"0100 0a00 00056174746963 {RATES}")], ["Current AP Address 6", "here the address is missing"]),
     ([managed("c000")], ["the body of a deauthentication has at least 2 octets (Reason Code 2), and here 0"]),
     ([managed("1000", f"0100 0a00 00056174746963 {RATES}")], ["an association response, which access points send"]),
-    ([f"A 5801 0000 {ATTIC} {STATION} {ATTIC} 0000"], ["a frame of type 2, subtype 5, and that kind",
-                                                       "docs/FIRST_TRACE.md"]),
+    ([f"A 5801 0000 {ATTIC} {STATION} {ATTIC} "
+      f"0000"], ["one digit differs from `4801`, with which a Null frame begins"]),
+    ([f"A 9000 0000 {ATTIC} {STATION} {ATTIC} 0000"], ["an ATIM, and that kind isn't read", "docs/FIRST_TRACE.md"]),
     ([data(station="ffffffffffff", to=STATION)], ["Address 2 is the group address all",
                                                   f"`{STATION}`, then `ffffffffffff`"]),
     # frames of a wire that are passed on, and say something else than was meant
-    ([wire(rest="aaaa030000000800 01")], ["my.trace:5:1", "LLC and SNAP (`aaaa03000000`) stand where the type does"]),
-    ([wire(rest="0608 01")], ["a type with its octets the wrong way round stands where the type does"]),
-    ([wire(rest="4500 0014")], ["an IPv4 packet (`4500`) stands where the type does in 1 frame"]),
+    ([wire(rest="aaaa030000000800 01")], ["my.trace:5:47", "LLC and SNAP (`aaaa03000000`) stand where the type "
+                                          "of a frame"]),
+    ([wire(rest="0608 01")], ["my.trace:5:47", "`0608`, the type `0806` with its octets the wrong way "
+                                  "round, stands where the type of a frame on a wire does", "write `0806`"]),
+    ([wire(rest="4500 0014")], ["my.trace:5:47", "an IPv4 packet (`4500`) stands where the type of a"]),
     # requests that were refused, and notices
     ([auth(THIRD, body="0100 0100 0000")], ["my.trace:5:57", "attic: an authentication is refused with status 13, of "
                                             "02:aa:00:00:00:03: its algorithm is 1 (Shared Key)"]),
     ([auth(THIRD, body="0000 0001 0000")], ["my.trace:5:62", "with status 14", "`0001`, is 256", "write `0100`"]),
     ([auth(THIRD, body="0000 0200 0000")], ["with status 14", "is 2, and has to be 1: an answer has that"]),
-    ([auth(f"02cc000000{number:02x}") for number in range(4)], ["my.trace:8:1", "with status 1, of 02:cc:00:00:00:03",
+    ([auth(f"02cc000000{number:02x}") for number in range(4)], ["my.trace:8:26", "with status 1, of 02:cc:00:00:00:03",
                                                                 "`max_known = 4` is reached"]),
     ([join(name="cellar")], ["with status 1, of 02:aa:00:00:00:01: it names `cellar`",
                              "write `00056174746963`, since it authenticated to `attic`"]),
@@ -204,7 +207,7 @@ CASES = [
                                   "add `0b`"]),
     ([join(rates="")], ["with status 18", "it has no element Supported Rates", "write `010402040b16` at its end"]),
     ([auth(THIRD), join(THIRD), auth(f"{THIRD[:-1]}7"), join(f"{THIRD[:-1]}7")],
-     ["my.trace:8:1", "with status 17, of 02:aa:00:00:00:07: `max_stations = 2`"]),
+     ["my.trace:8:26", "with status 17, of 02:aa:00:00:00:07: `max_stations = 2`"]),
     ([data(station=OTHER)], ["my.trace:5:26", "attic: a frame is answered by a deauthentication, reason 7, of "
                              "02:aa:00:00:00:11", "is a station of cellar"]),
     ([data(station=HOST, to=STATION)], ["Address 3, 02:aa:00:00:00:01, is one that is associated: the sender",
@@ -270,7 +273,8 @@ class SingleLines(ToolTest):
         """A run in which each line does something is told to have nothing odd."""
         lines = [probe("attic"), data(), null(), wire(), "T", poll(), null("4801"), data(station=OTHER, network=CELLAR),
                  managed("c000", "0300"), managed("a000", "0300", OTHER, CELLAR)]
-        self.assertEqual(self.explained(JOINED + lines), "the program ended well\nnothing odd was found in this run\n")
+        self.assertEqual(self.explained(JOINED + lines).split("\n", 1)[1],
+                         "the program ended well\nnothing odd was found in this run\n")
 
     @needs_program
     def test_each_silent_line_has_a_reason(self):

@@ -91,7 +91,7 @@ SHOWN = [
     (json.dumps({"packet": base64.b64encode(PROBE).decode()}) + "\n", 1, ["this is JSON", "for its first frame"]),
     (f'A bytes.fromhex("{DIGITS}")\n', 1, ["my.trace:1:3", '`bytes.fromhex("` stands before the digits of a frame']),
     (f'Buffer.from("{DIGITS}", "hex")\n', 1, ["my.trace:1:1", "stands before the digits of a frame"]),
-    (f"A={DIGITS}\n", 1, ["`A=` stands before the digits of a frame"]),
+    (f"A={DIGITS}\n", 1, ["a space alone stands after `A`"]),
     ("A " + PROBE.hex(":") + "\n", 1, ["digits stand without `:` between them", "leave each `:` out"]),
 ]
 # Texts of other programs, as a configuration, with the program's line.

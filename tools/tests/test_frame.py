@@ -25,7 +25,8 @@ RATES = "010482840b16"
 # Frames that no network takes or can read, and what has to be said of each.
 UNREAD = [
     ("d4000000 020000000001", ["(U1)", "an acknowledgement of 10 octets", "fewer than 16"]),
-    (f"b0000000 {OURS} {STATION}", ["(U1)", "of 16 octets, and the header alone of such a frame has 24"]),
+    (f"b0000000 {OURS} {STATION}",
+     ["(U1)", "of 16 octets: of its header of 24 Address 3 and Sequence Control are missing"]),
     (f"41000000 ffffffffffff {STATION} ffffffffffff 0000 0000 {RATES}", ["(U2)", "is 1", "`40` has version 0"]),
     (f"80000000 ffffffffffff {STATION} {STATION} 0000 {'00' * 12}", ["(U3)",
                                                                      "a beacon, which the network sends itself"]),

@@ -39,10 +39,9 @@ class WrongBridges(unittest.TestCase):
 
     def test_each_edit_applies(self):
         """What it replaces is in the bridge, once."""
-        names = [name.removesuffix(".edit") for name in os.listdir(wrong_bridges.EDITS)]
-        self.assertGreater(len(names), 8)
-        for name in names:
-            edit = wrong_bridges.read_edit(wrong_bridges.path_of_edit(name))
+        edits = wrong_bridges.read_edits()
+        self.assertGreater(len(edits), 8)
+        for name, edit in edits.items():
             with open(os.path.join(wrong_bridges.BRIDGE, edit["file"]), encoding="utf-8") as file:
                 self.assertEqual(file.read().count(edit["old"]), 1, name)
 
@@ -414,7 +413,7 @@ class Shares(unittest.TestCase):
                             airing.Airtime("02:00:00:00:01:02", "c", "data", 1, 150, 20, 0),
                             airing.Airtime("02:00:00:00:09:09", "c", "data", 1, 150, 20, 0)]
 
-        played = share_cases.Cases(None, Stage)
+        played = share_cases.Cases([], Stage)
         parts_of_air = played.parts(points.Own.__new__(points.Own), 2)
         self.assertEqual(parts_of_air.sending, [25.0, 75.0])
         self.assertEqual(parts_of_air.with_spaces, [32.0, 68.0])

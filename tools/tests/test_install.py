@@ -157,20 +157,23 @@ class WhatIsInstalled(SmallRepository):
                     self.assertTrue(os.path.exists(document), f"{command} {words}: {document}")
 
     def test_runs_that_documents_name_are_there(self):
-        """Each folder of examples/ and tests/ that docs/EXAMPLES.md names is installed, file by file, and what who
+        """Each folder of examples/ and tests/ that examples/README.md names is installed, file by file, and what who
         changes the sources reads alone isn't."""
         self.install()
         documents = "share/doc/waltigon"
-        examples = self.read(f"{documents}/docs/EXAMPLES.md")
-        named = set(re.findall(r"`((?:examples|tests/[a-z_]+)/[a-z_]+)[`/ ]", examples))
-        self.assertGreater(len(named), 10)
+        examples = self.read(f"{documents}/examples/README.md")
+        shown = {f"examples/{name}" for name in re.findall(r"^\| `([a-z_]+)` \|", examples, re.M) if
+                 os.path.isdir(os.path.join(ROOT, "examples", name))}
+        named = shown | set(re.findall(r"`(tests/[a-z_]+/[a-z_]+)[`/ ]", examples))
+        self.assertGreater(len(shown), 10)
+        self.assertGreater(len(named), len(shown))
         for name in named:
             for file in os.listdir(os.path.join(ROOT, name)):
                 with open(os.path.join(ROOT, name, file), "rb") as ours, \
                         open(self.path(f"usr/{documents}/{name}/{file}"), "rb") as theirs:
                     self.assertEqual(ours.read(), theirs.read(), f"{name}/{file}")
-        for name in ("PERF.md", "WRONG_BODIES.md"):
-            self.assertFalse(os.path.exists(self.path(f"usr/{documents}/docs/{name}")), name)
+        for name in ("bench", "wrong", "crates"):
+            self.assertFalse(os.path.exists(self.path(f"usr/{documents}/{name}")), name)
 
     def test_documents_have_their_pictures(self):
         """Each picture that an installed document shows is installed."""

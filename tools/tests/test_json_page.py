@@ -1,4 +1,5 @@
-"""Tests of docs/JSON.md: it names each member of the documents, each event and each metric, and no other metric."""
+"""Tests of docs/FORMATS.md, "JSON and metrics": it names each member of the documents, each event and each metric, and
+no other metric."""
 import os
 import re
 import unittest
@@ -32,7 +33,7 @@ class JsonPage(unittest.TestCase):
     """The page for whoever writes scripts."""
 
     def setUp(self):
-        self.page = text_of("docs", "JSON.md")
+        self.page = text_of("docs", "FORMATS.md").partition("\n## JSON and metrics\n")[2]
 
     def named(self, names):
         """Each of these names stands on the page."""

@@ -1242,10 +1242,25 @@ class Running(WithFiles):
 
     def test_reloads_leave_no_descriptors(self):
         """However often the configuration is read again, as many are open as before."""
+        self.assertEqual(self.reload_four_times(), [None] * 4)
+
+    def test_reloads_that_fail_leave_no_descriptors(self):
+        """Nor where the program doesn't begin with it, or the bridge can't be run."""
+        found = self.reload_four_times(lambda: self.write("fails", ""))
+        self.assertEqual(found, [None] + ["it doesn't begin"] * 3)
+        os.unlink(self.path("fails"))
+        found = self.reload_four_times(lambda: os.chmod(self.path("bridge"), 0o600))
+        self.assertEqual(found[:1], [None])
+        self.assertTrue(all(found[1:]))
+
+    def reload_four_times(self, before_second=lambda: None):
+        """What comes of four reloads; as many descriptors are open before each. This is done before the second."""
         opened = []
 
         def later():
             for turn in range(4):
+                if turn == 1:
+                    before_second()
                 time.sleep(0.2)
                 opened.append(len(os.listdir("/proc/self/fd")))
                 os.kill(os.getpid(), signal.SIGHUP)
@@ -1254,8 +1269,38 @@ class Running(WithFiles):
                     time.sleep(0.05)
             self.end()
         self.run_bridge(later)
-        self.assertEqual(self.outcomes, [None] * 4)
         self.assertEqual(opened, opened[:1] * 4)
+        return self.outcomes
+
+    def opened_as_it_crashes(self, crash, after="true"):
+        """How many descriptors are open while each of four bridges serves, of which three end by this."""
+        opened, told_before = [], self.told.getvalue().count("networks are on channel")
+
+        def later():
+            for turn in range(4):
+                until = time.monotonic() + 20
+                while (self.told.getvalue().count("networks are on channel") - told_before <= turn
+                       and time.monotonic() < until):
+                    time.sleep(0.05)
+                opened.append(len(os.listdir("/proc/self/fd")))
+                if turn < 3:
+                    crash()
+            self.end()
+        begins = f"[ $request != open ] || {{ echo $$ > {self.folder}/pid; echo sending; }}"
+        does = f"{begins}; [ $request != tables ] || break"
+        with mock.patch.object(serving, "EARLY_SECONDS", 0):
+            self.run_bridge(later, does=does, after=after)
+        return opened
+
+    def test_crashes_leave_no_descriptors(self):
+        """However often the bridge is killed, or its program ends, as many are open as before."""
+        program_ends = "[ \"$request\" != tables ] || { echo 'fault 4 the program ended by itself'; exit 1; }"
+        for crash, after, cause in (
+                (lambda: os.kill(int(self.read("pid")), signal.SIGKILL), "true", "the bridge ended by itself"),
+                (lambda: os.kill(os.getpid(), signal.SIGUSR1), program_ends, "the program ended by itself")):
+            opened = self.opened_as_it_crashes(crash, after)
+            self.assertEqual(self.told.getvalue().count(cause), 3)
+            self.assertEqual(opened, opened[:1] * 4)
 
     def test_begins_anew(self):
         """A bridge that is killed, or whose program ends, is followed by another one; what it left is handed on."""

@@ -33,7 +33,7 @@ class Origin(SmallRepository):
         """A change of what the program stands on, and of nothing else; with the commit, once it is built anew."""
         self.build()
         self.write("crates/other/src/lib.rt", "two\n")
-        self.write("docs/PERF.md", "two\n")
+        self.write("docs/SECURITY.md", "two\n")
         self.assertEqual(self.run_there(".ci/origin", "check"), (0, ""))
         first = self.git("rev-parse", "HEAD")
         self.write("crates/low/proofs/new.antt", "two\n")
@@ -246,7 +246,7 @@ class Installed(SmallRepository):
         """Each tool tells the commits of the program and of the tools, and the page of the program tells them too."""
         self.build()
         first = self.git("rev-parse", "HEAD")
-        self.write("docs/PERF.md", "two\n")
+        self.write("docs/SECURITY.md", "two\n")
         second = self.commit()
         self.assertNotIn("warning", self.install())
         names = [os.path.relpath(path, self.path("usr")) for path in glob.glob(self.path("usr/*bin/waltigon-*"))]

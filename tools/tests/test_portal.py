@@ -1,4 +1,4 @@
-"""Tests of the captive portal of docs/QUESTIONS.md: its rules over those of share/networks, in network namespaces."""
+"""Tests of the captive portal of docs/NETWORKS.md: its rules over those of share/networks, in network namespaces."""
 import os
 import re
 import shutil
@@ -75,7 +75,7 @@ class Portal(ToolTest):
         """The rules, changed as the page says."""
         with open(os.path.join(SHARED, "nftables.conf"), encoding="utf-8") as file:
             text = file.read()
-        with open(os.path.join(ROOT, "docs", "QUESTIONS.md"), encoding="utf-8") as file:
+        with open(os.path.join(ROOT, "docs", "NETWORKS.md"), encoding="utf-8") as file:
             [more] = re.findall(r'^ *(iifname "br-guests" tcp dport 8080 .*)$', file.read(), re.M)
         last = 'iifname { "br-guests", "br-office", "br-devices" } drop'
         self.assertEqual(text.count(last), 1)

@@ -117,11 +117,11 @@ class Told(unittest.TestCase):
     def played(self, measure, program="apctl"):
         """Plays a row: what was told, and the cases."""
         site = FakeSite()
-        cases = site_cases.Cases(None, site)
+        cases = site_cases.Cases([], site)
         cases.keep_logs = lambda name: None
         kind = roaming.Kind("ours" if program else "hostapd", "folder", program=program)
         with contextlib.redirect_stdout(io.StringIO()) as told:
-            cases.case(kind, site_cases.Row("it roams", measure, more=("--no-update",)))
+            cases.try_row(kind, site_cases.Row("it roams", measure, more=("--no-update",)))
         self.assertEqual(site.done, [(kind.name, roaming.CHANNELS, ("--no-update",)), "end"])
         return told.getvalue(), cases
 

@@ -25,8 +25,11 @@ WRONG = [
     ("", "there is no wrong body"),
 ]
 # The stand-in for the prover: it refuses each function that walks 4.
-RT = r"""#!/bin/bash
-mkdir -p out/incremental
+PROVER = r"""#!/bin/bash
+while [ $# -gt 0 ]; do
+    [ "$1" != --incremental ] || mkdir -p "$2"
+    shift
+done
 lines=$(grep -n 'walk(4)' src/lib.rt | cut -d: -f1)
 for line in $lines; do
     echo "note: src/lib.rt:$line:5: it is not proved that the way is short (\`short\`)"
@@ -60,8 +63,9 @@ class SmallCrate(ToolTest):
         self.write("crates/part/src/lib.rt", self.SOURCE)
         self.write("crates/part/must-fail/known.edit", "file: src/lib.rt\nold: walk(1)\nnew: walk(3)\n")
         self.write("wrong/part.toml", BODY.format("twice", "walk(1)", "walk(2)"))
-        for name in ("bodies.py", "check", "try"):
-            shutil.copy(os.path.join(ROOT, "wrong", name), self.path("wrong"))
+        os.makedirs(self.path(".ci"))
+        for name in ("wrong/bodies.py", "wrong/functions.py", "wrong/check", "wrong/try", ".ci/build"):
+            shutil.copy(os.path.join(ROOT, name), self.path(name))
 
 
 class CheckedBodies(SmallCrate):
@@ -95,8 +99,9 @@ class TriedBodies(SmallCrate):
     def test_each_body_is_tried(self):
         """Those of different functions together, and whichever is let through is named."""
         self.write("HANDLES", "")
-        self.write("bin/rt", RT)
-        os.chmod(self.path("bin/rt"), 0o755)
+        for name in ("bin/rt", "bin/rattle"):
+            self.write(name, PROVER)
+            os.chmod(self.path(name), 0o755)
         here = {"PATH": f"{self.path('bin')}:{os.environ['PATH']}", "JOBS": "1"}
         bodies = [("far", "walk(1)", "walk(4)"), ("gone", "walk(0)", "walk(4)"), ("near", "walk(2)", "walk(3)")]
         self.write("wrong/part.toml", "".join(BODY.format(*body) for body in bodies))

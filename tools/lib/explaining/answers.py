@@ -10,11 +10,15 @@ import called
 
 ROOT = os.path.dirname(os.path.dirname(os.path.dirname(os.path.dirname(os.path.realpath(__file__)))))
 PROGRAM = os.path.join(ROOT, "build", "apctl")
+SUBCOMMANDS = {"check": "check CONFIG", "run": "run CONFIG TRACE", "play": "play CONFIG TRACE...",
+               "live": "live CONFIG"}
 FAULT = re.compile(r"fault (?:(?P<code>[CLF]\d+|sources|words|memory|thread|output|clock)"
                    r"(?: trace (?P<trace>\d+))?(?: (?:line|record) (?P<line>\d+))?(?: network (?P<network>\S+))?"
                    r"|file (?P<file>.*))", re.DOTALL)
 # What a network may refuse: the line of such a fault has the network beside the line or record, or neither.
 REFUSED = ("memory", "clock")
+# The exit status of a fault, by its code; 1 of all others (docs/FORMATS.md, "Faults").
+STATUSES = {"words": 2, "memory": 3, "thread": 3, "F3": 3, "file": 4, "output": 4}
 DESCRIPTOR = re.compile(r"/(?:dev|proc/self)/fd/([0-9]{1,6})")
 
 
@@ -55,6 +59,12 @@ def read_fault(said: str) -> Fault | None:
     network, trace, line = (int(digits) if (digits or "").isdigit() else None
                             for digits in match.group("network", "trace", "line"))
     return Fault(said, match["code"], network, trace, line)
+
+
+def said_already(said: str) -> Answer:
+    """The answer of which this line is known; the fault of a single line ends nothing, and has 1."""
+    fault = read_fault(said)
+    return Answer(1 if fault is None or fault.line is not None else STATUSES.get(fault.code, 1), b"", fault, said)
 
 
 def keep_pipes(words: list[str]) -> tuple[int, ...]:

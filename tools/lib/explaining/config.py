@@ -1,90 +1,27 @@
 """What a fault C2 to C13 of a configuration comes of: the key, its place, what was expected there and what to write."""
-from dataclasses import dataclass, field
+import os
+from dataclasses import replace
 
 import called
 from explaining import values
 from explaining.answers import Fault
-from explaining.keys import (HIDING, HOSTAPD, NETWORK_KEYS, NETWORK_LIMITS, OPTIONS, RADIO_KEYS, RADIO_LIMITS, SAMPLES,
-                             is_of_encryption, meant)
-from explaining.source import Finding, Place, Source, quoted
-from explaining.toml_scan import Entry, NoToml, Table, Value, scan
-from hostapd import Line, left_out, line_for
+from explaining.configuration import Config, NetworkTable, number_of
+from explaining.cut_short import cut_short, usual_value
+from explaining.in_remarks import header_in_remark, key_in_remark, of_header
+from explaining.keys import NETWORK_KEYS, NETWORK_LIMITS, OPTIONS, RADIO_KEYS, RADIO_LIMITS, SAMPLES, meant
+from explaining.numbers_meant import number_finding
+from explaining.rates_meant import rates_fault, rates_in
+from explaining.source import Finding, Place, Source, is_odd_blank, odd_blank, quoted
+from explaining.toml_scan import Entry, NoToml, Value
+from explaining.unlisted import line_with, unlisted_findings
 from radio import MOST_IN_VERSION, MOST_NETWORKS
 
-MOST_KEYS_SHOWN = 3
 BEGIN_NETWORK = "write a line `[[network]]`, and the network's keys below it"
-
-
-@dataclass
-class NetworkTable:
-    """One network: where it begins, and its keys."""
-
-    begin: int
-    end: int
-    entries: dict[str, Entry] = field(default_factory=dict)
-
-
-Placed = Entry | Value | Table | NetworkTable
-
-
-class Config:
-    """The keys of a configuration that is TOML, with their places."""
-
-    def __init__(self, source: Source) -> None:
-        self.source = source
-        top, *tables = scan(source.text)
-        self.top = {entry.key[0]: entry for entry in top.entries}
-        self.networks: list[NetworkTable] = []
-        self.single: Table | None = None
-        self.strange = [table for table in tables if table.name[0] != "network"]
-        for table in tables:
-            if table.name == ("network",) and table.is_of_array:
-                self.networks.append(NetworkTable(table.begin, table.end, keys_of(table.entries)))
-            elif table.name[0] == "network" and table.name[1:] and self.networks:
-                inner = Entry(table.name[1:], table.begin, table.end, Value("table", {}, table.begin, table.end))
-                self.networks[-1].entries[table.name[1]] = inner
-            elif table.name[0] == "network":
-                self.single = self.single or table
-        array = self.top.get("network")
-        if array and array.value.kind == "array":
-            self.networks = [NetworkTable(item.begin, item.begin + 1, keys_of(item.entries))
-                             for item in array.value.items if item.kind == "table"]
-
-    @property
-    def version(self) -> int | None:
-        """What `version` is worth, where it is a whole number."""
-        return number_of(self.top.get("version"))
-
-    def place(self, thing: Placed) -> Place:
-        """Where a key, a value or a table stands."""
-        return self.source.at(thing.begin, thing.end)
-
-    def within(self, value: Value, span: tuple[int, int]) -> Place:
-        """Some characters of a text, where it is written as it is; else all of it."""
-        written = self.source.text[value.begin:value.end]
-        if written[1:-1] == value.worth and not written.startswith(3 * written[0]):
-            return self.source.at(value.begin + 1 + span[0], value.begin + 1 + span[1])
-        return self.place(value)
-
-
-def keys_of(entries: list[Entry]) -> dict[str, Entry]:
-    """Entries by the first part of their keys."""
-    return {entry.key[0]: entry for entry in entries}
-
-
-def networks_of(config: Source) -> dict[bytes, NetworkTable]:
-    """The tables of a configuration by their addresses."""
-    try:
-        networks = Config(config).networks
-        return {bytes.fromhex(str(network.entries["bssid"].value.worth).replace(":", "")): network
-                for network in networks}
-    except (NoToml, KeyError, ValueError, RecursionError):
-        return {}
-
-
-def number_of(entry: Entry | None) -> int | None:
-    """The whole number that a key has, where it has one."""
-    return entry.value.integer if entry else None
+# Which keys a fault is of.
+KEYS_OF = {"C2": ("version",), "C4": ("channel",), "C5": ("interval",), "C6": ("queue",), "C8": ("bssid",),
+           "C9": ("ssid",), "C10": ("rates",), "C11": tuple(NETWORK_LIMITS), "C13": OPTIONS}
+# What finds a fault in the form of the text that a key has.
+FORMS = {"C8": values.address_fault, "C10": rates_fault}
 
 
 def explain(source: Source, fault: Fault) -> list[Finding]:
@@ -93,6 +30,9 @@ def explain(source: Source, fault: Fault) -> list[Finding]:
         config = Config(source)
     except NoToml:
         return []
+    first = dotted_key(config, fault) or unseen(config, fault)
+    if first:
+        return [first]
     whole = {"C2": version_findings, "C3": unlisted_findings, "C7": network_findings}
     if fault.code in whole:
         return whole[fault.code](config)
@@ -103,11 +43,39 @@ def explain(source: Source, fault: Fault) -> list[Finding]:
         return []
     network = config.networks[fault.network]
     if fault.code == "C11":
-        return [finding for key, limits in NETWORK_LIMITS.items()
-                for finding in number_findings(config, network.entries, key, limits, in_network(config, network))]
+        return list(dict.fromkeys(finding for key, limits in NETWORK_LIMITS.items() for finding in number_findings(
+            config, network.entries, key, limits, in_network(config, network))))
     parts = {"C8": bssid_findings, "C9": ssid_findings, "C10": rates_findings, "C12": known_findings,
              "C13": option_findings}
     return parts[fault.code](config, network) if fault.code in parts else []
+
+
+def entries_of(config: Config, fault: Fault) -> list[Entry]:
+    """The keys that a fault is of, of the radio or of the network that it names."""
+    network = fault.network if fault.network is not None and fault.network < len(config.networks) else None
+    entries = config.top if network is None else config.networks[network].entries
+    return [entries[key] for key in KEYS_OF.get(fault.code, ()) if key in entries]
+
+
+def unseen(config: Config, fault: Fault) -> Finding | None:
+    """A character that isn't seen, or looks like a space, within an address or rates."""
+    value = next((entry.value for entry in entries_of(config, fault) if fault.code in FORMS), None)
+    if value is None or value.text is None or not any(map(is_odd_blank, value.text)):
+        return None
+    place, plain = config.place(value), "".join(letter for letter in value.text if not is_odd_blank(letter)).strip()
+    found = odd_blank(config.source, place.line, place.column, place.column + place.length - 2)
+    is_whole = not FORMS[fault.code](plain)
+    return replace(found, advice=f"leave it out: write `{KEYS_OF[fault.code][0]} = \"{plain}\"`") \
+        if found and is_whole else found
+
+
+def dotted_key(config: Config, fault: Fault) -> Finding | None:
+    """A key that the fault is of with a dot and a name behind it, which makes it a table."""
+    found = next((entry for entry in entries_of(config, fault) if len(entry.key) > 1), None)
+    if found is None:
+        return None
+    return Finding(f"`{'.'.join(found.key)}` is no key: `{found.key[0]}` alone is one", config.place(found),
+                   f"write {line_with(config, found, found.key[0])}: no dot and no name stand behind a key")
 
 
 def in_network(config: Config, network: NetworkTable) -> str:
@@ -117,18 +85,35 @@ def in_network(config: Config, network: NetworkTable) -> str:
 
 
 def missing(config: Config, entries: dict[str, Entry], key: str, where: str, at: Place | None) -> Finding:
-    """A key that isn't there; perhaps it stands elsewhere or under another name."""
-    write = f"write `{key} = {SAMPLES.get(key, '..')}` {where}"
+    """A key that isn't there; perhaps it stands elsewhere or under another name, or the text ends before it."""
+    write = f"write `{key} = {usual_value(config, entries, key)}` {where}"
     listed = RADIO_KEYS + NETWORK_KEYS + OPTIONS
     others = [entry for name, entry in entries.items() if name not in listed and meant(name, (key,))]
     if others:
         return Finding(f"`{'.'.join(others[0].key)}` is no key; `{key}` may be meant, and is missing",
-                       config.place(others[0]), f"write `{key}`")
+                       config.place(others[0]), f"write {line_with(config, others[0], key)}")
+    table = next((table for table in config.strange for entry in table.entries if entry.key == (key,)), None)
+    if table:
+        return Finding(f"`{key}` stands below `[{'.'.join(table.name)}]`, a table that isn't there, and not at the top",
+                       config.place(table), "leave this line out: the keys of the radio stand at the top")
+    hidden = key_in_remark(config.source, key, where, *lines_of(config, entries))
+    if hidden and not entries and entries is not config.top:
+        return Finding("all keys of this network stand behind `#`, as remarks, and its `[[network]]` doesn't", at,
+                       "write `#[[network]]` where the network isn't to be, or the keys without `#`")
+    if hidden:
+        return hidden
     below = next((network.entries[key] for network in config.networks if key in network.entries), None)
     if key in RADIO_KEYS and below:
         return Finding(f"`{key}` belongs above the first `[[network]]`: below it, it is a key of that network",
                        config.place(below), f"move this line above `[[network]]`, and `{key}` is one of the radio")
-    return Finding(f"the key `{key}` is missing {where}", at, write)
+    return cut_short(config, entries) or Finding(f"the key `{key}` is missing {where}", at, write)
+
+
+def lines_of(config: Config, entries: dict[str, Entry]) -> tuple[int, int]:
+    """The lines of the radio's keys or of a network's, up to the next network."""
+    begins = [1, *(config.place(network).line for network in config.networks), len(config.source.lines) + 1]
+    place = next((place for place, network in enumerate(config.networks, 1) if network.entries is entries), 0)
+    return begins[place], begins[place + 1]
 
 
 def wrong_kind(config: Config, entry: Entry, key: str, wanted: str, write: str) -> Finding:
@@ -146,21 +131,32 @@ def number_findings(config: Config, entries: dict[str, Entry], key: str, limits:
     value, number = entry.value, entry.value.integer
     hint = {"channel": values.channel_hint, "interval": values.interval_hint}.get(key)
     if number is None:
-        digits = str(value.worth).strip() if value.kind in ("text", "number") else ""
-        digits = values.without_dots(config.source.text[value.begin:value.end]) or digits.removesuffix(".0")
-        if key == "channel" and digits.lower() in ("auto", "acs", "acs_survey"):
-            return [Finding("no channel is chosen by itself: `channel` is a number of 1 to 14", config.place(value),
-                            "`iw dev wlan0 scan` shows which are in use; write one of 1, 6 or 11, as `channel = 6`")]
-        is_number = digits.isascii() and digits.isdigit() and least <= int(digits) <= most
-        return [wrong_kind(config, entry, key, f"a whole number of {least} to {most}",
-                           str(int(digits)) if is_number else SAMPLES[key])]
+        return [no_number(config, value, key, limits)]
     if least <= number <= most:
         return []
     advice = hint(number) if hint else None
-    if key in ("max_events", "max_known", "quota") and number > most:
+    if key not in ("channel", "interval") and number > most:
         advice = f"write `{key} = {most}`, the most that there is"
+    if key in ("queue", *NETWORK_LIMITS) and key != "dtim" and number in (0, -1):
+        advice = f"there is always a bound: `{key} = {most}` is the most, and `{key} = {SAMPLES[key]}` a usual one"
     return [Finding(f"`{key}` is {number}, and may be {least} to {most}", config.place(value),
                     advice or f"write a number of {least} to {most}, as `{key} = {SAMPLES[key]}`")]
+
+
+def no_number(config: Config, value: Value, key: str, limits: tuple[int, int]) -> Finding:
+    """A value of another type where a whole number within these limits stands."""
+    written, place = config.source.text[value.begin:value.end], config.place(value)
+    inside = [item.integer for item in value.items if item.integer is not None]
+    if value.kind == "array" and inside and len(inside) == len(value.items):
+        return Finding(f"`{key}` is one whole number of {limits[0]} to {limits[1]}, and this is an array", place,
+                       f"write `{key} = {inside[0]}`" + (", or another one of them" if len(inside) > 1 else ""))
+    if value.kind not in ("text", "number"):
+        return Finding(f"`{key}` is a whole number of {limits[0]} to {limits[1]}, and this is "
+                       f"{values.KINDS[value.kind]}", place, f"write `{key} = {SAMPLES[key]}`")
+    said = number_finding(place, written, key, limits)
+    is_kind = said.text.startswith((f"`{key}` is a whole", "a number has"))
+    return replace(said, text=f"`{key}` is a whole number of {limits[0]} to {limits[1]}, and this is "
+                   f"{values.KINDS[value.kind]}") if is_kind else said
 
 
 def version_findings(config: Config) -> list[Finding]:
@@ -168,100 +164,34 @@ def version_findings(config: Config) -> list[Finding]:
     entry = config.top.get("version")
     if entry is None:
         if not config.top and not config.networks and not config.single:
-            return [Finding("the configuration is empty", config.source.place(1),
-                            f"it begins with `version = 2` ({called.document('PROTOCOL.md')}, \"Configuration\")")]
+            emptied = f"; `> {config.source.name}` empties a file before it is read" * is_empty_file(config.source)
+            return [Finding("the configuration is empty", config.source.place(1), "it begins with `version = 2` ("
+                            f"{called.document('FORMATS.md')}, \"Configuration\"){emptied}")]
         return [missing(config, config.top, "version", "at the top", config.source.place(1))]
     if entry.value.kind != "integer":
         digits = str(entry.value.worth)
-        return [wrong_kind(config, entry, "version", "the whole number 1 or 2", digits if digits in "12" else "2")]
+        return [wrong_kind(config, entry, "version", "the whole number 1 or "
+                                                     "2", digits if digits in ("1", "2") else "2")]
     if entry.value.worth in (1, 2):
         return []
     return [Finding(f"there is no version {entry.value.worth}", config.place(entry.value),
                     "write `version = 2`, or 1 where networks have no `relay` and `aging`")]
 
 
-def unlisted_findings(config: Config) -> list[Finding]:
-    """C3: the keys that aren't listed, and where they stand."""
-    allowed = NETWORK_KEYS + (OPTIONS if config.version == 2 else ())
-    found = [(entry.begin, unlisted(config, entry, RADIO_KEYS, allowed, None))
-             for key, entry in config.top.items() if key not in RADIO_KEYS]
-    found += [(table.begin, strange_table(config, table)) for table in config.strange]
-    if config.single is None:
-        found += [(entry.begin, unlisted(config, entry, allowed, RADIO_KEYS, place))
-                  for place, network in enumerate(config.networks)
-                  for key, entry in network.entries.items() if key not in allowed]
-    again = next((entry for network in config.networks for key, entry in network.entries.items() if key == "version"),
-                 None)
-    if again and "version" in config.top:
-        return [Finding("a second configuration begins here, behind the first", config.place(again),
-                        "leave one of them out; of another network its keys alone stand below a `[[network]]`")]
-    findings = [finding for _, finding in sorted(found, key=lambda pair: pair[0])]
-    more = len(findings) - MOST_KEYS_SHOWN
-    return findings[:MOST_KEYS_SHOWN] + ([Finding(f"and {more} more keys that aren't listed")] if more > 0 else [])
-
-
-def strange_table(config: Config, table: Table) -> Finding:
-    """A table that isn't `network`."""
-    like = meant(table.name[0], ("network",)) == "network"
-    advice = "write `[[network]]`" if like else "the keys of the radio stand at the top, each network's below its " \
-                                                "`[[network]]`: leave this line out"
-    return Finding(f"there is no table `{'.'.join(table.name)}`", config.place(table), advice)
-
-
-def unlisted(config: Config, entry: Entry, here: tuple[str, ...], there: tuple[str, ...],
-             network: int | None) -> Finding:
-    """A key that isn't one of those listed here; perhaps one of those that belong elsewhere."""
-    key, place = entry.key[0], config.place(entry)
-    where = "of the radio" if network is None else f"of a network (this is network {network})"
-    text = f"`{key}` is no key {where}"
-    if key in OPTIONS and network is not None:
-        return Finding(f"`{key}` is a key of version 2, and this text is of version {config.version}", place,
-                       "write `version = 2`, and `relay` and `aging` in each network")
-    if key in there or network is None and key in OPTIONS:
-        advice = "above the first `[[network]]`, as a key of the radio" if network is not None else \
-            "below the `[[network]]` that it is of"
-        return Finding(text, place, f"write it {advice}")
-    stands = line_for(key, str(entry.value.worth))
-    if stands and stands.key in here + there + OPTIONS:
-        return Finding(text, place, of_hostapd(config, stands, network))
-    like = meant(key, here)
-    if like == "network" and entry.value.kind not in ("array", "table"):
-        return Finding(text, place, "leave it out: each network begins with a line `[[network]]`, and their number is "
-                       "not said")
-    if key.lower() in HIDING:
-        return Finding(text, place, "leave it out: a hidden SSID isn't here, every beacon has its name")
-    if like:
-        is_there = like in (config.top if network is None else config.networks[network].entries)
-        more = ", which is there already: leave this out" if is_there else ""
-        return Finding(text, place, f"write `{like}`{more}")
-    if is_of_encryption(key):
-        return Finding(text, place, "these networks don't encrypt: leave it out")
-    if left_out(key, "") or key in HOSTAPD:
-        return Finding(f"{text}, but one of hostapd", place, f"leave it out: {left_out(key, '') or 'it is not here'}")
-    return Finding(text, place, f"the keys are {', '.join(here)}; a remark begins with `#`")
-
-
-def of_hostapd(config: Config, line: Line, network: int | None) -> str:
-    """What to write for a line of hostapd, and where."""
-    of_radio = line.key in RADIO_KEYS
-    entries = [config.top] if of_radio else [config.networks[network].entries] if network is not None else \
-        [other.entries for other in config.networks]
-    if line.key in OPTIONS and config.version == 1:
-        return f"write `version = 2`, and `{line.text()}` in each network that it is for; both options stand in each"
-    if entries and all(line.key in found for found in entries):
-        return f"write `{line.text()}` in place of the line with `{line.key}` that is there, and leave this one out"
-    if of_radio == (network is None):
-        return f"write `{line.text()}`"
-    return f"write `{line.text()}` " + ("above the first `[[network]]`" if of_radio else
-                                        "below the `[[network]]` that it is of")
+def is_empty_file(source: Source) -> bool:
+    """Whether a text is that of a file without an octet."""
+    return not source.octets and os.path.isfile(source.name)
 
 
 def network_findings(config: Config) -> list[Finding]:
     """C7."""
     entry = config.top.get("network")
     if config.single is not None:
-        return [Finding(f"`[{'.'.join(config.single.name)}]` is one table, and networks are an array of tables",
-                        config.place(config.single), "write `[[network]]`")]
+        name, is_named = ".".join(config.single.name), len(config.single.name) > 1
+        return [Finding(f"`{'[' * (1 + config.single.is_of_array)}{name}{']' * (1 + config.single.is_of_array)}` is "
+                        "one table, and networks are an array of tables",
+                        config.place(config.single), "write `[[network]]`"
+                        + (": a network has its name as `ssid`" if is_named else ""))]
     if entry and len(entry.key) > 1:
         return [Finding("this makes `network` one table, and networks are an array of tables", config.place(entry),
                         f"write a line `[[network]]`, and below it `{'.'.join(entry.key[1:])}`")]
@@ -278,8 +208,11 @@ def network_findings(config: Config) -> list[Finding]:
             return [Finding(f"each network is a table, and this is {values.KINDS[odd.kind]}", config.place(odd),
                             BEGIN_NETWORK)]
     count, most = len(config.networks), MOST_IN_VERSION.get(config.version or 0, 0)
+    hidden = header_in_remark(config.source, 1, len(config.source.lines) + 1) if not count else None
+    if hidden:
+        return [of_header(hidden)]
     if not count:
-        return [Finding("there is no network", config.place(entry) if entry else None, BEGIN_NETWORK)]
+        return [no_network(config, entry)]
     if count <= most:
         return []
     advice = f"a radio has at most {MOST_NETWORKS} networks: leave some out"
@@ -290,13 +223,22 @@ def network_findings(config: Config) -> list[Finding]:
                     config.place(config.networks[most]), advice)]
 
 
+def no_network(config: Config, entry: Entry | None) -> Finding:
+    """A text without a network, which perhaps ends before the first one."""
+    last = max(config.top.values(), key=lambda entry: entry.begin, default=None)
+    if entry is None and last and not config.source.text[last.value.end:]:
+        return Finding("there is no network: the text ends here, without a line end, and may not have been written or "
+                       "copied to its end", config.place(last), BEGIN_NETWORK)
+    return Finding("there is no network", config.place(entry) if entry else None, BEGIN_NETWORK)
+
+
 def text_of(config: Config, network: NetworkTable, key: str) -> tuple[Value, str] | Finding:
     """The value of a key that is a text, and its characters; or what is wrong."""
     entry = network.entries.get(key)
     if entry is None:
         return missing(config, network.entries, key, in_network(config, network), config.place(network))
     text = entry.value.text
-    written = values.text_in(entry.value) or SAMPLES[key]
+    written = values.text_in(entry.value, config.source.text[entry.value.begin:entry.value.end], key) or SAMPLES[key]
     return wrong_kind(config, entry, key, "a text", written) if text is None else (entry.value, text)
 
 
@@ -351,24 +293,14 @@ def rates_findings(config: Config, network: NetworkTable) -> list[Finding]:
     """C10."""
     entry = network.entries.get("rates")
     if entry and entry.value.kind in ("array", "integer", "number"):
-        listed = entry.value.items if entry.value.kind == "array" else [entry.value]
-        written = values.digits_of(config.source.text[entry.value.begin:entry.value.end]) or \
-            " ".join(str(item.worth).strip() for item in listed)
-        meant_rates = values.rates_of_megabits(values.megabits_among(written))
-        numbers = [item.integer for item in listed if item.integer is not None]
-        if not meant_rates and len(numbers) == len(listed):
-            meant_rates = values.rates_of_octets(numbers)
-        digits = "".join(str(item.text) for item in listed)
-        if not meant_rates and digits and values.rates_fault(digits) is None:
-            meant_rates = digits
-        is_digits = entry.value.kind == "integer" and not values.rates_fault(written)
+        written = config.source.text[entry.value.begin:entry.value.end]
         return [wrong_kind(config, entry, "rates", "a text of hexadecimal digits, two for each rate in units of 500 "
-                           "kb/s", f'"{written if is_digits else meant_rates or "82840b16"}"')]
+                           "kb/s", f'"{rates_in(entry.value, written) or "82840b16"}"')]
     found = text_of(config, network, "rates")
     if isinstance(found, Finding):
         return [found]
     value, digits = found
-    fault = values.rates_fault(digits)
+    fault = rates_fault(digits)
     if not fault:
         return []
     text, span, mended = fault
@@ -395,6 +327,9 @@ def option_findings(config: Config, network: NetworkTable) -> list[Finding]:
         if entry is None:
             findings.append(missing(config, network.entries, key, in_network(config, network), config.place(network)))
         elif entry.value.kind != "truth":
-            write = values.truth_of(str(entry.value.worth)) or SAMPLES[key]
-            findings.append(wrong_kind(config, entry, key, "`true` or `false`, without quotes", write))
+            seconds = key == "aging" and (entry.value.integer or 0) > 1
+            write = "true" if seconds else values.truth_of(str(entry.value.worth)) or SAMPLES[key]
+            finding = wrong_kind(config, entry, key, "`true` or `false`, without quotes", write)
+            findings.append(replace(finding, advice=f"{finding.advice}: a unit is kept as long as its station's listen "
+                                    "interval says") if seconds else finding)
     return findings

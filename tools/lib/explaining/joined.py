@@ -3,7 +3,8 @@ commas, and a number of beacon intervals at once."""
 import re
 from collections.abc import Iterable
 
-from explaining.source import Finding, Place, Source, quoted
+from explaining.likeness import BEGINNINGS
+from explaining.source import Finding, Place, Source, in_full, quoted
 from explaining.spans import place_of_octets
 from frames import BROADCAST
 from texts import Line
@@ -11,13 +12,10 @@ from texts import Line
 SEPARATORS = (",", ";", "\t", "|")
 HEXADECIMAL = re.compile(r"(?:0x)?(?:[0-9A-Fa-f]{2}[ :]?){10,}")
 ADDRESS = re.compile(r"[0-9A-Fa-f]{2}(?::[0-9A-Fa-f]{2}){5}")
-SEVERAL = re.compile(r"T ?[*x\u00d7]? ?(\d+)|(\d+) ?[*x\u00d7]? ?T")
+SEVERAL = re.compile(r"T ?[*x\u00d7=:+]? ?(\d+)|(\d+) ?[*x\u00d7]? ?T")
 WORD_WITHIN = re.compile(r"(?<=[0-9A-Fa-f])[ ;,|/]*[ ;,|/]([AW] +[0-9A-Fa-f]|T *$)")
 REMARK = re.compile(r"(?://|--|/\*|[;!%]) *(?=.*[^0-9A-Fa-f\s.:;,|/!%*-])")
-# The octets with which frames begin that a network reads (docs/PROTOCOL.md, "Frames").
-BEGINNINGS = {bytes.fromhex(digits) for digits in (
-    "4000", "b000", "0000", "2000", "a000", "c000", "0801", "0811", "4801", "4811", "a400")}
-LEAST_FRAME, MOST_SHOWN = 16, 60
+LEAST_FRAME, LEAST_FIELDS = 16, 2
 
 
 def of_table(source: Source, number: int, line: str) -> Finding | None:
@@ -30,10 +28,11 @@ def of_table(source: Source, number: int, line: str) -> Finding | None:
     name = {",": "commas (CSV)", ";": "semicolons", "\t": "TABs", "|": "bars"}[separator]
     if row:
         return Finding(f"this is a row of values separated by {name}, and a line of a trace has its word, a space and "
-                       "the frame's digits", place, f"write {quoted(row, MOST_SHOWN)}")
+                       "the frame's digits", place, f"write {in_full(row)}")
     has_rows = any(row_of(later, separator) for later in source.lines[number:number + 3])
     if has_rows and re.match(r"[\w\"' .-]+" + re.escape(separator), line) and not re.search(r"[0-9A-Fa-f]{12}", line):
-        return Finding(f"this is the heading of a table, whose values are separated by {name}, and a trace has none", place,
+        return Finding(f"this is the heading of a table, whose values are separated by {name}, and a trace has "
+                       f"none", place,
                        "leave it out, or begin it with `#`")
     return None
 
@@ -51,6 +50,22 @@ def row_of(line: str, separator: str) -> str | None:
     return f"W {bssid or 'BSSID'} {frames[0]}" if word == "W" else f"A {frames[0]}"
 
 
+def of_fields(source: Source, number: int, line: str) -> Finding | None:
+    """A frame whose fields are separated by commas, semicolons or the like, as a table of a spreadsheet has them."""
+    found = re.fullmatch(r"[\"']?([AaWw])[\"']?([,;|\t])(.+)", line)
+    if not found or found[3].count(found[2]) < LEAST_FIELDS:
+        return None
+    fields = [field.strip(" \"'") for field in found[3].split(found[2])]
+    if not all(re.fullmatch(r"(?:[0-9A-Fa-f]{2})+|[0-9A-Fa-f]{2}(?::[0-9A-Fa-f]{2}){5}|", field) for field in fields):
+        return None
+    also = sum(found[2] in other for other in source.lines) - 1
+    name = {",": "commas", ";": "semicolons", "|": "bars", "\t": "TABs"}[found[2]]
+    more = f"; so in {also} more line{'s' * (also > 1)}" if also > 0 else ""
+    return Finding(f"{name} stand between the fields, as a table (CSV) has them, and a trace has spaces there",
+                   source.place(number, found.start(2) + 1),
+                   f"write {in_full(' '.join([found[1].upper(), *filter(None, fields)]))}{more}")
+
+
 def of_several_intervals(line: str, place: Place) -> Finding | None:
     """`T` with a number, or several of them."""
     if re.fullmatch("T(?:[ ,;]*T)+", line):
@@ -60,7 +75,8 @@ def of_several_intervals(line: str, place: Place) -> Finding | None:
     count = found and (found[1] or found[2])
     if not count or int(count) < 2:
         return None
-    return Finding("`T` begins one beacon interval, and no number stands with it", place, f"write {count} lines `T`")
+    return Finding("`T` begins one beacon interval, and no number stands with it",
+                   place.part(line.strip().strip("T ")), f"write {count} lines `T`")
 
 
 def of_second_line(source: Source, number: int, line: str) -> Finding | None:
@@ -70,7 +86,19 @@ def of_second_line(source: Source, number: int, line: str) -> Finding | None:
         return None
     rest = line[found.start(1):]
     return Finding(f"a second line begins here, with its word `{rest[0]}`: each frame has a line of its own",
-                   source.place(number, found.start(1) + 1, len(rest)), f"write {quoted(rest, MOST_SHOWN)} in the next line")
+                   source.place(number, found.start(1) + 1, len(rest)), f"write {in_full(rest)} in the "
+                                                                        f"next line")
+
+
+def of_two_words(source: Source, number: int, line: str) -> Finding | None:
+    """A line `T` and the next one, which were joined into one."""
+    found = re.match(r"(T+)[ ,;]*(?=[AW] +[0-9A-Fa-f])", line)
+    if not found:
+        return None
+    return Finding(f"two lines are joined here: {quoted(found[1])}, and one that begins with "
+                   f"{quoted(line[found.end()])}",
+                   source.place(number, 1, found.end() + 1),
+                   f"write `T`, and {in_full(line[found.end():])} in the next line")
 
 
 def of_remark(source: Source, number: int, line: str, at: int) -> Finding | None:
@@ -99,5 +127,6 @@ def of_joined_frames(lines: Iterable[Line], bssids: Iterable[bytes], traces: lis
     line, at = found[0]
     place = place_of_octets(traces[0], line, (at, len(line.octets))) if len(traces) == 1 else None
     others = f"; so in {len(found) - 1} more lines" if len(found) > 1 else ""
-    return [Finding(f"two frames of one sender stand in this line, and the second is read as a part of the first{others}",
-                    place, f"write {quoted('A ' + line.octets[at:].hex(), MOST_SHOWN)} in the next line")]
+    return [Finding(f"two frames of one sender stand in this line, and the second is read as a part of the "
+                    f"first{others}",
+                    place, f"write {in_full('A ' + line.octets[at:].hex())} in the next line")]

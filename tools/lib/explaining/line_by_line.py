@@ -1,5 +1,5 @@
 """Which line of a trace brings what, by the program's own answers: the lines go through `live` one after the other, and
-after each one the tables are asked for (docs/PROTOCOL.md, "Lines as they come"). No rule is followed here."""
+after each one the tables are asked for (docs/FORMATS.md, "Lines as they come"). No rule is followed here."""
 import os
 import subprocess
 import tempfile

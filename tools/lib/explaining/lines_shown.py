@@ -3,9 +3,10 @@ what changed in its tables."""
 from collections.abc import Iterator
 
 from explaining.changes import changes
-from explaining.config import networks_of
+from explaining.configuration import networks_of
 from explaining.line_by_line import Sent, Step, steps
 from explaining.outcomes import Outcomes, Said
+from explaining.past import Past
 from explaining.source import Source
 from explaining.whole import Texts
 from frames import BROADCAST
@@ -25,23 +26,24 @@ def shown(texts: Texts) -> Iterator[str]:
     if trace is None:
         raise TextError("--lines reads a trace twice, and this one can be read once")
     lines = read_trace(trace.text)
-    outcomes = Outcomes(trace, networks_of(texts.config), lines)
+    outcomes = Outcomes(trace, networks_of(texts.config), lines, has_sums=False, config=texts.config)
     count = 0
     for count, step in enumerate(steps(texts.program, texts.config.octets, lines), 1):
-        yield from of_step(trace, step, list(outcomes.of_step(step)))
+        yield from of_step(trace, step, list(outcomes.of_step(step)), outcomes.past)
         outcomes.take(step)
     if count < len(lines):
         yield f"and {len(lines) - count:,} more lines, which are too many to be shown"
 
 
-def of_step(trace: Source, step: Step, told: list[Said]) -> Iterator[str]:
+def of_step(trace: Source, step: Step, told: list[Said], past: Past) -> Iterator[str]:
     """What is shown of one line."""
     yield f"{trace.name}:{trace.first + step.line.number - 1}: {line_text(step)}"
     written = trace.line(step.line.number).strip()
     yield f"    {written[:MOST_DIGITS]}{ELLIPSIS * (len(written) > MOST_DIGITS)}"
     yield from brought(step)
     for said in told:
-        yield f"  {said.head}: {said.reason.text}"
+        later = past.asks_later(said.reason.lacks, step.line.number) if said.reason.lacks else ""
+        yield f"  {said.head}: {said.reason.text}{later}"
         yield from [f"    {said.reason.advice}"] * (said.reason.advice is not None)
     yield ""
 

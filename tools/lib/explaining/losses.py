@@ -21,7 +21,9 @@ def losses(looked: Looked, relays: bool, quota: int | None) -> list[Reason]:
     found = [of_form(unit, line.octets)] if is_for_wire and wired_form(unit) is None else []
     if lost > len(found):
         whom = address_text(unit.destination) if is_here else "the group"
-        found.append(Reason(f"the unit for {whom} is above the quota: `quota = {quota}` units are kept already, of all "
+        found.append(Reason(f"with `quota = 0` no unit is kept, and this is one for {whom}: 0 isn't no bound", None,
+                            "write how many may wait, as `quota = 64`") if quota == 0 else
+                     Reason(f"the unit for {whom} is above the quota: `quota = {quota}` units are kept already, of all "
                             "stations and the group", None, "a larger `quota` keeps more"))
     return found
 

@@ -1,13 +1,17 @@
 """Why nobody answers to a name: an SSID that no network has, or that the network that is asked doesn't have."""
 import difflib
+import html
+import unicodedata
 from collections.abc import Collection
 
+from explaining.elements_cut import is_followed
 from explaining.reason import Reason
 from frames import HEADER_LEN, SSID, Frame, elements, first_of
 from in_words import ssid_text
 from reading import FIXED_LEN
 
 MOST_NAME, LIKE, MOST_NAMED = 32, 0.6, 4
+QUOTES = (b'"', b"'", b"`")
 BLANKS = b" \t\r\n\0"
 WIDE = ("utf-16-le", "utf-16-be")
 
@@ -27,6 +31,9 @@ def name_reason(octets: bytes, names: dict[bytes, bytes], bssid: bytes, homes: C
                       f"write `{element(names[bssid])}` for {ssid_text(names[bssid])}")
     if len(asked) > MOST_NAME:
         return Reason(f"its SSID has {len(asked)} octets, and a network's has at most {MOST_NAME}", span)
+    cut = length_meant(octets, span[0], asked)
+    if cut:
+        return cut
     others = [body for identifier, body in elements(octets[begin:]) or [] if identifier == SSID]
     ours = next((name for name in others[1:] if name in names.values()), None)
     if ours is not None and asked not in names.values():
@@ -41,9 +48,69 @@ def name_reason(octets: bytes, names: dict[bytes, bytes], bssid: bytes, homes: C
     return unknown_name(asked, sorted(set(names.values())), span)
 
 
+def seen_of(name: bytes) -> bytes:
+    """A name without the characters that aren't seen."""
+    text = name.decode("utf-8", "replace")
+    return "".join(letter for letter in text if unicodedata.category(letter) not in ("Cf", "Cc")).encode()
+
+
+def composed_text(name: bytes) -> str:
+    """A name's letters, each with its marks composed."""
+    return unicodedata.normalize("NFC", name.decode("utf-8", "replace"))
+
+
+def length_meant(octets: bytes, place: int, asked: bytes) -> Reason | None:
+    """A name whose element has a greater length than its letters: elements that are known stand within it."""
+    letters = next((at for at, octet in enumerate(asked) if not 0x20 <= octet < 0x7F), len(asked))
+    length = next((count for count in range(letters, 0, -1) if asked[count:] and
+                   is_followed(octets[place + 2 + count:])), 0)
+    if not length:
+        return None
+    decimal = ", which are hexadecimal digits" * (f"{len(asked):02x}" == f"{length:02d}")
+    return Reason(f"the element SSID says that it has {len(asked)} octets{decimal}, and {length} stand before the next "
+                  "element", (place + 1, place + 2), f"its length `{len(asked):02x}` has to be `{length:02x}`")
+
+
 def unknown_name(asked: bytes, names: list[bytes], span: tuple[int, int]) -> Reason:
     """A name that no network has."""
+    in_quotes = next((name for name in names if len(name) > 2 and name[:1] == name[-1:] and name[:1] in QUOTES and
+                      name[1:-1] == asked), None)
+    if in_quotes is not None:
+        return Reason(f"no network is called {ssid_text(asked)}; {ssid_text(in_quotes)} is, whose quotes are a part "
+                      "of the name",
+                      span, f"where they aren't meant write `ssid = \"{asked.decode('utf-8', 'replace')}\"` in "
+                      "the configuration")
+    of_page = next((name for name in names if name != asked and
+                    html.unescape(name.decode("utf-8", "replace")).encode() == asked), None)
+    if of_page is not None:
+        return Reason(f"no network is called {ssid_text(asked)}: the configuration has it as {ssid_text(of_page)}, as "
+                      "the source of a page writes it", span,
+                      f"write `ssid = \"{asked.decode('utf-8', 'replace')}\"` in the configuration")
+    unseen = next((name for name in names if name != asked and seen_of(name) == asked), None)
+    if unseen is not None:
+        return Reason(f"no network is called {ssid_text(asked)}; one is with a character more that isn't seen, "
+                      f"`{unseen.hex()}`", span,
+                      f"write `ssid = \"{asked.decode('utf-8', 'replace')}\"` anew in the configuration")
+    ended = next((name for name in names if asked.rstrip(b"\r\n") == name), None) if asked[-1:] == b"\n" else None
+    if ended is not None:
+        return Reason(f"no network is called {ssid_text(asked)}: this is {ssid_text(ended)} with a line end, "
+                      f"`{asked[len(ended):].hex()}`, as `echo` writes one behind a "
+                      f"text", span, f"write `{element(ended)}`")
+    latin = next((name for name in names if not asked.isascii() and
+                  name.decode("utf-8", "replace").encode("latin-1", "replace") == asked), None)
+    if latin is not None:
+        return Reason(f"no network is called {ssid_text(asked)}: this is {ssid_text(latin)} in ISO 8859-1, and the "
+                      f"network's SSID is in UTF-8", span, f"write `{element(latin)}`")
+    composed = next((name for name in names if asked != name and composed_text(asked) == composed_text(name)), None)
+    if composed is not None:
+        return Reason(f"no network is called {ssid_text(asked)} in these octets, `{asked.hex()}`: "
+                      f"{ssid_text(composed)} has "
+                      f"the same letters composed otherwise, `{composed.hex()}`", span, f"write `{element(composed)}`")
+    if asked.strip(b"\0") == b"":
+        return Reason(f"its SSID is {len(asked)} zeros, as the beacon of a network that hides its name has it", span,
+                      f"write the name, as `{element(names[0])}`")
     for difference, plain in ((" but for capital letters", lambda name: name.lower()),
+                              (" but for quotes around it", lambda name: name.strip(b"\"'`")),
                               (" but for blanks or zeros around it", lambda name: name.strip(BLANKS))):
         like = next((name for name in names if plain(name) == plain(asked)), None)
         if like is not None:
@@ -55,8 +122,9 @@ def unknown_name(asked: bytes, names: list[bytes], span: tuple[int, int]) -> Rea
                       "written as letters once more", span, f"write `{element(written)}`")
     digits = next((name for name in names if name.lower() == asked.hex().encode()), None)
     if digits is not None:
-        return Reason(f"no network is called {ssid_text(asked)}; {ssid_text(digits)} is, which are its digits: `ssid` is "
-                      "the name as people read it", span, f"write `ssid = \"{asked.decode('utf-8', 'replace')}\"` in "
+        return Reason(f"no network is called {ssid_text(asked)}; {ssid_text(digits)} is, which are its digits: "
+                      "`ssid` is the name as people read it",
+                      span, f"write `ssid = \"{asked.decode('utf-8', 'replace')}\"` in "
                       "the configuration")
     texts = {name.decode("utf-8", "replace"): name for name in names}
     wide = next((name for text, name in texts.items() if asked in map(text.encode, WIDE)), None)

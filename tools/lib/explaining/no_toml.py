@@ -1,34 +1,28 @@
 """What a fault C1 comes of: octets that are no UTF-8, a text that is no TOML, or one that isn't a configuration at
 all."""
-import difflib
 import re
 import tomllib
 
 import called
-from explaining import values
 from explaining.file_kinds import other_file
-from explaining.keys import (HOSTAPD, NETWORK_KEYS, NETWORK_LIMITS, OPTIONS, RADIO_KEYS, RADIO_LIMITS, SAMPLES,
-                             TEXT_KEYS)
+from explaining.in_remarks import header_in_remark, of_header
+from explaining.keys import HOSTAPD, NETWORK_KEYS, SAMPLES
+from explaining.no_key import FOR_YAML, REMARK, is_yaml, of_key, remark_mark, remark_of
+from explaining.no_value import QUOTES, in_form, of_value
 from explaining.other_programs import of_other_program, without_keys
 from explaining.pasted import entity, foreign
-from explaining.source import Finding, Place, Source, odd_blank, plain_letter, plain_text, quoted
+from explaining.source import Finding, Place, Source, odd_blank, quoted
 from explaining.toml_scan import NoToml, scan
-from hostapd import line_for
 
 TRACE_LINE = re.compile(r"(?:[AW] +[0-9A-Fa-f: ]{4,}|T|A|W)\s*\r?")
 REPORT_LINE = re.compile(r"network [0-9a-f:]{17} ssid [0-9a-f]*|(?:air|wire) [0-9a-f]+|events \d+ clock \d+.*")
-SEPARATOR_LIKE = re.compile(r"\s*(?:-\s*){2,}\r?|\s*[\u2010-\u2015\u2212]+\s*|\s*={3,}\s*|\s*-{3,}\s*#.*")
-TRUTHS = {"yes": "true", "on": "true", "y": "true", "true": "true", "no": "false", "off": "false", "n": "false",
-          "false": "false"}
-QUOTES = re.compile("[\u2018-\u201f\u00ab\u00bb\u2039\u203a`\u00b4]")
-REMARK = re.compile(r"\s*(?:;|//|--|/\*|!|%|REM\b)")
-WORD = re.compile(r"[A-Za-z_][A-Za-z0-9_-]*")
-WORD_BEFORE_KEY = re.compile(r"(export|set|let|var|local|const|uci set)\s+([\w-]+)\s*=\s*(.+)")
-FOR_YAML = "write `channel = 6`, a line for each key, and a line `[[network]]` before the keys of each network"
-JSON_LINE = re.compile(r"[\"']([\w-]+)[\"']\s*:\s*(.*?)\s*,?$")
-TAG = re.compile(r"</?[a-z]+ ?/?>")
-# What stands for a value in a template, or for a variable of a shell.
-UNFILLED = re.compile(r"\{\{.*|\$\{?\w+\}?|%\w+%|@\w+@|<[\w -]+>")
+SEPARATOR_LIKE = re.compile(r"\s*(?:-\s*){2,}\r?|\s*-*[\u2010-\u2015\u2212][-\u2010-\u2015\u2212]*\s*"
+                            r"|\s*={3,}\s*|\s*-{3,}\s*#.*")
+NETWORK_OF_NAME = re.compile(r"^[ \t]*(\[\[? *network *\.[^\]\n]*\]\]?)", re.MULTILINE)
+LEAST_KEYS = 3  # of a network, by which it is told from a key that was written twice
+# A key with its value, and right behind it the beginning of what should be the next line.
+JOINED = re.compile(r"(\s*[\w-]+\s*=\s*(?:true|false|[0-9]+(?!T)|\"[^\"]*\"|'[^']*'))\s*"
+                    r"(\[\[? *network *\]\]?|-{3,}|[AW] +[0-9A-Fa-f: ]{4,}|T)\s*")
 
 
 def explain(source: Source, wants_trace: bool) -> list[Finding]:
@@ -93,8 +87,9 @@ def of_line(source: Source, fault: NoToml, wants_trace: bool) -> Finding:
     """Why the text stops being TOML in this line."""
     place = source.at(fault.begin, fault.end)
     line = source.line(place.line)
-    finding = foreign(source, place.line) or of_other_program(source, place.line) or \
-        of_trace(source, place, line, wants_trace) or of_entity(place, line) or of_template(source, place.line)
+    finding = foreign(source, place.line) or of_entity(place, line) or of_other_program(source, place.line) or \
+        of_trace(source, place, line, wants_trace) or of_joined(source, place, line, wants_trace) or \
+        of_template(source, place.line)
     if finding:
         return finding
     strange = without_keys(source, place.line)
@@ -103,15 +98,17 @@ def of_line(source: Source, fault: NoToml, wants_trace: bool) -> Finding:
     by_expected = {"`=` after a key": of_key, "a key": of_key, "a value": of_value, "the line's end": of_rest,
                    "a key that isn't there yet": of_key_twice, "a table that isn't there yet": of_table_twice}
     blank = odd_blank(source, place.line, place.column - 1, place.column - 1 + place.length)
-    if blank and fault.expected in ("`=` after a key", "a key", "a value", "the line's end"):
+    if blank and (fault.expected in ("`=` after a key", "a key", "a value", "the line's end") or
+                  fault.expected.startswith("`]")):
         return blank
     if fault.expected in by_expected:
         return by_expected[fault.expected](place, line, fault, source)
+    if fault.expected.startswith("`,` between the parts of a table") and "{" not in line[:place.column]:
+        return of_braces(source, place, fault)
     if fault.expected.startswith("a closing"):
-        return of_closing(place, line, fault.expected)
+        return of_closing(place, line, fault.expected, source)
     if fault.expected.startswith("a character that may follow"):
-        return Finding(f"{quoted(source.text[fault.begin:fault.end])} stands for no character", place,
-                       "write `\\\\` for a backslash, or the text between single quotes")
+        return of_backslash(place, line, source.text[fault.begin:fault.end])
     if "control character" in fault.expected:
         return Finding(f"a control character, {ord(source.text[fault.begin]):02x}; {fault.expected}", place)
     if fault.expected.startswith("`]"):
@@ -121,13 +118,45 @@ def of_line(source: Source, fault: NoToml, wants_trace: bool) -> Finding:
     return Finding(f"expected: {fault.expected}", place)
 
 
-def of_closing(place: Place, line: str, expected: str) -> Finding:
-    """A text without the quote that ends it; another quote may stand there."""
+def of_braces(source: Source, place: Place, fault: NoToml) -> Finding:
+    """A table within braces whose keys have no commas between them, as those below a header have none."""
+    at = source.text.rfind("{", 0, fault.begin)
+    begin = source.text.rfind("\n", 0, at) + 1
+    header = source.text[begin:at + 1].strip()
+    return Finding("the keys of a table within braces have commas between them, and none stands before line "
+                   f"{place.line + source.first - 1}", source.at(at, at + 1), f"write `[[network]]` in place of "
+                   f"`{header}`, and its keys below it, a line for each, without braces" if "network" in header else
+                   "write a comma there")
+
+
+def of_backslash(place: Place, line: str, text: str) -> Finding:
+    """A backslash before a character with which it stands for none."""
+    found = re.fullmatch(r"\s*(bssid|rates)\s*=\s*\"(.*)\"\s*", line)
+    plain = in_form(found[2].replace("\\", ""), found[1]) if found else ""
+    return Finding(f"{quoted(text)} stands for no character", place, f"write `{found[1]} = {plain}`" if found else
+                   "write `\\\\` for a backslash, or the text between single quotes")
+
+
+def of_closing(place: Place, line: str, expected: str, source: Source) -> Finding:
+    """A text without the quote that ends it; another quote may stand there, or the whole text may end."""
     mark = expected[10:]
+    if REMARK.match(line):
+        return of_remark(place, line.strip())
+    if place.line == len(source.lines):
+        return Finding("the text ends within this line: it wasn't written or copied to its end", place,
+                       f"a text begins and ends with {mark}")
     found = re.match(r"\s*([\w-]+)\s*=\s*[\"']([^\"'#]*)([\"']?)\s*$", line)
     other = f", and {found[3]} stands there" if found and found[3] else ""
+    print_quote = QUOTES.search(found[2]) if found else None
+    other = f", and {quoted(print_quote[0])} stands there, a quote of print" if print_quote else other
     return Finding(f"{expected} is missing{other}", place, f"a text begins and ends with {mark}" +
-                   (f": write `{found[1]} = \"{found[2].strip()}\"`" if found else ""))
+                   (f": write `{found[1]} = \"{QUOTES.sub('', found[2]).strip()}\"`" if found else ""))
+
+
+def of_remark(place: Place, text: str) -> Finding:
+    """A remark of another language."""
+    return Finding(f"{quoted(text, 12)}: a remark begins with `#`", place.part(remark_mark(text)),
+                   f"write `# {remark_of(text) or '..'}`")
 
 
 def of_entity(place: Place, line: str) -> Finding | None:
@@ -151,6 +180,9 @@ def of_trace(source: Source, place: Place, line: str, wants_trace: bool) -> Find
     """A line of a trace, or what was meant as the line between the parts."""
     where = source.place(place.line, 1, len(line) or 1)
     if SEPARATOR_LIKE.fullmatch(line):
+        first = next((number for number in range(place.line + 1, len(source.lines)) if source.line(number).strip()), 0)
+        if is_yaml(source, first):
+            return Finding("this is YAML, and a configuration is TOML", where, FOR_YAML)
         if line == "---":
             return Finding("a line `---` and a trace aren't a part of a configuration's file", where,
                            f"such a text is for standard input: `{called.program()} < {source.name}`")
@@ -162,160 +194,61 @@ def of_trace(source: Source, place: Place, line: str, wants_trace: bool) -> Find
                                                                                   ", in a text for standard input"))
     if TRACE_LINE.fullmatch(line):
         advice = "write a line `---` before the trace" if wants_trace else \
-            "the trace has a file of its own for `check` and `run`; in one text a line `---` stands before it"
+            "the trace has a file of its own behind the configuration's; in one text a line `---` stands before it"
         return Finding("this is a line of a trace, and belongs to no configuration", where, advice)
     return None
 
 
-def of_key(place: Place, line: str, fault: NoToml, source: Source) -> Finding:
-    """A line that doesn't begin with a key and `=`."""
-    text = line.strip()
-    if REMARK.match(line):
-        return Finding(f"{quoted(text, 12)}: a remark begins with `#`", place, f"write `# {text.lstrip(';/-*!% ')}`")
-    of_json = JSON_LINE.match(text)
-    if of_json:
-        return Finding("this line is written as in JSON or Python, and TOML has a key without quotes, `=` and a value", place,
-                       f"write `{of_json[1]} = {of_json[2]}`")
-    words = WORD.match(text)
-    behind = WORD_BEFORE_KEY.match(text)
-    if behind and behind[2] in RADIO_KEYS + NETWORK_KEYS + OPTIONS:
-        return Finding(f"`{behind[1]}` stands before the key, and a line begins with its key", place,
-                       f"write `{behind[2]} = {behind[3]}`")
-    if is_yaml(source, place.line):
-        return Finding("this is YAML, and a configuration is TOML", place, FOR_YAML)
-    if words and re.match(r"\s*:", text[words.end():]):
-        return Finding("`:` stands where TOML has `=`", place,
-                       f"write `{words[0]} = {text[words.end():].lstrip(':= ').rstrip(',')}`")
-    if words and words[0] in RADIO_KEYS + NETWORK_KEYS:
-        rest = text[words.end():].strip()
-        if not rest:
-            return Finding(f"`{words[0]}` has no value", place, f"write `{words[0]} = {SAMPLES.get(words[0], '..')}`")
-        return Finding(f"`=` is missing after the key `{words[0]}`", place, f"write `{words[0]} = {rest}`")
-    if text.startswith("<"):
-        return Finding("this is XML or HTML, and a configuration is TOML", place)
-    if text.startswith(("\u201c", "\u201d", "\u2018", "\u2019")):
-        return Finding("a quote of print, and TOML's are `\"` and `'`", place)
-    odd = next((letter for letter in text.split("=")[0] if plain_letter(letter)), None)
-    if odd:
-        return Finding(f"{quoted(odd)} (U+{ord(odd):04X}) looks like {quoted(plain_letter(odd) or '')} and is another "
-                       "character", place, f"write `{plain_text(text.split('=')[0])}={text.partition('=')[2]}`")
-    if not text.isascii() and not WORD.match(text):
-        return Finding("a key has letters a to z, digits, `_` and `-`; others stand in quotes", place)
-    return Finding("a line is a key, `=` and a value, or a table's header", place, "a remark begins with `#`")
-
-
-def of_copied(place: Place, text: str, name: str) -> Finding | None:
-    """A value with what another language or a page has around it, or with what stands for a value in a template."""
-    if text.startswith("="):
-        return Finding("`=` stands twice", place, f"write `{name} = {text.lstrip('= ')}`")
-    if TAG.search(text) and not TAG.fullmatch(text):
-        return Finding("this line was copied out of a page of HTML", place,
-                       f"write `{name} = {TAG.sub('', text).strip()}`")
-    if re.fullmatch(r'\\".*\\"', text):
-        return Finding("quotes stand without a backslash before them", place, f'write `{name} = "{text[2:-2]}"`')
-    if UNFILLED.search(text):
-        return Finding(f"{quoted(text)} stands for a value that nothing has put here: this text is a template", place,
-                       f"write a value, as `{name} = {SAMPLES[name]}`" if name in SAMPLES else None)
-    return None
-
-
-def is_yaml(source: Source, number: int) -> bool:
-    """Whether a line is one of YAML: `---` aside, a name and `:`, where some name and `:` stand alone before lines that
-    are indented or begin with `-`."""
-    return bool(re.match(r"\s*(?:- +)?[\w-]+:(?: |$)", source.line(number).rstrip()) and
-                re.search(r"^\s*[\w-]+:[ \r]*\n(?:[ \t]+\S|- )", source.text, re.M))
-
-
-def of_value(place: Place, line: str, fault: NoToml, source: Source) -> Finding:
-    """A value that is none."""
-    text, key = source.text[fault.begin:fault.end].strip(), fault.key
-    stands = line_for(key, text)
-    if stands:
-        return Finding(f"`{key}` is one of hostapd's", place, f"write `{stands.text()}`")
-    name = key or "the key"
-    if not text:
-        return Finding(f"`{name}` has no value", place, f"write `{key} = {SAMPLES[key]}`" if key in SAMPLES else None)
-    copied = of_copied(place, text, name)
-    if copied:
-        return copied
-    if QUOTES.search(text):
-        plain = QUOTES.sub('"', text)
-        return Finding("these quotes are of print, and TOML's are `\"` and `'`", place, f"write `{name} = {plain}`")
-    if re.fullmatch(r"[^;]+;\s*", text):
-        return Finding("a line ends without `;`", place, f"write `{name} = {text.rstrip('; ')}`")
-    remark = re.search(r"\s*(?:;|//|--).*", text)
-    if remark and remark.start() > 0:
-        return with_more(place, text[:remark.start()], text[remark.start():].strip(), name)
-    if "=" in text and re.search(r"[A-Za-z_]+\s*=", text):
-        return Finding("two keys stand in one line", place, "write each in a line of its own")
-    if text.rstrip(",;") != text and key not in TEXT_KEYS:
-        return Finding(f"nothing stands after a value, and here `{text[-1]}` does", place,
-                       f"write `{name} = {text.rstrip(',;')}`")
-    if key in OPTIONS and text.lower() not in TRUTHS:
-        close = difflib.get_close_matches(text.lower(), ("true", "false"), 1, 0.5)
-        return Finding(f"`{key}` is `true` or `false`, and {quoted(text)} is neither", place,
-                       f"write `{key} = {close[0] if close else SAMPLES[key]}`")
-    if text.lower() in TRUTHS and key not in TEXT_KEYS:
-        return Finding(f"{quoted(text)} is no truth value: TOML has `true` and `false`, in small letters", place,
-                       f"write `{name} = {TRUTHS[text.lower()]}`")
-    if key in TEXT_KEYS or values.address_fault(text) is None:
-        return Finding(f"`{name}` is a text, and a text stands in quotes", place, f'write `{name} = "{text}"`')
-    return of_number(place, text, name)
-
-
-def of_number(place: Place, text: str, name: str) -> Finding:
-    """What should be a number and is none."""
-    if plain_text(text) != text:
-        return Finding(f"{quoted(text)} has characters that look like digits and are others", place,
-                       f"write `{name} = {plain_text(text)}`")
-    if re.fullmatch(r"[+-]?0\d+", text):
-        return Finding("a number doesn't begin with a zero", place, f"write `{name} = {int(text)}`")
-    if re.fullmatch(r"[+-]?\d+", text):
-        return Finding("no number of TOML is so large", place)
-    if re.fullmatch(r"0[XOB][0-9A-Fa-f]+", text):
-        return Finding("`0x`, `0o` and `0b` are written with small letters", place, f"write `{name} = {text.lower()}`")
-    unit = re.fullmatch(r"(\d+)\s*([A-Za-z%]+)", text)
-    if unit:
-        return Finding(f"a number has no unit after it, and here {quoted(unit[2])} stands", place,
-                       f"write `{name} = {unit[1]}`")
-    if re.fullmatch(r"\d+([_.,']\d+)+_?", text):
-        return Finding("this is no number of TOML", place, f"write `{name} = {re.sub('[^0-9]', '', text)}`")
-    if name in RADIO_LIMITS or name in NETWORK_LIMITS:
-        return Finding(f"`{name}` is a whole number, and {quoted(text)} is none", place,
-                       f"write `{name} = {SAMPLES[name]}`")
-    if re.match(r"[A-Za-z]", text):
-        return Finding(f"{quoted(text)} is no value: a text stands in quotes", place,
-                       f"write `{name} = {SAMPLES[name]}`" if name in SAMPLES else f'write `{name} = "{text}"`')
-    return Finding(f"{quoted(text)} is no value of TOML", place,
-                   f"write `{name} = {SAMPLES[name]}`" if name in SAMPLES else None)
-
-
-def with_more(place: Place, value: str, more: str, name: str) -> Finding:
-    """A value, and something after it that should be a remark."""
-    return Finding(f"{quoted(more, 12)}: a remark begins with `#`", place,
-                   f"write `{name} = {value} # {more.lstrip(';/- ')}`")
+def of_joined(source: Source, place: Place, line: str, wants_trace: bool) -> Finding | None:
+    """A line without its end, so that the next one stands behind it."""
+    found = JOINED.fullmatch(line)
+    if not found:
+        return None
+    key, rest = found[1].strip(), found[2].strip()
+    is_trace = rest[0] in "AWT"
+    write = f"write `{key}`, and {quoted(rest)} in the next line"
+    if is_trace or rest[0] == "-":
+        write = f"write `{key}`, then a line `---`" + f", then {quoted(rest)}" * is_trace if wants_trace else \
+            f"write `{key}`: the trace has a file of its own"
+    return Finding(f"two lines are joined here: {quoted(key)} and {quoted(rest)}",
+                   source.place(place.line, found.start(2) + 1, len(rest)), write)
 
 
 def of_rest(place: Place, line: str, fault: NoToml, source: Source) -> Finding:
-    """Something after a value that is whole."""
+    """Something after a value or a header that is whole."""
     text = source.text[fault.begin:fault.end]
+    if line.lstrip().startswith("["):
+        return of_behind_header(place, line, text)
     single = re.fullmatch(r"\s*([\w-]+)\s*=\s*'(.*)'\s*", line)
     if single and text[:1].isalpha():
-        plain = single[2].replace("\\'", "'")
+        plain = single[2].replace("\\'", "'").strip("'")
         return Finding("the text ends at the second single quote, and goes on behind it", place,
                        f"write `{single[1]} = \"{plain}\"`, between double quotes")
-    if text == "]":
-        return Finding("`]` is one too many", place, "write `[[network]]` for a network")
-    if REMARK.match(text):
-        return Finding(f"{quoted(text, 12)}: a remark begins with `#`", place, f"write `# {text.lstrip(';/-*!% ')}`")
-    if re.match(r"[A-Za-z_]+\s*=", text):
+    twice = re.fullmatch(r"\s*([\w-]+)\s*=\s*\"\"([^\"]+)\"\"\s*", line)
+    if twice:
+        return Finding("quotes stand twice: the text ends at the second one", place,
+                       f"write `{twice[1]} = \"{twice[2]}\"`")
+    several = re.fullmatch(r"[,;]\s*[A-Za-z_]+\s*=.*", text)
+    if several or re.match(r"[A-Za-z_]+\s*=", text):
         return Finding("two keys stand in one line", place, "write each in a line of its own")
     if re.fullmatch(r"[,;]\s*", text):
-        return Finding(f"a line ends without `{text[0]}`", place, f"write `{line.rstrip(',; ')}`")
+        return Finding(f"a line ends without `{text[0]}`", place, f"write `{line.strip().rstrip(',; ')}`")
+    if REMARK.match(text) and text[0] not in "\"'":
+        return of_remark(place, text)
     if text.startswith("\r"):
         return Finding("a CR that isn't followed by LF ends no line", place, "`tr '\\r' '\\n'` writes line ends anew")
     return Finding(f"nothing stands after a value, and here {quoted(text)} does", place,
                    "leave it out; a quote within a text is written `\\\"`")
+
+
+def of_behind_header(place: Place, line: str, text: str) -> Finding:
+    """Something behind the line that begins a network."""
+    if re.match(r"[A-Za-z_]+\s*=", text):
+        return Finding("a key stands behind a header, which has a line of its own", place,
+                       f"write `{text}` in the next line")
+    words = remark_of(text).strip(",;: []")
+    return Finding(f"{quoted(text)} stands behind a header, which has a line of its own", place, "write `[[network]]`" +
+                   (f", and a remark as `# {words}`" if words and "network" not in words else ""))
 
 
 def of_key_twice(place: Place, line: str, fault: NoToml, source: Source) -> Finding:
@@ -324,8 +257,16 @@ def of_key_twice(place: Place, line: str, fault: NoToml, source: Source) -> Find
     earlier = re.compile(rf"^\s*{re.escape(fault.key)}\s*[.=]", re.MULTILINE).search(source.text, table_begin)
     line_text = ""
     if earlier and earlier.start() < fault.begin:
+        hidden = header_in_remark(source, source.text.count("\n", 0, earlier.end()) + 1, place.line)
+        if hidden:
+            return of_header(hidden)
         number = source.text.count("\n", 0, earlier.end()) + source.first
         line_text = f"; the first is in line {number}"
+    rest = re.split(r"^\s*\[", source.text[fault.begin:], maxsplit=1, flags=re.MULTILINE)[0]
+    listed = {key for key in re.findall(r"^\s*([\w-]+)\s*=", rest, re.MULTILINE) if key in NETWORK_KEYS}
+    if fault.key in NETWORK_KEYS and len(listed) >= LEAST_KEYS:
+        return Finding(f"the keys of a second network begin here, and its line `[[network]]` is missing: `{fault.key}` "
+                       f"stands a second time{line_text}", place, "write `[[network]]` in a line before this one")
     return Finding(f"the key `{fault.key}` stands here a second time{line_text}", place,
                    "leave one out; the keys of another network stand below a `[[network]]` of its own")
 
@@ -347,7 +288,11 @@ def of_table_twice(place: Place, line: str, fault: NoToml, source: Source) -> Fi
 
 
 def of_library(source: Source) -> list[Finding]:
-    """What Python's own reader says of a text in which nothing else was found."""
+    """A header that makes one table of the networks; else what Python's own reader says of the text."""
+    header = NETWORK_OF_NAME.search(source.text)
+    if header:
+        return [Finding(f"`{header[1]}` makes one table of `network`, and networks are an array of tables",
+                        source.at(*header.span(1)), "write `[[network]]`: a network has its name as `ssid`")]
     try:
         tomllib.loads(source.text.removeprefix("\ufeff"))
     except tomllib.TOMLDecodeError as fault:

@@ -9,16 +9,17 @@ from collections.abc import Callable, Iterable, Iterator
 from enum import Enum, auto
 from typing import NamedTuple
 
-import called
-from explaining.joined import BEGINNINGS
+from explaining.likeness import BEGINNINGS, LEAST_FRAME, MOST_LIKE, likeness
+from explaining.other_programs import DUMP_HEAD, of_capture
 from explaining.reason import Reason
-from explaining.source import Finding, Source, quoted
+from explaining.source import Finding, Source, in_full, quoted
 from explaining.wired_types import TYPES
-from frames import BROADCAST, DATA, number
+from explaining.written import HEADER, fields_in
+from frames import BROADCAST, number
 from texts import Line
 
-LEAST_FRAME, LEAST_NUMBERS, MOST_WRITTEN, MOST_ROWS, MOST_LIKE = 10, 2, 60, 300, 2
-MOST_HEADINGS = 4
+LEAST_NUMBERS, MOST_ROWS = 2, 300
+MOST_HEADINGS, LEAST_WORDS = 4, 2
 # What stands before a row: what a log puts before each line, as a time and a name, and the place of its first octet.
 BEFORE_ROW = re.compile(r"(?:[^\"'{]*?[:\])>] +)??\s*"
                         r"(?P<place>(?:0x)?[0-9A-Fa-f]{3,16})(?: <[^>]*>)?(?P<mark>[:|]?)[ \t]+")
@@ -27,12 +28,13 @@ BETWEEN, NO_MORE = r"[ \t]*[,;:|]?[ \t]*", re.compile(r"[\s\"'\])};,\\]*(?://.*|
 # The first lines of an array or of a dump that has its octets in the lines after them: what is opened, a remark, the
 # numbers of columns.
 HEADING = re.compile(r".*[=({\[\"]\s*|\s*(?:/\*.*\*/|//.*)?\s*|[\w ]*\b0?0 +0?1 +0?2 +0?3 .*|"
-                     r".*\(\d+ (?:bytes|octets)\):?\s*")
+                     r".*\(\d+ (?:bytes|octets)\):?\s*|" + DUMP_HEAD.pattern + ".*")
 PYTHON = re.compile(r"(?:(?:bytes|bytearray)\()?(b(['\"]).*\2)\)?,?")
 BASE64 = re.compile(r"[A-Za-z0-9+/]{14,}={0,2}")
 DIGITS_ALONE = re.compile("(?:[0-9A-Fa-f]{2} ?)+")
 RUN = re.compile(r"(?<![\w.])(?:[0-9A-Fa-f]{2} ?){15,}[0-9A-Fa-f]{2}(?!\w)")
 LIKE_DIGITS, LEAST_STRANGE = set("0123456789abcdefABCDEFOoIlxXhH="), 3
+LIKE_LETTERS = str.maketrans("OolI", "0011")
 RADIOTAP_LEN, TYPE_AT = slice(2, 4), slice(12, 14)
 JSON, DIGITS = re.compile(r"\s*(?:\{\s*(?:\"|$)|\[\s*(?:[\[{\"]|$))"), re.compile(r"(?:0x)?(?:[0-9A-Fa-f]{2}[: -]?)+")
 
@@ -122,17 +124,10 @@ def other_numbers(text: str, line: Line, bssids: Iterable[bytes]) -> Reason | No
         row = of_run(text[begin:], notation, False)
         if row and likeness(row.octets, addresses) == MOST_LIKE:
             name = notation.name.removeprefix(f"{DUMP} in ")
-            return Reason(f"its digits are {name}, and a trace has each octet as two hexadecimal digits, in their order",
+            return Reason(f"its digits are {name}, and a trace has each octet as two hexadecimal digits, in their "
+                          f"order",
                           (0, len(line.octets)), advice_for("A ", row.octets))
     return None
-
-
-def likeness(octets: bytes, addresses: Iterable[bytes]) -> int:
-    """How much octets are like a frame of the air: 1 each for a beginning that a network reads, and for a receiver that
-    is a network's address or the broadcast address; 0 for what can't be one."""
-    if len(octets) < LEAST_FRAME or octets[0] & 3 or octets[0] >> 2 & 3 > DATA:
-        return 0
-    return (octets[:2] in BEGINNINGS) + (octets[4:10] in addresses)
 
 
 def of_rows(source: Source, number: int, begin: int, addresses: set[bytes]) -> Finding | None:
@@ -140,16 +135,21 @@ def of_rows(source: Source, number: int, begin: int, addresses: set[bytes]) -> F
     found = [shown for notation in NOTATIONS for shown in shown_in(source, number, begin, notation)]
     shown = max(found, key=lambda shown: likeness(shown.octets, addresses), default=None)
     if shown is None or not likeness(shown.octets, addresses):
-        shown = next((shown for shown in found if shown.notation.told_by in (ToldBy.ITSELF, ToldBy.PLACE)), None) or \
+        shown = next((shown for shown in found if shown.notation.told_by is ToldBy.ITSELF or
+                      shown.notation.told_by is ToldBy.PLACE and not begin), None) or \
             next((shown for shown in found if is_list(source.line(number)[begin:])), None)
     if shown is None:
         return None
     last = shown.first + len(shown.rows) - 1
-    lines = f" for the lines {source.first + number - 1} to {source.first + last - 1}" if last > number else ""
+    first = number - (not begin and source.line(number - 1).strip() == "A")
+    lines = f" for the lines {source.first + first - 1} to {source.first + last - 1}" if last > first else ""
+    more = sum(map(is_first_place, source.lines[last:])) if shown.rows[0].has_place else 0
+    lines += f"; so in {more} more frame{'s' * (more > 1)} behind it" * (more > 0)
     line, name = source.line(number).rstrip(), shown.notation.name
-    capture = f"; {called.fellow('trace-from-capture')} makes a trace of a capture" if shown.rows[0].has_place else ""
-    return Finding(f"{'this is' if name.startswith('a ') else 'these are'} {name}, and a trace has one line of "
-                   "hexadecimal digits for each frame", source.place(number, begin + 1, len(line) - begin),
+    capture = f"; {of_capture()}" if shown.rows[0].has_place else ""
+    name = f"what tcpdump prints of a frame, {name}" if DUMP_HEAD.match(line) else name
+    return Finding(f"{'this is' if name.startswith(('a ', 'what ')) else 'these are'} {name}, and a trace has one line "
+                   "of hexadecimal digits for each frame", source.place(number, begin + 1, len(line) - begin),
                    advice_for(line[:begin] or word_for(shown.octets, addresses), shown.octets) + lines + capture)
 
 
@@ -180,8 +180,8 @@ def advice_for(before: str, octets: bytes) -> str:
     length = number(octets[RADIOTAP_LEN])
     if octets[:2] == bytes(2) and 8 <= length <= len(octets) - LEAST_FRAME and octets[4:10] != BROADCAST and \
             octets[length] & 3 == 0:
-        return f"write {quoted(before + octets[length:].hex(), MOST_WRITTEN)}, without the {length} octets of radiotap"
-    return f"write {quoted(before + octets.hex(), MOST_WRITTEN)}"
+        return f"write {in_full(before + octets[length:].hex())}, without the {length} octets of radiotap"
+    return f"write {in_full(before + octets.hex())}"
 
 
 def rows_of(source: Source, first: int, begin: int, notation: Notation) -> Iterator[Row]:
@@ -239,13 +239,33 @@ def behind_words(source: Source, number: int, begin: int, bssids: Iterable[str])
     """The digits of a frame behind words of another program: as what it is called with, or behind a name."""
     line = source.line(number).rstrip()
     addresses = {bytes.fromhex(bssid.replace(":", "")) for bssid in bssids} | {BROADCAST}
-    found = RUN.search(line, begin)
+    runs = [run for place in re.finditer(r"(?<![\w.])(?=[0-9A-Fa-f]{2})", line[begin:])
+            if (run := RUN.match(line, begin + place.start()))]
+    found = next((run for run in runs if likeness(bytes.fromhex(run[0].replace(" ", "")), addresses)), None)
     octets = bytes.fromhex(found[0].replace(" ", "")) if found else b""
     before = line[begin:found.start()].strip() if found else ""
-    if not found or not likeness(octets, addresses) or not re.search(r"\w{2}|[=(]", before):
+    is_word = re.search(r"[A-Za-z]{2}|[=(]|\d[.:]\d", before) or begin == 0 and before
+    is_digits = re.fullmatch("[0-9A-Fa-f]+", before.translate(LIKE_LETTERS))
+    if not found or not before.isascii() or not is_word or is_digits and len(before) % 2 == 0 or \
+            is_wrong_header(before.split()) or \
+            re.fullmatch("(?:(?:0x)?[0-9A-Fa-f]{2}[ \t]*)+", before):
         return None
-    return Finding(f"{quoted(before)} stands before the digits of a frame, and a trace has them alone behind their word",
+    return Finding(f"{quoted(before)} stands before the digits of a frame, and a trace has them alone behind their "
+                   f"word",
                    source.place(number, begin + 1, found.start() - begin), advice_for(line[:begin] or "A ", octets))
+
+
+def is_wrong_header(words: list[str]) -> bool:
+    """Whether words are the first fields of a header, but for characters of one of them that are no digits."""
+    wrong, place = [word for word in words if re.search("[^0-9A-Fa-f]", word)], 0
+    if len(words) < LEAST_WORDS or len(wrong) != 1 or any(len(word) % 2 for word in words):
+        return False
+    for word in words:
+        count = fields_in(HEADER[place:], len(word) // 2)
+        if count is None:
+            return False
+        place += count
+    return True
 
 
 def over_lines(source: Source, number: int) -> Finding:
@@ -258,8 +278,8 @@ def over_lines(source: Source, number: int) -> Finding:
     last = f" for the lines {source.first + number - 1} to {source.first + number + len(lines) - 2}"
     write = lines[0] if len(lines) == 1 else "".join(lines).replace(" ", "")
     return Finding("a line begins with its word: `A` for a frame on the air, `W` for one on the wire",
-                   source.place(number, 1, len(lines[0])),
-                   f"write {quoted('A ' + write, MOST_WRITTEN)}{last * (len(lines) > 1)}")
+                   source.place(number, 1, len(lines[0].split(" ")[0])),
+                   f"write {in_full('A ' + write)}{last * (len(lines) > 1)}")
 
 
 def among_marks(source: Source, number: int, begin: int, bssids: Iterable[str]) -> Finding | None:
@@ -273,8 +293,9 @@ def among_marks(source: Source, number: int, begin: int, bssids: Iterable[str]) 
             not likeness(bytes.fromhex(digits), addresses):
         return None
     place = min(line.index(mark, begin) for mark in marks)
-    return Finding(f"{' and '.join(map(quoted, marks))} stand{'s' * (len(marks) == 1)} among the digits of a frame, and "
-                   "spaces alone may", source.place(number, place + 1), advice_for(line[:begin], bytes.fromhex(digits)))
+    return Finding(f"{' and '.join(map(quoted, marks))} stand{'s' * (len(marks) == 1)} among the digits of a frame, "
+                   "and spaces alone may",
+                   source.place(number, place + 1), advice_for(line[:begin], bytes.fromhex(digits)))
 
 
 def whole_frame(source: Source, bssids: Iterable[str]) -> Finding:

@@ -1,20 +1,27 @@
 """Why a line that a network took and read changed nothing there: by what the frame says, and what the tables said
-before it (docs/PROTOCOL.md, "What changes nothing")."""
+before it (docs/FORMATS.md, "What changes nothing")."""
+import re
 from dataclasses import dataclass
 
 from explaining.line_by_line import Step
 from explaining.names import name_reason
-from explaining.past import Past, station_in, whereabouts
+from explaining.past import Past, home_of, station_in, whereabouts
 from explaining.reason import Lack, Reason
-from explaining.unheard import nearest
-from frames import (DATA, DEAUTHENTICATION, DISASSOCIATION, MANAGEMENT, NULL, PLAIN_DATA, PROBE_REQUEST, Frame,
-                    address_text, number)
+from explaining.unheard import is_slip, nearest
+from frames import (ASSOCIATION_REQUEST, AUTHENTICATION, DATA, DEAUTHENTICATION, DISASSOCIATION, MANAGEMENT, NULL,
+                    PLAIN_DATA, PROBE_REQUEST, REASSOCIATION_REQUEST, Frame, address_text, number)
 from in_words import address_word, kind_text
 from reading import SNAP, is_poll, request_of
 from texts import Section, Station
 
 MOST_NAMED, LLC_LEN = 4, 3
 IDENTIFIER = 0x3FFF
+# The beginnings of groups' addresses, and addresses of one router that look like the first of them (RFC 5798).
+GROUPS = {bytes.fromhex("01005e"): "a group of IPv4", bytes.fromhex("3333"): "a group of IPv6",
+          bytes.fromhex("0180c2"): "a group of bridges", bytes([0xFF] * 6): "all"}
+TYPO_LEN = 3  # octets of a beginning that one wrong digit doesn't make another's
+VIRTUAL_ROUTERS = (bytes.fromhex("00005e0001"), bytes.fromhex("00005e0002"))
+JOINING = (AUTHENTICATION, ASSOCIATION_REQUEST, REASSOCIATION_REQUEST)
 
 
 @dataclass(frozen=True)
@@ -44,17 +51,34 @@ class Looked:
 
     def why_not_there(self, address: bytes, state: str = "unknown") -> str:
         """Where a station is that isn't known, or isn't associated."""
-        told = whereabouts(self.step, self.bssid, address, self.past)
+        told = self.past.of(self.bssid, address) or self.past.answered.get((self.bssid, address)) or \
+            whereabouts(self.step, self.bssid, address, self.past)
+        wanted = JOINING if state == "unknown" else JOINING[1:]
+        remark = self.past.remark_of(self.bssid, address, wanted)
         if told:
-            return told
+            return told + remark
+        if remark:
+            return remark.removeprefix("; ")
         like = nearest(address, [station.address for station in self.section.stations])
         if like is not None and state == "unknown" and not self.past.is_own(self.bssid, address):
             return f"{address_text(like)} is one of this network, and nearly the same"
         return "it joined before the trace begins, or never" if state == "unknown" else "it never asked to associate"
 
+    def left(self) -> dict[bytes, int]:
+        """The stations that disassociated, and are known, each with the number of the line by which it did."""
+        told = {station.address: self.past.of(self.bssid, station.address) or "" for station in self.section.stations
+                if station.aid is None}
+        return {address: line_in(text) for address, text in told.items() if text.endswith("by a disassociation")}
+
     def associated(self) -> list[bytes]:
         """The addresses of the stations that are associated."""
         return [station.address for station in self.section.stations if station.aid is not None]
+
+
+def line_in(told: str) -> int:
+    """The number of the line that a text names first."""
+    found = re.search(r"line (\d+)", told)
+    return int(found[1]) if found else 0
 
 
 def nothing(looked: Looked) -> Reason | None:
@@ -83,6 +107,9 @@ def from_wire(looked: Looked, octets: bytes) -> Reason:
         return Reason(f"its destination {address_text(to)} is {own}, and no station's: a network has no use for a "
                       "frame of a wire", (0, 6), "a frame on the wire begins with its destination: "
                       f"{stations_text(looked)} associated" if looked.associated() else None)
+    group = slip_of_group(looked, to)
+    if group:
+        return group
     said = f"it is to {address_word(to)}, which is no station of {looked.section.name} that is associated"
     if source in looked.associated():
         return Reason(f"{said}; its source {address_text(source)} is one: a frame on the wire begins with its "
@@ -97,6 +124,20 @@ def from_wire(looked: Looked, octets: bytes) -> Reason:
         return Reason(f"{said}; {address_text(like)} is, and nearly the same", (0, 6), f"write `{like.hex()}`")
     return Reason(f"{said}: {told or stations_text(looked)}", (0, 6), of_wire(looked, to),
                   None if told else Lack(looked.bssid, to, True))
+
+
+def slip_of_group(looked: Looked, to: bytes, begin: int = 0) -> Reason | None:
+    """A destination that differs from one of the usual groups in the bit that makes it a group, and that no line has as
+    the address of a sender."""
+    if to[0] & 1 or to.startswith(VIRTUAL_ROUTERS) or looked.past.is_named(looked.bssid, to):
+        return None
+    found = next((prefix for prefix in GROUPS if to[0] ^ 1 == prefix[0] and to[1:len(prefix)] == prefix[1:] or
+                  len(prefix) == TYPO_LEN and is_slip(to[:TYPO_LEN].hex(), prefix.hex())), None)
+    if found is None:
+        return None
+    return Reason(f"its destination {address_text(to)} is no group address, since its first octet, {to[0]:02x}, is "
+                  f"even; {GROUPS[found]} begins with {found.hex(':')}", (begin, begin + 6),
+                  f"write `{(found + to[len(found):]).hex()}`")
 
 
 def stations_text(looked: Looked) -> str:
@@ -128,12 +169,21 @@ def poll(looked: Looked, frame: Frame) -> Reason | None:
         return Reason(f"the poll names the identifier {aid}, and the station has {station.aid}{why}", (2, 4),
                       f"write `{own}`")
     past = looked.past
-    woken, emptied, overlooked = (told.get((looked.bssid, station.address), "") for told in (past.woken, past.emptied,
-                                                                                            past.overlooked))
+    woken, emptied, overlooked, missed = (told.get((looked.bssid, station.address), "") for told in (
+        past.woken, past.emptied, past.overlooked, past.missed))
     if not station.doze:
+        is_data = "Data frame" in (overlooked or woken)
         return Reason(f"the station is awake{overlooked or woken}, and a poll brings a unit to one that dozes", (0, 2),
+                      "where it goes on dozing that frame begins with `0811`" if is_data else
                       "a Null that begins with `4811` says before that it dozes")
-    return None if station.kept else Reason(f"no unit is kept for the station{emptied}", (2, 4))
+    of_group = looked.section.kept - sum(row.kept for row in looked.section.stations)
+    group = "; a unit for the group is kept, and no poll brings one: it follows the beacon of a DTIM" * (of_group > 0)
+    if station.kept:
+        return None
+    unit, dozing = line_in(missed), line_in(past.dozing.get((looked.bssid, station.address), ""))
+    is_late = not emptied and "sent at once" in missed and dozing > unit
+    return Reason(f"no unit is kept for the station{emptied or missed}{group}", (2, 4),
+                  f"write line {dozing}, by which the station dozes, before line {unit}" if is_late else None)
 
 
 def mode(looked: Looked, frame: Frame) -> Reason | None:
@@ -143,8 +193,18 @@ def mode(looked: Looked, frame: Frame) -> Reason | None:
     station = looked.station(frame.transmitter)
     if station is None or station.aid is None or station.doze != frame.power_management:
         return None
-    return Reason(f"the station says that it {'dozes' if station.doze else 'is awake'}, and it "
-                  f"{'dozed' if station.doze else 'was awake'} before", (1, 2),
+    said = f"the station says that it {'dozes' if station.doze else 'is awake'}, and it " \
+        f"{'dozed' if station.doze else 'was awake'} before"
+    same = looked.past.before.get(frame.octets)
+    others = [row.address for row in looked.section.stations if row.aid is not None and row.doze != station.doze]
+    other = others[0] if others else None
+    if same and other:
+        return Reason(f"{said}: this line is a copy of line {same}, octet for octet, Address 2 too", (10, 16),
+                      f"where {address_text(other)} was meant, which {'is awake' if station.doze else 'dozes'}, write "
+                      f"`{other.hex()}`")
+    more = "; `20` is More Data, which isn't read, and Power Management is `10`" if frame.more_data and \
+        not frame.power_management else ""
+    return Reason(said + more, (1, 2),
                   f"`{'4801' if station.doze else '4811'}` says that it {'is awake' if station.doze else 'dozes'}")
 
 
@@ -161,8 +221,10 @@ def leaving(looked: Looked, frame: Frame) -> Reason | None:
     """A departure of a station that isn't there."""
     station = looked.station(frame.transmitter)
     if frame.subtype == DEAUTHENTICATION and station is None:
+        home = home_of(looked.step, looked.bssid, frame.transmitter)
+        other = looked.step.before[home] if home and not looked.past.of(looked.bssid, frame.transmitter) else None
         return Reason(f"{address_text(frame.transmitter)} is unknown: {looked.why_not_there(frame.transmitter)}",
-                      (10, 16))
+                      (10, 16), f"to {other.name} Address 1 and Address 3 are `{other.bssid.hex()}`" if other else None)
     if frame.subtype == DISASSOCIATION and station is not None and station.aid is None:
         return Reason(f"{address_text(frame.transmitter)} isn't associated: "
                       f"{looked.why_not_there(frame.transmitter, 'authenticated')}", (10, 16))

@@ -1,6 +1,8 @@
 """Why a request is answered by a notice: its class isn't allowed in the state of its station (docs/PROTOCOL.md,
 "Stations that come and go"), and what would have come before it."""
-from explaining.nothing import Looked
+import re
+
+from explaining.nothing import JOINING, Looked
 from explaining.past import home_of, whereabouts
 from explaining.reason import Lack, Reason
 from explaining.refused import Refusal
@@ -9,6 +11,10 @@ from frames import (ASSOCIATION_REQUEST, DATA, DEAUTHENTICATION, MANAGEMENT, REA
 from in_words import kind_text, name_in
 
 ASSOCIATIONS = (ASSOCIATION_REQUEST, REASSOCIATION_REQUEST)
+UNMASK = "take the `#` of that line away"
+# What the past tells of a request that failed.
+IN_VAIN = re.compile(r"(?P<what>an authentication|an? (?:re)?association request) of it, in line (?P<line>\d+), "
+                     r"(?P<how>was refused|can't be read).*")
 RECEIVER, SENDER = (4, 10), (10, 16)
 
 
@@ -20,13 +26,15 @@ def notice(refusal: Refusal, looked: Looked, station: bytes) -> Reason:
     if frame.type == DATA and frame.third in looked.associated():
         return Reason(f"{said}; Address 3, {address_text(frame.third)}, is one that is associated: the sender comes "
                       "first, then the destination", (10, 22), f"write `{frame.third.hex()} {station.hex()}`")
+    remark = looked.past.remark_of(looked.bssid, station, JOINING[1:] if is_known else JOINING)
     if is_known:
-        return Reason(f"{said}: {looked.why_not_there(station, 'authenticated')}", SENDER, "it has to associate before")
+        return Reason(f"{said}: {looked.why_not_there(station, 'authenticated')}", SENDER,
+                      UNMASK if remark else why_in_vain(looked, station) or "it has to associate before")
     home = home_of(looked.step, looked.bssid, station)
     is_to_other = home is not None and frame.type == MANAGEMENT and looked.past.of(looked.bssid, station) is None
     span = RECEIVER if is_to_other else SENDER
     told = whereabouts(looked.step, looked.bssid, station, looked.past)
-    return Reason(f"{said}: {why_unknown(looked, frame)}", span, what_first(looked, frame, home),
+    return Reason(f"{said}: {why_unknown(looked, frame)}", span, UNMASK if remark else what_first(looked, frame, home),
                   None if told else Lack(looked.bssid, station, frame.type == DATA))
 
 
@@ -34,10 +42,13 @@ def why_unknown(looked: Looked, frame: Frame) -> str:
     """Why a network doesn't know a sender: what became of it, where else it is, and whom it may be."""
     station, here = frame.transmitter, looked.section.name
     told = whereabouts(looked.step, looked.bssid, station, looked.past)
+    remark = looked.past.remark_of(looked.bssid, station, JOINING)
     if told:
-        return told if looked.past.of(looked.bssid, station) else f"{told}, and this is to {here}"
+        return (told if looked.past.of(looked.bssid, station) else f"{told}, and this is to {here}") + remark
+    if remark:
+        return remark.removeprefix("; ")
     said = f"no line before has it authenticate to {here}" if frame.type == MANAGEMENT else \
-        "it joined before the trace begins, or never"
+        looked.past.answered.get((looked.bssid, station), "it joined before the trace begins, or never")
     like = alike(looked, frame)
     return said + (f"; {address_text(like)} is one of this network, and nearly the same" if like else "")
 
@@ -49,10 +60,29 @@ def alike(looked: Looked, frame: Frame) -> bytes | None:
     return None if looked.past.is_own(looked.bssid, frame.transmitter) else nearest(frame.transmitter, rows)
 
 
+def why_in_vain(looked: Looked, station: bytes) -> str | None:
+    """Why the line before, by which a station asks for what it lacks, did nothing; None where there is no such line."""
+    found = IN_VAIN.fullmatch(looked.past.of(looked.bssid, station) or "")
+    if found is None:
+        return None
+    number, why = looked.past.refusals.get((looked.bssid, station), (0, ""))
+    if found["how"] != "was refused":
+        bssid = looked.bssid.hex()
+        right = f", as `A b000 0000 {bssid} {station.hex()} {bssid} 0000 0000 0100 0000`" * ("auth" in found["what"])
+        return f"line {found['line']} asks for it, and can't be read; mend that line{right}"
+    return f"line {found['line']} asks for it, and was refused since {why}" if number == int(found["line"]) else None
+
+
 def what_first(looked: Looked, frame: Frame, home: bytes | None) -> str:
-    """What would have been served: the same to the network where the station is, or what comes before it here."""
-    station, bssid = frame.transmitter.hex(), looked.bssid.hex()
+    """What would have been served: the same of the station of nearly this address, or to the network where the station
+    is, or what comes before it here."""
+    station, bssid, like = frame.transmitter.hex(), looked.bssid.hex(), alike(looked, frame)
+    vain = why_in_vain(looked, frame.transmitter)
+    if vain:
+        return vain
     other = looked.step.before[home] if home else None
+    if like and other is None:
+        return f"where that one is meant write `{like.hex()}`"
     if frame.type != MANAGEMENT:
         return f"to {other.name} Address 1 is `{other.bssid.hex()}`; here it has to authenticate and associate before" \
             if other else "it has to authenticate and associate before"

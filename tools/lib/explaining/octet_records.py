@@ -1,4 +1,4 @@
-"""What a fault of a record of `live --octets` comes of (docs/PROTOCOL.md, "Lines as they come")."""
+"""What a fault of a record of `live --octets` comes of (docs/FORMATS.md, "Lines as they come")."""
 import re
 from typing import Literal, NamedTuple
 
@@ -81,7 +81,7 @@ def explain(given: bytes, fault: Fault, bssids: list[str]) -> list[Finding]:
         return [layout]
     if re.fullmatch(rb"[^\0-\x08\x0e-\x1f\x7f-\xff]+", given):
         return [Finding("standard input is text, and `live --octets` reads records, which have octets that no text has",
-                        None, f"{called.document('LIVE.md')} says how a record is written")]
+                        None, f"{called.document('FORMATS.md')} says how a record is written")]
     whole, rest = cut(given)
     number = fault.line or 0
     if number == len(whole) + 1 and rest:

@@ -5,7 +5,7 @@ from collections.abc import Iterable
 from typing import NamedTuple
 
 import called
-from explaining.config import Config
+from explaining.configuration import Config
 from explaining.keys import NETWORK_KEYS, RADIO_KEYS, meant
 from explaining.source import Finding, Source
 
@@ -44,7 +44,7 @@ CONFIGURED = (
     writer(r"(?:wl|ath|ra|eth)\d+(?:[._]\d+)?_\w+=.*", "a list of variables (NVRAM) of a router, as DD-WRT has it", 2),
     writer(r"\[(?:General|Security|Match|Link|IPv4|IPv6|Network|Service|Unit|Settings)\]\r?",
            "a file of sections, as iwd and systemd have it"),
-    writer(r"\s*[\w.-]+ = (?:\{|\[|[^#]*;\s*)$", "a text with braces and semicolons, as NixOS has it", 2),
+    writer(r"\s*[\w.-]+ = (?:\{|\[)\s*|\s*[\]}];\s*", "a text with braces and semicolons, as NixOS has it", 2),
 )
 # Programs that show or log something.
 SHOWING = (
@@ -106,7 +106,7 @@ def of_configured(source: Source, number: int) -> Finding | None:
 
 def own_sample() -> str:
     """Where a configuration of this program is."""
-    return f"{called.document('PROTOCOL.md')} has a configuration to copy"
+    return f"{called.document('FORMATS.md')} has a configuration to copy"
 
 
 def of_shown(source: Source, number: int) -> Finding | None:

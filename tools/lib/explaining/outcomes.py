@@ -1,31 +1,35 @@
 """What is said of the lines of a run that ended well, one by one: those that no network took or read, those that
 changed nothing, those that were refused, and those that lost something. Whether a line did something is told by the
 program, by way of `live`; the reason is looked for beside that."""
+import re
 from collections.abc import Iterable, Iterator
 from dataclasses import dataclass, field, replace
 from enum import Enum
 
 from explaining.changes import has_effect
-from explaining.config import NetworkTable
+from explaining.check_sequences import ends_with_fcs
+from explaining.configuration import NetworkTable
+from explaining.intervals import brings_beacons_alone
 from explaining.line_by_line import Step
 from explaining.losses import losses
-from explaining.meant import doubtful
+from explaining.meant import Relay, doubts
 from explaining.notations import other_numbers
 from explaining.nothing import Looked, nothing
 from explaining.notices import notice
-from explaining.past import Past
-from explaining.reason import Reason
+from explaining.past import Past, station_in
+from explaining.reason import Lack, Reason
 from explaining.refused import limit, refusal_of, refused
 from explaining.source import Finding, Place, Source
 from explaining.spans import place_of_octets
 from explaining.unheard import unheard
 from explaining.unread import unread, wired_unread
 from explaining.written import Known, misfit, preamble
-from frames import Frame, address_text
+from frames import BROADCAST, PROBE_REQUEST, Frame, address_text
 from reading import unread_kind, wired_unread_kind
 from texts import Line
 
 MOST_GROUPS, MOST_ALSO = 6, 5
+IN_REMARK = re.compile(r"[#\s]*#\s*A +((?:[0-9A-Fa-f] *){32,})")
 DOUBT = "it may not say what is meant"
 
 
@@ -62,17 +66,22 @@ class Said:
 class Outcomes:
     """The groups, in the order of their first lines."""
 
-    def __init__(self, trace: Source, tables: dict[bytes, NetworkTable], lines: Iterable[Line] = ()) -> None:
-        self.trace, self.tables = trace, tables
-        self.past = Past(lambda number: trace.first + number - 1, lines)
+    def __init__(self, trace: Source, tables: dict[bytes, NetworkTable], lines: Iterable[Line] = (),
+                 has_sums: bool = True, config: Source | None = None) -> None:
+        """`has_sums` where some kinds of lines are told of in sum beside these, `config` the text of the tables."""
+        self.trace, self.tables, self.has_sums, self.config = trace, tables, has_sums, config
+        self.past = Past(lambda number: trace.first + number - 1, lines, frames_in_remarks(trace))
         self.groups: dict[tuple[What, str, str], Group] = {}
         self.left_out: list[Line] = []
+        self.idle: set[int] = set()
 
     def take(self, step: Step, full: frozenset[bytes] = frozenset()) -> None:
         """Looks at a line; networks whose history is full take nothing any more."""
         for said in self.of_step(step, full):
             key = said.what, said.head, said.reason.text
             self.groups.setdefault(key, Group(said.what, said.head, said.reason)).lines.append(step.line)
+        if brings_beacons_alone(step):
+            self.idle.add(step.line.number)
         self.past.note(step)
 
     def of_step(self, step: Step, full: frozenset[bytes] = frozenset()) -> Iterator[Said]:
@@ -82,8 +91,9 @@ class Outcomes:
             misfit(text, step.line, Known(step.before, self.past.seen))
         told = False
         for said in self.of_effects(step, full, slip is not None):
+            if not (told and slip):
+                yield replace(said, reason=slip or said.reason)
             told = True
-            yield replace(said, reason=slip or said.reason)
         if slip and not told and not full:
             yield Said(What.DOUBTFUL, DOUBT, slip) if step.after is not step.before else \
                 Said(What.UNTAKEN, "no network takes it", slip)
@@ -113,8 +123,7 @@ class Outcomes:
         """What may not be meant of a frame that did something."""
         line = looked.step.line
         rule = wired_unread_kind(line.octets) if line.kind == "W" else unread_kind(looked.bssid, line.octets)
-        reason = doubtful(looked, self.relays(looked)) if rule is None else None
-        if reason:
+        for reason in doubts(looked, self.relay(looked)) if rule is None else ():
             yield Said(What.DOUBTFUL, DOUBT, reason)
 
     def of_silence(self, looked: Looked, is_slip: bool) -> Said | None:
@@ -122,11 +131,20 @@ class Outcomes:
         line, network = looked.step.line, network_text(looked)
         if looked.step.after[looked.bssid].unread > looked.section.unread:
             rule, reason = (wired_unread_kind(line.octets), wired_unread(looked.bssid, line.octets)) \
-                if line.kind == "W" else (unread_kind(looked.bssid, line.octets), unread(looked.bssid, line.octets))
-            is_summed = line.kind == "A" and not is_slip and is_told_in_sum(looked.bssid, line.octets, rule)
+                if line.kind == "W" else (unread_kind(looked.bssid, line.octets),
+                                          unread(looked.bssid, line.octets, current_of(looked)))
+            is_summed = line.kind == "A" and not is_slip and (
+                self.has_sums and is_told_in_sum(looked.bssid, line.octets, rule) or
+                self.is_anothers(looked.bssid, line.octets))
             return Said(What.UNREAD, f"{network} can't read it ({rule})", reason) if reason and not is_summed else None
         reason = nothing(looked)
         return Said(What.NOTHING, f"it changes nothing in {network}", reason) if reason else None
+
+    def is_anothers(self, bssid: bytes, octets: bytes) -> bool:
+        """Whether a probe request to all has another network's BSSID as Address 3, so that it is that one's alone."""
+        frame = Frame(octets)
+        return frame.is_management(PROBE_REQUEST) and frame.receiver == BROADCAST and frame.third != bssid and \
+            frame.third in self.tables
 
     def of_answers(self, step: Step, looked: Looked) -> Iterator[Said]:
         """What a network refused or lost."""
@@ -135,19 +153,25 @@ class Outcomes:
             refusal = None if sent.is_wired or sent.bssid != looked.bssid else refusal_of(sent.octets)
             if refusal and step.line.kind == "A":
                 station = Frame(step.line.octets).transmitter
-                reason = refused(refusal, step.line.octets, table, looked.names(), looked.bssid,
-                                 looked.homes(station)) if refusal.is_status else notice(refusal, looked, station)
+                reason = refused(refusal, step.line.octets, table, looked.names(), looked.bssid, looked.homes(station),
+                                 looked.left()) if refusal.is_status else notice(refusal, looked, station)
+                if reason and refusal.is_status:
+                    self.past.refusals[looked.bssid, station] = (
+                        self.past.line_number(step.line.number), re.split("[:;] ", reason.text)[0])
                 if reason:
                     yield Said(What.REFUSED, f"{network_text(looked)}: {refusal.what()}, of {address_text(station)}",
                                reason)
-        for reason in losses(looked, self.relays(looked), limit(table, "quota")):
+        for reason in losses(looked, self.relay(looked).is_on, limit(table, "quota")):
             yield Said(What.LOST, f"{network_text(looked)} loses a unit", reason)
 
-    def relays(self, looked: Looked) -> bool:
-        """Whether a network relays between its stations."""
+    def relay(self, looked: Looked) -> Relay:
+        """Whether a network relays between its stations, and where that is said."""
         table = self.tables.get(looked.bssid)
-        relay = table.entries.get("relay") if table else None
-        return relay is None or relay.value.worth is not False
+        entry = table.entries.get("relay") if table else None
+        if entry is None or self.config is None:
+            return Relay(entry is None or entry.value.worth is not False)
+        line = self.config.first + self.config.at(entry.begin, entry.end).line - 1
+        return Relay(entry.value.worth is not False, f" in {self.config.name}, line {line},")
 
     def numbers_told(self, what: What) -> set[int]:
         """The numbers of the lines of which this is said."""
@@ -187,9 +211,21 @@ class Outcomes:
         return f"line{'s' * (len(numbers) > 1)} {text}"
 
 
+def frames_in_remarks(trace: Source) -> Iterator[tuple[int, Frame]]:
+    """The frames on the air that stand in remarks, as lines that were taken out so, with the numbers of their lines."""
+    for number, line in enumerate(trace.lines, 1):
+        found = IN_REMARK.fullmatch(line.rstrip())
+        digits = found[1].replace(" ", "") if found else ""
+        if digits and len(digits) % 2 == 0:
+            yield number, Frame(bytes.fromhex(digits))
+
+
 def is_told_in_sum(bssid: bytes, octets: bytes, rule: str | None) -> bool:
-    """Whether all frames of a kind are told of at once: those of QoS, and those that a network sent itself."""
-    return rule == "U3" and Frame(octets).is_qos or rule == "U6" and Frame(octets).transmitter == bssid
+    """Whether all frames of a kind are told of at once: those of QoS, those with their check sequence, and those that a
+    network sent itself, but for one that is to itself too."""
+    frame = Frame(octets)
+    return rule == "U3" and frame.is_qos or rule == "U6" and frame.transmitter == bssid != frame.receiver or \
+        ends_with_fcs(octets)
 
 
 def network_text(looked: Looked) -> str:
@@ -197,6 +233,20 @@ def network_text(looked: Looked) -> str:
     name = looked.section.name
     is_one = sum(section.name == name for section in looked.step.before.values()) == 1
     return name if is_one else f"{name} ({address_text(looked.bssid)})"
+
+
+def current_of(looked: Looked) -> bytes | None:
+    """The network with which the sender of a frame is associated, the last one that it joined; None where it is with
+    none."""
+    station = Frame(looked.step.line.octets).transmitter
+    homes = [bssid for bssid in looked.homes(station)
+             if (row := station_in(looked.step.before[bssid], station)) and row.aid is not None]
+
+    def when_joined(bssid: bytes) -> tuple[bool, int]:
+        """Whether it is another network than the one that reads the frame, and the line by which it was joined."""
+        return bssid != looked.bssid, looked.past.arrivals.get(Lack(bssid, station, True), 0)
+
+    return max(homes, key=when_joined) if homes else None
 
 
 def merged(said: list[Said | None]) -> list[Said]:

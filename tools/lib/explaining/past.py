@@ -1,10 +1,13 @@
 """What became of each station in each network: the line in which it lost what it had, or was refused."""
+from bisect import bisect_right
 from collections.abc import Callable, Iterable
 
 from explaining.line_by_line import Step
 from explaining.reason import Lack
-from explaining.refused import refusal_of
-from frames import AUTHENTICATION, DATA, DISASSOCIATION, MANAGEMENT, Frame, address_text
+from explaining.refused import NOTICES, refusal_of
+from frames import (ASSOCIATION_REQUEST, AUTHENTICATION, DATA, DEAUTHENTICATION, DISASSOCIATION, MANAGEMENT,
+                    REASSOCIATION_REQUEST, Frame, address_text)
+from fields import MANAGEMENT_NAMES
 from in_words import kind_text, status_text
 from reading import unread_kind
 from texts import Line, Section, Station
@@ -21,14 +24,42 @@ class Past:
     """The last of these of each station in each network, in words, and who has sent anything: an address that was seen,
     or that asks a network later, isn't a slip of another one."""
 
-    def __init__(self, line_number: Callable[[int], int], lines: Iterable[Line] = ()) -> None:
+    def __init__(self, line_number: Callable[[int], int], lines: Iterable[Line] = (),
+                 remarks: Iterable[tuple[int, Frame]] = ()) -> None:
+        """`lines` are all of the trace, `remarks` the frames that stand in remarks, with the numbers of their lines."""
         self.line_number = line_number
-        self.asking = {frame.octets[4:16] for line in lines if line.kind == "A" and len(line.octets) >= LEAST_LENGTH
-                       if (frame := Frame(line.octets)).is_management(AUTHENTICATION)}
+        lines = list(lines)
+        frames = [(line.number, Frame(line.octets)) for line in lines
+                  if line.kind == "A" and len(line.octets) >= LEAST_LENGTH]
+        self.asking = {frame.octets[4:16] for _, frame in frames if frame.is_management(AUTHENTICATION)}
+        self.sending: dict[bytes, list[tuple[int, Frame]]] = {}
+        for number, frame in frames:
+            self.sending.setdefault(frame.octets[4:16], []).append((number, frame))
+        self.has_deauthentications = any(frame.is_management(DEAUTHENTICATION) for _, frame in frames)
+        self.last_to = {frame.octets[4:10]: number for number, frame in frames}
+        self.last_dozing = {frame.octets[4:16]: number for number, frame in frames
+                            if frame.type == DATA and frame.power_management}
+        self.units: dict[bytes, list[int]] = {}
+        for line in lines:
+            if line.kind == "W":
+                self.units.setdefault(line.octets[:6], []).append(line.number)
+            elif line.kind == "A" and len(line.octets) >= LEAST_LENGTH and Frame(line.octets).type == DATA:
+                self.units.setdefault(Frame(line.octets).third, []).append(line.number)
+        self.remarks = {(frame.octets[4:10], frame.transmitter, frame.subtype): number for number, frame in remarks
+                        if frame.type == MANAGEMENT}
+        self.before: dict[bytes, int] = {}
+        self.coming = {Lack(frame.octets[4:10], frame.transmitter, True): line_number(number)
+                       for number, frame in frames if frame.is_management(ASSOCIATION_REQUEST)}
+        self.hosts = {line.octets[6:12] for line in lines if line.kind == "W"}
         self.told: dict[tuple[bytes, bytes], str] = {}
+        self.answered: dict[tuple[bytes, bytes], str] = {}
+        self.refusals: dict[tuple[bytes, bytes], tuple[int, str]] = {}
+        self.group_units: dict[bytes, list[Line]] = {}
         self.woken: dict[tuple[bytes, bytes], str] = {}
         self.emptied: dict[tuple[bytes, bytes], str] = {}
         self.overlooked: dict[tuple[bytes, bytes], str] = {}
+        self.missed: dict[tuple[bytes, bytes], str] = {}
+        self.dozing: dict[tuple[bytes, bytes], str] = {}
         self.seen: set[bytes] = set()
         self.arrivals: dict[Lack, int] = {}
 
@@ -40,12 +71,66 @@ class Past:
         """Whether an address isn't a slip of another one: it was seen, or authenticates to this network."""
         return address in self.seen or bssid + address in self.asking
 
+    def next_frame(self, bssid: bytes, station: bytes, number: int) -> tuple[int, Frame] | None:
+        """The next frame of a station to a network behind this line, with the number of its line."""
+        frames = self.sending.get(bssid + station, [])
+        at = bisect_right(frames, number, key=lambda pair: pair[0])
+        return (self.line_number(frames[at][0]), frames[at][1]) if at < len(frames) else None
+
+    def first_sent(self, bssid: bytes, frame: Frame, number: int) -> int | None:
+        """The line before this one of which a frame with Retry 1 is a repetition: of the same kind, and with the same
+        sequence number."""
+        return next((self.line_number(other) for other, earlier in self.sending.get(bssid + frame.transmitter, [])
+                     if other < number and earlier.octets[0] == frame.octets[0] and
+                     earlier.sequence_control == frame.sequence_control), None) if frame.retry else None
+
+    def next_unit(self, station: bytes, number: int) -> int | None:
+        """The line behind this one that has the next unit for a station."""
+        numbers = self.units.get(station, [])
+        at = bisect_right(numbers, number)
+        return self.line_number(numbers[at]) if at < len(numbers) else None
+
+    def dozes_behind(self, bssid: bytes, station: bytes, number: int) -> bool:
+        """Whether a station says to a network behind this line that it dozes."""
+        return self.last_dozing.get(bssid + station, 0) > number
+
+    def never_authenticate(self, bssid: bytes) -> list[bytes]:
+        """The stations that send a network what asks for an authentication before, and have no line of one."""
+        return [pair[6:] for pair, frames in self.sending.items() if pair[:6] == bssid
+                and any(frame.type != MANAGEMENT or frame.is_management(ASSOCIATION_REQUEST) for _, frame in frames)
+                and not any(frame.is_management(AUTHENTICATION) for _, frame in frames)]
+
+    def is_named(self, bssid: bytes, address: bytes) -> bool:
+        """Whether a line has an address as that of a sender on the air or on a wire."""
+        return self.is_own(bssid, address) or address in self.hosts or \
+            any(pair[6:] == address for pair in self.sending)
+
+    def never_joins(self, bssid: bytes, station: bytes) -> bool:
+        """Whether no line of a station asks a network to associate."""
+        return not any(frame.type == MANAGEMENT and frame.subtype in (ASSOCIATION_REQUEST, REASSOCIATION_REQUEST)
+                       for _, frame in self.sending.get(bssid + station, []))
+
+    def remark_of(self, bssid: bytes, station: bytes, subtypes: Iterable[int]) -> str:
+        """That a remark holds a request of a station to a network; nothing where none does."""
+        found = next(((subtype, self.remarks[bssid, station, subtype]) for subtype in subtypes
+                      if (bssid, station, subtype) in self.remarks), None)
+        return "" if found is None else f"; its {MANAGEMENT_NAMES[found[0]]} stands in line " \
+            f"{self.line_number(found[1])}, which is a remark, since it begins with `#`"
+
+    def joins_next(self, bssid: bytes, station: bytes, number: int) -> bool:
+        """Whether the next frame of a station to a network, behind this line, asks to associate or is another
+        authentication."""
+        found = self.next_frame(bssid, station, number)
+        return found is not None and found[1].type == MANAGEMENT and found[1].subtype in (
+            ASSOCIATION_REQUEST, REASSOCIATION_REQUEST, AUTHENTICATION)
+
     def note(self, step: Step) -> None:
         """Looks at what a line brought its sender, and whose units left."""
         self.note_modes(step)
         if step.line.kind != "A" or len(step.line.octets) < LEAST_LENGTH:
             return
         station = Frame(step.line.octets).transmitter
+        self.before[step.line.octets] = self.line_number(step.line.number)
         self.seen.add(station)
         for bssid, after in step.after.items():
             before = step.before[bssid]
@@ -53,6 +138,9 @@ class Past:
                 self.failure(step, bssid, station) if after is not before else None
             if told:
                 self.told[bssid, station] = told
+            answered = self.notice(step, bssid, station) if after is not before else None
+            if answered:
+                self.answered[bssid, station] = answered
             if after is not before:
                 self.note_arrival(step, station_in(before, station), station_in(after, station), bssid)
 
@@ -63,8 +151,11 @@ class Past:
         frame, number = Frame(step.line.octets), self.line_number(step.line.number)
         if before is None:
             self.arrivals[Lack(bssid, after.address, False)] = number
+            self.told.pop((bssid, after.address), None)
         if after.aid is not None and (before is None or before.aid is None):
             self.arrivals[Lack(bssid, after.address, True)] = number
+            self.told.pop((bssid, after.address), None)
+            self.answered.pop((bssid, after.address), None)
         if frame.type == DATA:
             self.overlooked.pop((bssid, after.address), None)
         elif frame.type == MANAGEMENT and frame.power_management:
@@ -77,15 +168,37 @@ class Past:
         what = "associates" if lacks.is_associated else "authenticates"
         return f"; it {what} after that, in line {there}" if there > self.line_number(number) else ""
 
+    def asks_later(self, lacks: Lack, number: int) -> str:
+        """In which line after this one a station asks for what it lacks; nothing where it doesn't."""
+        wanted = (ASSOCIATION_REQUEST, REASSOCIATION_REQUEST) if lacks.is_associated else (AUTHENTICATION,)
+        there = next((other for other, frame in self.sending.get(lacks.bssid + lacks.station, [])
+                      if other > number and frame.type == MANAGEMENT and frame.subtype in wanted), None)
+        what = "associate" if lacks.is_associated else "authenticate"
+        return "" if there is None else f"; it asks to {what} after that, in line {self.line_number(there)}"
+
+    def note_group(self, step: Step, bssid: bytes) -> None:
+        """Notes the lines whose units for the group are kept, the last of them where some were sent."""
+        before, after = group_kept(step.before[bssid]), group_kept(step.after[bssid])
+        units = self.group_units.setdefault(bssid, [])
+        if after > before:
+            units.append(step.line)
+        elif after < before:
+            del units[:len(units) - after]
+
     def note_modes(self, step: Step) -> None:
         """Notes which stations are awake from this line on, and for which no unit is kept any more."""
         number = self.line_number(step.line.number)
         for bssid, after in step.after.items():
             if after is step.before[bssid]:
                 continue
+            self.note_missed(step, bssid, number)
+            self.note_group(step, bssid)
             rows = {row.address: row for row in after.stations}
             for before in step.before[bssid].stations:
                 row = rows.get(before.address)
+                if row and row.doze and not before.doze:
+                    self.dozing[bssid, row.address] = f"dozes since line {number}, by " \
+                        f"{kind_text(step.line.octets)} of it"
                 if row and before.doze and not row.doze:
                     self.woken[bssid, row.address] = f", by {kind_text(step.line.octets)} of it in line {number}"
                 if row and before.kept and not row.kept:
@@ -93,6 +206,18 @@ class Past:
                     is_own = step.line.kind == "A" and Frame(step.line.octets).transmitter == row.address
                     by = f", by {kind_text(step.line.octets)} of it" if is_own and what == "was dropped" else ""
                     self.emptied[bssid, row.address] = f": the last one {what} in line {number}{by}"
+
+    def note_missed(self, step: Step, bssid: bytes, number: int) -> None:
+        """Notes for which station a unit was lost, or was sent at once."""
+        to = step.line.octets[:6] if step.line.kind == "W" else Frame(step.line.octets).third
+        before, after = station_in(step.before[bssid], to), station_in(step.after[bssid], to)
+        if before is None or after is None or before.kept != after.kept or after.aid is None:
+            return
+        if step.after[bssid].lost > step.before[bssid].lost:
+            self.missed[bssid, to] = f": the unit of line {number} was lost"
+        elif not before.doze and any(sent.bssid == bssid and Frame(sent.octets).receiver == to and
+                                     Frame(sent.octets).type == DATA for sent in step.sent if not sent.is_wired):
+            self.missed[bssid, to] = f": the unit of line {number} was sent at once, since the station was awake"
 
     def change(self, step: Step, before: Station | None, after: Station | None) -> str | None:
         """What a line took from a station."""
@@ -109,6 +234,18 @@ class Past:
         return f"it authenticated again in line {number}, and has to associate again" if \
             frame.is_management(AUTHENTICATION) else None
 
+    def notice(self, step: Step, bssid: bytes, station: bytes) -> str | None:
+        """That a station asked to associate, and was answered by a notice."""
+        frame = Frame(step.line.octets)
+        if frame.type != MANAGEMENT or frame.subtype not in (ASSOCIATION_REQUEST, REASSOCIATION_REQUEST):
+            return None
+        for sent in step.sent:
+            refusal = refusal_of(sent.octets) if sent.bssid == bssid and not sent.is_wired else None
+            if refusal and not refusal.is_status and Frame(sent.octets).receiver == station:
+                return f"{kind_text(step.line.octets)} of it, in line {self.line_number(step.line.number)}, was " \
+                    f"answered by a {NOTICES[refusal.kind]}, reason {refusal.code}: it wasn't authenticated"
+        return None
+
     def failure(self, step: Step, bssid: bytes, station: bytes) -> str | None:
         """What a station asked for in vain."""
         number, octets = self.line_number(step.line.number), step.line.octets
@@ -120,6 +257,11 @@ class Past:
         if step.after[bssid].unread > step.before[bssid].unread and rule and Frame(octets).type == 0:
             return f"{kind_text(octets)} of it, in line {number}, can't be read ({rule})"
         return None
+
+
+def group_kept(section: Section) -> int:
+    """How many units a network keeps for the group."""
+    return section.kept - sum(station.kept for station in section.stations)
 
 
 def has_data(step: Step, bssid: bytes) -> bool:

@@ -1,18 +1,30 @@
 """Lines that belong to no configuration and no trace, and how they came there: marks of git, zeros, pages of HTML, what
 the program answers, and words that stand for octets."""
 import html
+import quopri
 import re
+import unicodedata
+from collections.abc import Callable, Iterable
 
 import called
+from explaining.likeness import MOST_LIKE, likeness
 from explaining.other_programs import of_listing
-from explaining.source import Finding, Source, quoted
+from explaining.source import Finding, Source, in_full, quoted
+from frames import BROADCAST
 
 MERGE_MARK = re.compile(r"(?:<{7}|>{7}|\|{7})(?: .*)?|={7}")
 PATCH_HEAD = re.compile(r"diff --git |index [0-9a-f]{7,}\.\.|(?:---|\+\+\+) [\w/.]|@@ -\d")
 PATCHED = re.compile(r"[+-]\s*[\w\[\"#]")
-PROMPT = re.compile(r"(?:[\w.-]+@[\w.-]+:?\S*)?[$%] +[a-z./~][\w./-]*(?: .*)?|[\w.-]+@[\w.-]+:[~/]\S*# .*")
+# A command of a shell: a path, or one of those that people use to show and edit texts.
+COMMANDS = r"(?:(?:\.{0,2}|~|[\w.-]+)/[\w./-]+|cat|cd|ls|vi|vim|nano|less|head|tail|grep|sed|apctl|sudo|echo|make)"
+HOST = r"(?:[\w.-]+@[\w.-]+:?\S*)?"
+PROMPT = re.compile(rf"{HOST}\$ +[a-z./~][\w./-]*(?: .*)?|{HOST}% +{COMMANDS}(?: .*)?|[\w.-]+@[\w.-]+:[~/]\S*# .*")
 FENCE = re.compile(r"\s*(?:`{3}|~{3}).*")
-LEAST_PATCHED = 2
+LEAST_PATCHED, MOST_AROUND = 2, 8
+TAG = re.compile(r"</?(?:br|p|pre|code|span|div|td|tr|th|table|b|i|u|tt|li|ul|ol|a|em|strong|html|body|font|kbd|samp)"
+                 r"(?: [^<>]*)?/?>", re.I)
+COLOURS = re.compile("\x1b\\[[0-9;]*[A-Za-z]")
+HERE_DOCUMENT = re.compile(r"(?:sudo +)?(?:cat|tee|apctl|build/apctl)\b.*<<-? *[\"']?\w+[\"']?.*|EOF|EOT|HERE")
 ENTITY = re.compile(r"&(?:quot|amp|lt|gt|apos|nbsp|#\d+);")
 ANSWER = re.compile(r"ok \d+|(?:air|wire) [0-9a-f]{2}(?::[0-9a-f]{2}){5} [0-9a-f]*|fault \S+ line \d+.*")
 # What stands for octets: a variable of a shell, a place of a template, a word in capitals as pages have it, or crosses.
@@ -29,6 +41,16 @@ def foreign(source: Source, number: int) -> Finding | None:
                        "keep one of them, and take the marks `<<<<<<<`, `=======` and `>>>>>>>` out")
     if "\0" in line:
         return zeros(source, number)
+    control = next((letter for letter in line.rstrip("\r")
+                    if unicodedata.category(letter) == "Cc" and letter not in "\t\r"), None)
+    if control:
+        return of_control(source, number, line, control)
+    if HERE_DOCUMENT.fullmatch(line.strip()):
+        return around(source, number, "this is a line of a shell around a text (a here-document), copied along with "
+                      "it", lambda other: bool(HERE_DOCUMENT.fullmatch(other.strip())))
+    mail = of_mail(source, number)
+    if mail:
+        return mail
     if PATCH_HEAD.match(line):
         return Finding("this is a line of a patch (diff), which git or diff writes", whole,
                        "`patch` applies one to the text that it is of")
@@ -36,18 +58,43 @@ def foreign(source: Source, number: int) -> Finding | None:
         return Finding("a mark of a patch (diff) stands before this line", source.place(number, 1),
                        "`patch` applies one; else take the lines with `-` out, and each `+`")
     if FENCE.fullmatch(line):
-        return Finding("this marks a piece of code in Markdown, and belongs to no configuration and no trace", whole,
-                       "leave the line out")
+        return around(source, number, "this marks a piece of code in Markdown, and belongs to no configuration and no "
+                      "trace", lambda other: bool(FENCE.fullmatch(other)))
     if PROMPT.fullmatch(line.rstrip()) and not line.startswith("#"):
-        return Finding("this is a command of a shell with its prompt, copied along with the text", whole,
-                       "leave the line out")
+        return around(source, number, "this is a command of a shell with its prompt, copied along with the text",
+                      lambda other: bool(PROMPT.fullmatch(other.rstrip())) and not other.startswith("#"))
     return None
 
 
+def around(source: Source, number: int, said: str, is_one: Callable[[str], bool]) -> Finding:
+    """A line that stands around a text, with the numbers of the others of its kind behind it."""
+    others = [str(source.first + other - 1) for other, line in enumerate(source.lines, 1)
+              if other > number and is_one(line)]
+    more = f" and {len(others) - MOST_AROUND} more" * (len(others) > MOST_AROUND)
+    also = f"; so in line{'s' * (len(others) > 1)} {', '.join(others[:MOST_AROUND])}{more}" if others else ""
+    return Finding(said + also, source.place(number, 1, len(source.line(number).rstrip()) or 1),
+                   "leave these lines out" if others else "leave the line out")
+
+
+def of_control(source: Source, number: int, line: str, letter: str) -> Finding:
+    """A character that isn't seen, as the colours of a terminal have it, or an end of a page or of a file."""
+    place = source.place(number, line.index(letter) + 1)
+    if COLOURS.search(line):
+        return Finding("the colours of a terminal (ESC) stand in this line", place,
+                       f"write {in_full(COLOURS.sub('', line))}, in all lines: `sed "
+                       f"'s/\\x1b\\[[0-9;]*[mK]//g'`; `--color=never` leaves them out")
+    name = {"\x1a": " (Ctrl-Z, the end of a file in DOS)", "\f": " (form feed, the end of a page)",
+            "\v": " (vertical tab)", "\b": " (backspace)"}.get(letter, "")
+    return Finding(f"a control character, {ord(letter):02x}{name}, stands here, which isn't "
+                   f"seen", place, "leave it out")
+
+
 def is_patch(source: Source) -> bool:
-    """Whether a text has lines that a patch takes out, or is of a patch's lines alone."""
+    """Whether a text has lines that a patch takes out, or is of a patch's lines alone; a list has `- ` before each."""
     lines = [line for line in source.lines if line.strip()]
     marked = [line for line in lines if line[0] in "+-"]
+    if all(line.startswith("- ") for line in marked) and not any(line.startswith("@@") for line in lines):
+        return False
     return any(re.match(r"-\s*[\w\[\"]", line) for line in lines) or \
         len(marked) >= LEAST_PATCHED and all(line[0] in "+- @\\" for line in lines)
 
@@ -68,23 +115,62 @@ def entity(text: str) -> str | None:
     return html.unescape(text) if ENTITY.search(text) else None
 
 
-def foreign_to_trace(source: Source, number: int) -> Finding | None:
+def copied_from_page(source: Source, number: int, line: str) -> Finding | None:
+    """A line with the signs of a page's source in it."""
+    plain = TAG.sub("", html.unescape(line)).replace("\u00a0", " ")
+    if not ENTITY.search(line) and not TAG.search(line) or plain == line:
+        return None
+    sign = ENTITY.search(line) or TAG.search(line)
+    return Finding("this line was copied out of the source of a page (HTML)",
+                   source.place(number, 1, len(line)).part(sign[0] if sign else ""),
+                   f"write {in_full(plain.strip())}")
+
+
+def of_mail(source: Source, number: int) -> Finding | None:
+    """A line as the source of a mail has it (quoted-printable), with `=3D` for `=`, or with `=` where it breaks."""
+    line = source.line(number).rstrip("\r")
+    is_broken = line.endswith("=") and ("=3D" in source.text or re.match(r"[AW] +[0-9A-Fa-f]", line))
+    sign = re.search("=3D|=20$", line) or (re.search("=$", line) if is_broken else None)
+    if sign is None:
+        return None
+    plain = quopri.decodestring(line.removesuffix("=").encode()).decode("utf-8", "replace")
+    plain += source.line(number + 1).strip() if is_broken else ""
+    return Finding("this is the source of a mail (quoted-printable), which has `=3D` for `=` and breaks lines by `=`",
+                   source.place(number, sign.start() + 1, len(sign[0])),
+                   f"write {in_full(plain.strip())}")
+
+
+def foreign_to_trace(source: Source, number: int, bssids: Iterable[str] = ()) -> Finding | None:
     """What a line is that was meant for a trace, and is written as another program writes frames."""
     line = source.line(number).rstrip()
     whole = source.place(number, 1, len(line) or 1)
     if ANSWER.fullmatch(line):
         return Finding("this is an answer of `live`, and a trace has the lines that it was given", whole,
                        "what a network sends it doesn't hear: leave the lines `ok`, `air`, `wire` and `fault` out")
-    return of_listing(source, number) or continued(source, number)
+    return of_listing(source, number) or continued(source, number, bssids)
 
 
-def continued(source: Source, number: int) -> Finding | None:
-    """Digits without a word, behind a frame."""
+def continued(source: Source, number: int, bssids: Iterable[str] = ()) -> Finding | None:
+    """Digits without a word, behind a frame or behind its word: they go on it, where they are no frame themselves."""
     line, before = source.line(number).rstrip(), source.line(number - 1).rstrip()
-    if not re.fullmatch(r" *[0-9A-Fa-f]{2}[0-9A-Fa-f ]*", line) or not re.match(r"[AW] +[0-9A-Fa-f:]", before):
+    digits = line.replace(" ", "")
+    if not re.fullmatch(r" *[0-9A-Fa-f]{2}[0-9A-Fa-f ]*", line) or not re.match(r"[AW](?: +[0-9A-Fa-f:]|$)", before):
         return None
+    addresses = {bytes.fromhex(bssid.replace(":", "")) for bssid in bssids} | {BROADCAST}
+    if len(digits) % 2 and digits[0] in "aA" and likeness(bytes.fromhex(digits[1:]), addresses):
+        return None
+    if len(digits) % 2 == 0 and likeness(bytes.fromhex(digits), addresses) == MOST_LIKE:
+        return Finding("a line begins with its word, which is missing here",
+                       source.place(number, 1, len(line)).part(line.split()[0]),
+                       f"write {in_full('A ' + line.strip())}")
+    rows = [line.strip()]
+    while re.fullmatch(r" *[0-9A-Fa-f]{2}[0-9A-Fa-f ]*", following := source.line(number + len(rows)).rstrip()):
+        rows.append(following.strip())
+    lines = f", for the lines {source.first + number - 2} to {source.first + number + len(rows) - 2}"
     return Finding("a line begins with its word, and these digits may go on the frame of the line before: a frame is "
                    "one line", source.place(number, 1, len(line)),
+                   f"write {in_full(' '.join([before, *rows]))}{lines}"
+                   if len(rows) > 1 or before in "AW" else
                    f"write them behind that line, or {quoted('A ' + line.strip())} where they are a frame")
 
 

@@ -1,14 +1,15 @@
 """Why a network refuses a request, or answers it by a notice: by what the frame says, and what the table said
 before."""
-from collections.abc import Callable, Collection
+from collections.abc import Callable, Collection, Mapping
 from dataclasses import dataclass
+from types import MappingProxyType
 
-from explaining.config import NetworkTable, number_of
+from explaining.configuration import NetworkTable, number_of
 from explaining.names import name_reason
 from explaining.reason import Reason
 from explaining.values import BASIC, UNITS
 from frames import (ASSOCIATION_RESPONSE, AUTHENTICATION, DEAUTHENTICATION, DISASSOCIATION, EXTENDED_SUPPORTED_RATES,
-                    HEADER_LEN, MANAGEMENT, REASSOCIATION_RESPONSE, SUPPORTED_RATES, Frame, elements, number)
+                    HEADER_LEN, MANAGEMENT, REASSOCIATION_RESPONSE, SSID, SUPPORTED_RATES, Frame, elements, number)
 from in_words import ALGORITHMS
 from reading import FIXED_LEN
 
@@ -19,8 +20,15 @@ MEGABIT, ELEVEN_HALVES, CUT_RATE = 2, 11, 5
 MEGABITS = {1, 2, CUT_RATE, 6, 9, 11, 12, 18, 24, 36, 48, 54}
 # The digits of that ID as people write it, read as hexadecimal ones.
 DECIMAL_ID = int(str(EXTENDED_SUPPORTED_RATES), 16)
-TWO_TOO_MANY = bytes.fromhex("000000000100")  # Open System, number 1, with two octets 0 before
-EXCHANGED = bytes.fromhex("01000000")  # number 1, then Open System
+MOST_NAMED = 3
+VENDOR = 221
+NO_RATES = (SSID, VENDOR)  # whose octets may be any
+OF_RATES = (SUPPORTED_RATES, EXTENDED_SUPPORTED_RATES)
+# The fields of an authentication, where they begin, and the number 1 as one, however its octets stand.
+AUTHENTICATION_FIELDS = {"algorithm": 24, "sequence number": 26, "status": 28}
+AUTHENTICATION_LEN, ONES = 30, (bytes.fromhex("0100"), bytes.fromhex("0001"))
+EMPTY: Mapping[bytes, int] = MappingProxyType({})
+SENDER = (10, 16)
 NOTICES = {DEAUTHENTICATION: "deauthentication", DISASSOCIATION: "disassociation"}
 
 
@@ -57,17 +65,27 @@ def refusal_of(octets: bytes) -> Refusal | None:
 
 
 def refused(refusal: Refusal, octets: bytes, table: NetworkTable | None, names: dict[bytes, bytes],
-            bssid: bytes, homes: Collection[bytes] = ()) -> Reason | None:
-    """Why a request is refused with a status; `names` are the networks' SSIDs, `homes` those that know its sender."""
+            bssid: bytes, homes: Collection[bytes] = (), left: Mapping[bytes, int] = EMPTY) -> Reason | None:
+    """Why a request is refused with a status; `names` are the networks' SSIDs, `homes` those that know its sender,
+    `left` the stations that disassociated, and are known, each with the number of the line by which it did."""
     parts: dict[tuple[int, int], Callable[[], Reason]] = {
-        (AUTHENTICATION, 1): lambda: Reason(f"`max_known = {limit(table, 'max_known')}` is reached, and a station "
-                                            "stays known until it deauthenticates"),
+        (AUTHENTICATION, 1): lambda: of_full_table(limit(table, "max_known"), left),
         (AUTHENTICATION, 13): lambda: of_algorithm(octets), (AUTHENTICATION, 14): lambda: of_number(octets),
         (ASSOCIATION_RESPONSE, 1): lambda: name_reason(octets, names, bssid, homes),
-        (ASSOCIATION_RESPONSE, 17): lambda: Reason(f"`max_stations = {limit(table, 'max_stations')}` is reached"),
+        (ASSOCIATION_RESPONSE, 17): lambda: Reason(
+            f"`max_stations = {limit(table, 'max_stations')}` is reached", SENDER,
+            "`max_stations` in the configuration says how many are associated at once; one that leaves makes room"),
         (ASSOCIATION_RESPONSE, 18): lambda: of_rates(octets, table)}
     part = parts.get((refusal.kind, refusal.code))
     return part() if part else None
+
+
+def of_full_table(known: int | None, left: Mapping[bytes, int]) -> Reason:
+    """A network that knows as many stations as it may, among them perhaps some that disassociated."""
+    named = ", ".join(f"{address.hex(':')} (line {number})" for address, number in list(left.items())[:MOST_NAMED])
+    return Reason(f"`max_known = {known}` is reached, and a station stays known until it deauthenticates" +
+                  (f"; {named} left by a disassociation, and {'are' if len(left) > 1 else 'is'} known" if left else ""),
+                  SENDER, "a deauthentication begins with `c000`, a disassociation with `a000`" if left else None)
 
 
 def as_megabits(rates: set[int]) -> list[set[int]]:
@@ -83,21 +101,36 @@ def limit(table: NetworkTable | None, key: str) -> int | None:
     return number_of(table.entries.get(key)) if table else None
 
 
+def of_exchanged(octets: bytes) -> Reason | None:
+    """The number 1 of an authentication in another field's place, with all other fields 0."""
+    fields = {name: octets[begin:begin + 2] for name, begin in AUTHENTICATION_FIELDS.items()}
+    others = [name for name, field in fields.items() if any(field)]
+    name = others[0] if len(others) == 1 and fields[others[0]] in ONES else "sequence number"
+    if name == "sequence number" or name == "status" and len(octets) > AUTHENTICATION_LEN:
+        return None
+    order = sorted((name, "sequence number"), key=lambda name: AUTHENTICATION_FIELDS[name])
+    begin = AUTHENTICATION_FIELDS[order[0]]
+    return Reason(f"its {order[0]} and its {order[1]} stand in each other's place: the algorithm comes first, 0 for "
+                  "Open System, then the number 1, then the status, 0", (begin, begin + 4),
+                  "write `0000 0100`" if name == "algorithm" else "write `0100 0000`")
+
+
 def of_algorithm(octets: bytes) -> Reason:
     """An authentication that isn't Open System."""
     algorithm = number(octets[24:26])
-    if octets[24:28] == EXCHANGED:
-        return Reason("its algorithm and its sequence number stand in each other's place: the algorithm comes first, 0 "
-                      "for Open System, then the number 1", (24, 28),
-                      f"write `{EXCHANGED[2:].hex()} {EXCHANGED[:2].hex()}`")
+    exchanged = of_exchanged(octets)
+    if exchanged:
+        return exchanged
     named = f" ({ALGORITHMS[algorithm]})" if algorithm in ALGORITHMS else ""
     return Reason(f"its algorithm is {algorithm}{named}, and there is Open System alone, 0", (24, 26), "write `0000`")
 
 
 def of_number(octets: bytes) -> Reason:
     """An authentication with another sequence number."""
-    value = number(octets[26:28])
-    if octets[24:30] == TWO_TOO_MANY:
+    value, exchanged = number(octets[26:28]), of_exchanged(octets)
+    if exchanged:
+        return exchanged
+    if not any(octets[24:28]) and octets[28:30] == ONES[0]:
         return Reason("its sequence number is read as 0, and the 1 stands behind it: two octets too many stand before "
                       "it", (24, 26), "leave `0000` out")
     turned = int.from_bytes(octets[26:28], "big") == 1
@@ -112,33 +145,46 @@ def of_rates(octets: bytes, table: NetworkTable | None) -> Reason:
     entry = table.entries.get("rates") if table else None
     wanted = bytes.fromhex(entry.value.text) if entry and entry.value.text else b""
     listed = elements(frame.body[FIXED_LEN[frame.subtype]:]) or []
-    told = [octets for identifier, octets in listed if identifier in (SUPPORTED_RATES, EXTENDED_SUPPORTED_RATES)]
+    told = [octets for identifier, octets in listed if identifier in OF_RATES]
     has = {rate & ~BASIC for part in told for rate in part}
     missing = [rate & ~BASIC for rate in wanted if rate & BASIC and rate & ~BASIC not in has]
     text = ", ".join(f"{rate / 2:g}" for rate in missing)
+    begin = HEADER_LEN + FIXED_LEN[frame.subtype]
+    at = place_of_rates(octets, begin, [], lambda identifier: identifier in OF_RATES)
+    span = (at, at + 2 + octets[at + 1]) if at else None
     write = f"add `{bytes(missing).hex()}` to its rates, or take the high bit off them in `rates`"
     if told and any(set(missing) <= units for units in as_megabits(has)):
         meant = bytes(rate & ~BASIC for rate in wanted)
         return Reason(f"its rates `{b''.join(told).hex()}` are written in Mb/s, and stand in units of 500 kb/s: it "
-                      f"lacks the basic rate{'s' * (len(missing) > 1)} {text} Mb/s", None,
+                      f"lacks the basic rate{'s' * (len(missing) > 1)} {text} Mb/s", span,
                       f"write `{meant.hex()}` for the network's")
-    decimal = place_of_decimal(octets, HEADER_LEN + FIXED_LEN[frame.subtype], missing)
+    as_decimal = {int(f"{rate:x}") for rate in has if f"{rate:x}".isdecimal()}
+    if told and set(missing) <= as_decimal | has and as_decimal <= UNITS:
+        meant = bytes(rate & ~BASIC for rate in wanted)
+        return Reason(f"its rates `{b''.join(told).hex()}` are written as decimal numbers, and stand in hexadecimal "
+                      f"digits: it lacks the basic rate{'s' * (len(missing) > 1)} {text} Mb/s", span,
+                      f"write `{meant.hex()}` for the network's")
+    decimal = place_of_rates(octets, begin, missing, lambda identifier: identifier == DECIMAL_ID)
     if decimal:
         return Reason(f"it lacks the basic rate{'s' * (len(missing) > 1)} {text} Mb/s, and the element {DECIMAL_ID} "
                       f"has them: the ID of Extended Supported Rates, {EXTENDED_SUPPORTED_RATES}, is "
                       f"`{EXTENDED_SUPPORTED_RATES:02x}` in hexadecimal digits", (decimal, decimal + 1),
                       f"write `{EXTENDED_SUPPORTED_RATES:02x}` for `{DECIMAL_ID:02x}`")
+    other = None if told else place_of_rates(octets, begin, missing, lambda identifier: identifier not in NO_RATES)
+    if other:
+        return Reason(f"the element `{octets[other]:02x}` has the rates, and the ID of Supported Rates is "
+                      f"`{SUPPORTED_RATES:02x}`", (other, other + 1),
+                      f"write `{SUPPORTED_RATES:02x}` for `{octets[other]:02x}`")
     if not told:
         return Reason(f"it has no element Supported Rates, so it lacks the network's basic rates, {text} Mb/s",
                       (HEADER_LEN, len(octets)), f"write `01{len(missing):02x}{bytes(missing).hex()}` at its end")
-    return Reason(f"it lacks the basic rate{'s' * (len(missing) > 1)} {text} Mb/s of the network", None, write)
+    return Reason(f"it lacks the basic rate{'s' * (len(missing) > 1)} {text} Mb/s of the network", span, write)
 
 
-def place_of_decimal(octets: bytes, begin: int, missing: list[int]) -> int | None:
-    """Where an element stands that has the missing rates, and as its ID the decimal digits of Extended Supported
-    Rates."""
+def place_of_rates(octets: bytes, begin: int, missing: list[int], is_it: Callable[[int], bool]) -> int | None:
+    """Where an element stands that has the missing rates, and such an ID."""
     for identifier, body in elements(octets[begin:]) or []:
-        if identifier == DECIMAL_ID and set(missing) <= {rate & ~BASIC for rate in body}:
+        if is_it(identifier) and set(missing) <= {rate & ~BASIC for rate in body}:
             return begin
         begin += 2 + len(body)
     return None

@@ -3,24 +3,32 @@ what was meant."""
 from collections.abc import Iterator
 
 from explaining.check_sequences import FCS_LEN, LEAST_LEN, ends_with_fcs
+from explaining.likeness import BEGINNINGS
 from explaining.reason import Reason
 from fields import ELEMENT_NAMES
 from frames import (ASSOCIATION_REQUEST, AUTHENTICATION, CONTROL, DATA, DEAUTHENTICATION, DISASSOCIATION, HEADER_LEN,
-                    MANAGEMENT, PROBE_REQUEST, PS_POLL, REASSOCIATION_REQUEST, Frame, is_group,
+                    MANAGEMENT, PLAIN_DATA, PROBE_REQUEST, PS_POLL, REASSOCIATION_REQUEST, Frame, is_group,
                     number)
 from in_words import kind_text
-from reading import FIXED_LEN, SNAP, hears, unread_kind
+from reading import FIXED_LEN, POLL_LEN, SNAP, hears, unread_kind
 
 DURATION, SEQUENCE, FRAGMENT = bytes(2), bytes(2), 0xF
 USUAL_CAPABILITY, USUAL_FIXED, USUAL_FLAGS, TWO_HIGH_BITS = b"\1\0", b"\1\0\x0a\0", 0x18, 0xC000
 RADIOTAP_MOST, MOST_STEPS = 64, 4
+# The octets of control frames, and subtypes of management frames that nobody sends.
+CONTROL_LENGTHS, UNUSED = {8: 20, 9: 32, 10: 16, 11: 16, 12: 10, 13: 10, 14: 16, 15: 16}, (7, 15)
+QOS_SUBTYPES = (8, 12)
+CURRENT = "the BSSID of the access point that the station comes from"
+NO_CURRENT = "it is associated with none of these networks, and an association request, which has no such field, begins " \
+    "with `0000`"
 
 
-def repaired(bssid: bytes, octets: bytes) -> Reason | None:
-    """The change that makes a network read these octets; None where none of those that are tried does."""
+def repaired(bssid: bytes, octets: bytes, current: bytes | None = None) -> Reason | None:
+    """The change that makes a network read these octets; None where none of those that are tried does. `current` is
+    the network with which their sender is associated."""
     if len(octets) < LEAST_LEN:
         return None
-    for changed, reason in changes(bssid, octets):
+    for changed, reason in changes(bssid, octets, current):
         if hears(bssid, changed) and unread_kind(bssid, changed) is None and is_usual(Frame(changed)):
             return reason
     return None
@@ -29,9 +37,10 @@ def repaired(bssid: bytes, octets: bytes) -> Reason | None:
 def is_usual(frame: Frame) -> bool:
     """Whether a frame says what stations say: an authentication one of the sequence numbers that there are (9.4.1.2), a
     request to associate that it is one of an infrastructure (ESS), a departure a reason, and a management frame no
-    flags but Retry and Power Management."""
+    flags but Retry and Power Management; data has a unit."""
     if frame.type != MANAGEMENT:
-        return frame.type != CONTROL or number(frame.octets[2:4]) >= TWO_HIGH_BITS
+        has_unit = frame.type == DATA and (frame.subtype != PLAIN_DATA or bool(frame.body))
+        return has_unit or frame.type == CONTROL and number(frame.octets[2:4]) >= TWO_HIGH_BITS
     said = {AUTHENTICATION: 1 <= number(frame.body[2:4]) <= MOST_STEPS, DISASSOCIATION: any(frame.body[:2]),
             DEAUTHENTICATION: any(frame.body[:2]), ASSOCIATION_REQUEST: frame.body[:1] and frame.body[0] & 1,
             REASSOCIATION_REQUEST: frame.body[:1] and frame.body[0] & 1}
@@ -48,7 +57,7 @@ def is_of_station(frame: Frame) -> bool:
     return is_first or frame.subtype in (PROBE_REQUEST, ASSOCIATION_REQUEST, REASSOCIATION_REQUEST)
 
 
-def changes(bssid: bytes, octets: bytes) -> Iterator[tuple[bytes, Reason]]:
+def changes(bssid: bytes, octets: bytes, current: bytes | None = None) -> Iterator[tuple[bytes, Reason]]:
     """Changes that people have to make, the likeliest first."""
     yield from of_control(octets)
     yield from of_sequence(octets)
@@ -56,9 +65,10 @@ def changes(bssid: bytes, octets: bytes) -> Iterator[tuple[bytes, Reason]]:
     yield head + DURATION + octets[2:], Reason("the two octets of Duration are missing behind Frame Control", (2, 4),
                                                f"write `{head.hex()} 0000`, and Address 1 behind it")
     yield from of_addresses(bssid, octets)
-    yield octets[:16] + bssid + octets[16:], Reason("Address 3 is missing behind Address 2", (16, 22),
-                                                    f"write `{bssid.hex()}` there")
-    yield from of_fields(bssid, octets)
+    if any(octets[16:22]):
+        yield octets[:16] + bssid + octets[16:], Reason("Address 3 is missing behind Address 2", (16, 22),
+                                                        f"write `{bssid.hex()}` there")
+    yield from of_fields(bssid, octets, current)
     length = number(octets[2:4])
     if head == b"\0\0" and 8 <= length <= RADIOTAP_MOST:
         yield octets[length:], Reason("a radiotap header, the capture's own, stands before the frame", (0, length),
@@ -75,12 +85,31 @@ def of_control(octets: bytes) -> Iterator[tuple[bytes, Reason]]:
         yield turned, Reason(f"the octets of Frame Control stand the wrong way round: {kind_text(turned)} begins with "
                              f"`{turned[:2].hex()}`", (0, 2), f"write `{turned[:2].hex()}`")
     digits = f"{octets[0]:02x}"[::-1] + f"{octets[1]:02x}"
-    yield bytes.fromhex(digits) + octets[2:], Reason("the two digits of the first octet stand in each other's place: such "
-                                                     f"a frame begins with `{digits}`", (0, 2), f"write `{digits}`")
+    yield bytes.fromhex(digits) + octets[2:], Reason("the two digits of the first octet stand in each other's place: "
+                                                     f"such a frame begins with `{digits}`",
+                                                     (0, 2), f"write `{digits}`")
+    for begin in typed_for(octets):
+        yield begin + octets[2:], Reason(f"no frame that is read begins with `{octets[:2].hex()}`, and one digit "
+                                         f"differs from `{begin.hex()}`, with which "
+                                         f"{kind_text(begin + octets[2:])} begins",
+                                         (0, 2), f"write `{begin.hex()}`")
     if len(octets) >= HEADER_LEN and Frame(octets).type == DATA and not octets[1] & 3:
         mended = bytes([octets[0], octets[1] | 1])
         yield mended + octets[2:], Reason("To DS is 0, and data of a station has To DS 1", (1, 2),
                                           f"write `{mended.hex()}`")
+
+
+def typed_for(octets: bytes) -> Iterator[bytes]:
+    """The beginnings of frames that are read from which that of a frame differs in one digit, where it is that of no
+    frame that anybody sends, or has another length than that frame."""
+    frame = Frame(octets)
+    is_other = frame.type == CONTROL and len(octets) > CONTROL_LENGTHS.get(frame.subtype, 0) or \
+        frame.type == MANAGEMENT and frame.subtype in UNUSED or frame.type == DATA and frame.subtype not in (
+            0, 4, *QOS_SUBTYPES) or frame.type != CONTROL and len(octets) == POLL_LEN
+    written = octets[:2].hex()
+    for begin in sorted(BEGINNINGS) if is_other else ():
+        if sum(mine != due for mine, due in zip(written, begin.hex())) == 1:
+            yield begin
 
 
 def of_addresses(bssid: bytes, octets: bytes) -> Iterator[tuple[bytes, Reason]]:
@@ -90,6 +119,11 @@ def of_addresses(bssid: bytes, octets: bytes) -> Iterator[tuple[bytes, Reason]]:
         yield octets[:4] + octets[10:16] + octets[4:10] + octets[16:], Reason(
             f"Address 1 and Address 2 stand in each other's place: {kind_text(octets)} has its receiver first, then "
             "its sender", (4, 16), f"write `{octets[10:16].hex()} {octets[4:10].hex()}`")
+    if Frame(octets).type == DATA and octets[16:22] == bssid and octets[10:16] != bssid:
+        yield octets[:4] + bssid + octets[10:16] + octets[4:10] + octets[22:], Reason(
+            "the BSSID stands as Address 3: data of a station has the BSSID first, then the station, then the "
+            "destination",
+            (4, 22), f"write `{bssid.hex()} {octets[10:16].hex()} {octets[4:10].hex()}`")
     for length in (5, 7):
         short, long = sorted((bssid, octets[4:4 + length]), key=len)
         is_one_off = len(long) - len(short) == 1 and any(long[:at] + long[at + 1:] == short for at in range(len(long)))
@@ -102,13 +136,14 @@ def of_addresses(bssid: bytes, octets: bytes) -> Iterator[tuple[bytes, Reason]]:
                 f"Address 2 has {length} octets, and an address has six", (10, 10 + length))
 
 
-def of_fields(bssid: bytes, octets: bytes) -> Iterator[tuple[bytes, Reason]]:
+def of_fields(bssid: bytes, octets: bytes, current: bytes | None) -> Iterator[tuple[bytes, Reason]]:
     """Fields of an association request that are missing before its elements."""
     frame = Frame(octets)
     if frame.is_management(REASSOCIATION_REQUEST):
         yield octets[:28] + bssid + octets[28:], Reason(
             "the body of a reassociation request has Capability 2, Listen Interval 2 and Current AP Address 6 before "
-            "its elements, and here the address is missing", (28, 29), f"write `{bssid.hex()}` there")
+            "its elements, and here the address is missing", (28, 29),
+            f"write `{current.hex()}` there" if current else f"write {CURRENT}; {NO_CURRENT}")
     address = octets[28:34]
     if frame.is_management(ASSOCIATION_REQUEST) and (address == bssid or address[:1] > b"\0" and not is_group(address)
                                                      and address[0] not in ELEMENT_NAMES):
@@ -124,7 +159,8 @@ def of_fields(bssid: bytes, octets: bytes) -> Iterator[tuple[bytes, Reason]]:
         yield octets[:24] + (USUAL_FIXED + bssid)[:fixed] + octets[24:], Reason(
             f"the {fixed} octets before the elements are missing: Capability Information 2, Listen Interval 2" +
             (", Current AP Address 6" if frame.is_management(REASSOCIATION_REQUEST) else ""), (24, 26),
-            f"write `{(USUAL_FIXED + bssid)[:fixed].hex()}` there")
+            f"write `{(USUAL_FIXED + (current or b''))[:fixed].hex()}` there" +
+            (f", and behind it {CURRENT}; {NO_CURRENT}" if fixed > len(USUAL_FIXED) and not current else ""))
 
 
 def of_sequence(octets: bytes) -> Iterator[tuple[bytes, Reason]]:

@@ -7,13 +7,18 @@ from dataclasses import dataclass, field
 import called
 from explaining import odd_config
 from explaining.check_sequences import FCS_LEN, LEAST_LEN, ends_with_fcs, octets_too_many
-from explaining.config import NetworkTable, networks_of, number_of
+from explaining.configuration import NetworkTable, networks_of, number_of
 from explaining.joined import of_joined_frames
-from explaining.kept import of_kept
+from explaining.intervals import of_each_network
+from explaining.kept import GroupUnits, of_kept
 from explaining.line_by_line import steps
-from explaining.outcomes import Outcomes, What
+from explaining.outcomes import Outcomes, What, is_told_in_sum
+from explaining.reason import Reason
+from explaining.repeated import repeated
+from explaining.several import of_intervals, of_order
 from explaining.source import Finding, Source, in_order, quoted
-from explaining.spans import place_of
+from explaining.spans import also_in, place_of, place_of_octets
+from explaining.unread import unread, wired_unread
 from explaining.wired_types import TYPES, of_wired_types
 from frames import (ASSOCIATION_REQUEST, ASSOCIATION_RESPONSE, AUTHENTICATION, BROADCAST, DATA, DEAUTHENTICATION,
                     DISASSOCIATION, HEADER_LEN, MANAGEMENT, PROBE_REQUEST, REASSOCIATION_REQUEST,
@@ -22,11 +27,12 @@ from progress import Progress
 from reading import hears, unread_kind, wired_unread_kind
 from texts import Line, Section, frames_text, read_report, trace_line
 
-MOST_NAMED = 3
+MOST_NAMED, MOST_UNITS, QOS = 3, 8, 0x80
+RECEIVER, SENDER, WIRED_LEN = (4, 10), (10, 16), 14
 MAKES_TRACES = called.fellow("trace-from-capture")
 # What has its frame check sequence on, by the word of a line: where it was, and what to do.
-WITH_SEQUENCES = {"A": ("the air", f"{MAKES_TRACES} takes it off; a probe or an association request with it "
-                        "is unread, and a unit is passed on with it"),
+WITH_SEQUENCES = {"A": ("the air", f"leave these eight digits out, as {MAKES_TRACES} does; a probe or an association "
+                        "request with it is unread, and a unit is passed on with it"),
                   "W": ("a wire", "leave it out: it is passed on as a part of the unit")}
 FIXED_BEFORE_ELEMENTS = {PROBE_REQUEST: 0, ASSOCIATION_REQUEST: 4, REASSOCIATION_REQUEST: 10}
 KINDS = {"U1": "shorter than a header", "U2": "of another version of the protocol",
@@ -88,9 +94,9 @@ def odd(config: Source, traces: list[Source], output: str, has_separator: bool,
         progress.say("reading the report")
         tables = networks_of(config)
         hearings = [Hearing(section, tables.get(section.bssid)) for section in read_report(output)]
-        lines = []
-        for line in (line for trace in traces for line in lines_of(trace, progress)):
-            lines.append(line)
+        by_trace = [list(lines_of(trace, progress)) for trace in traces]
+        lines = [line for of_one in by_trace for line in of_one]
+        for line in lines:
             for hearing in hearings:
                 hearing.take(line)
         outcomes = None
@@ -101,15 +107,24 @@ def odd(config: Source, traces: list[Source], output: str, has_separator: bool,
         untaken = outcomes.numbers_told(What.UNTAKEN) if outcomes else set()
         findings = of_trace(lines, hearings, has_separator, traces, untaken)
         for hearing in hearings:
-            findings += of_network(hearing, traces, outcomes)
+            findings += of_network(hearing, traces, outcomes, config)
+            if outcomes is None:
+                findings += of_reasons(hearing, {id(line): trace for trace, of_one in zip(traces, by_trace)
+                                                 for line in of_one})
         findings += outcomes.findings() if outcomes else []
         asked = {name for name in map(name_asked_for, lines) if name} - {hearing.section.ssid for hearing in hearings}
-        return in_order([*odd_config.odd(config, asked), *findings, *of_roaming(hearings)], config)
+        findings += of_intervals(traces)
+        if outcomes:
+            findings += of_each_network(traces[0], lines, outcomes.idle, [hearing.section for hearing in hearings])
+        findings += of_order(traces, by_trace, [hearing.section.bssid for hearing in hearings])
+        findings = [*odd_config.odd(config, asked), *findings, *of_roaming(hearings)]
+        return in_order([*findings, *of_no_interval(lines, hearings, not findings)], config)
 
 
 def outcomes_of(config: Source, trace: Source, lines: list[Line], hearings: list[Hearing], program: str) -> Outcomes:
     """What became of single lines, by what the program answers to each."""
-    outcomes = Outcomes(trace, {hearing.section.bssid: hearing.table for hearing in hearings if hearing.table}, lines)
+    outcomes = Outcomes(trace, {hearing.section.bssid: hearing.table for hearing in hearings if hearing.table}, lines,
+                        config=config)
     first_left = {hearing.section.bssid: hearing.past_history[0].number for hearing in hearings if hearing.past_history}
     count = 0
     for count, step in enumerate(steps(program, config.octets, lines), 1):
@@ -139,15 +154,22 @@ def of_trace(lines: list[Line], hearings: list[Hearing], has_separator: bool, tr
     front = next((line for line in frames if has_radiotap(line.octets)), None)
     if front and sum(has_radiotap(line.octets) for line in frames) * 2 > len(frames):
         findings.append(Finding("the frames begin with the capture's own header (radiotap), and a trace has frames "
-                                "without it", place_of(traces, front), f"{MAKES_TRACES} takes it off"))
+                                "without it", place_of(traces, front, (0, number(front.octets[2:4]))),
+                                f"{MAKES_TRACES} takes it off"))
     else:
         findings += of_receivers(frames, hearings, traces, told) + of_ethernet(frames, hearings, traces)
     findings += of_joined_frames(lines, (hearing.section.bssid for hearing in hearings), traces)
     findings += of_check_sequences(lines, traces) + of_wired_types(lines, traces)
-    if not any(line.kind == "T" for line in lines):
-        findings.append(Finding("no line `T` begins a beacon interval: no beacon is sent, and units for the group that "
-                                "are kept stay so"))
     return findings
+
+
+def of_no_interval(lines: list[Line], hearings: list[Hearing], is_all: bool) -> list[Finding]:
+    """A trace without beacon intervals, where something is kept that one tells of, or where nothing else is odd."""
+    is_kept = any(hearing.section.kept for hearing in hearings)
+    if not lines or any(line.kind == "T" for line in lines) or not is_kept and not is_all:
+        return []
+    return [Finding("no line `T` begins a beacon interval: no beacon is sent, and units for the group that are kept "
+                    "stay so")]
 
 
 def of_receivers(frames: list[Line], hearings: list[Hearing], traces: list[Source], told: set[int]) -> list[Finding]:
@@ -167,7 +189,7 @@ def of_other_networks(to_one: list[Line], hearings: list[Hearing], traces: list[
     to = receivers_text(line for line in to_one if len(line.octets) >= LEAST_LEN)
     bssids = ", ".join(address_text(hearing.section.bssid) for hearing in hearings)
     return Finding(f"no frame of this trace is to a network of this configuration: its BSSIDs are {bssids}",
-                   place_of(traces, to_one[0]),
+                   place_of(traces, to_one[0], RECEIVER),
                    f"the trace's frames are to {to}" if to else
                    f"the trace's frames have fewer than {LEAST_LEN} octets")
 
@@ -193,8 +215,11 @@ def of_untaken(frames: list[Line], hearings: list[Hearing], traces: list[Source]
     whole = [line for line in untaken if len(line.octets) >= LEAST_LEN]
     reasons = [f"Address 1 is neither a network's BSSID nor all: {receivers_text(whole)}"] * bool(whole)
     reasons += [f"fewer than {LEAST_LEN} octets: {len(untaken) - len(whole)}"] * (len(whole) < len(untaken))
-    return [Finding(f"frames on the air that no network took: {len(untaken)} of {len(frames)} ({'; '.join(reasons)})",
-                    place_of(traces, untaken[0]), f"`{MAKES_TRACES} --heard-only` leaves such frames out")]
+    names = ", ".join(f"{address_text(hearing.section.bssid)} ({hearing.section.name})"
+                      for hearing in hearings[:MOST_NAMED])
+    return [Finding(f"frames on the air that no network took: {len(untaken)} of {len(frames)} ({'; '.join(reasons)})"
+                    f"{also_in(untaken, traces)}", place_of(traces, untaken[0], RECEIVER),
+                    f"the networks have {names}; `{MAKES_TRACES} --heard-only` leaves other frames out of a trace")]
 
 
 def of_ethernet(frames: list[Line], hearings: list[Hearing], traces: list[Source]) -> list[Finding]:
@@ -206,7 +231,7 @@ def of_ethernet(frames: list[Line], hearings: list[Hearing], traces: list[Source
         return []
     bssid = address_text(hearings[0].section.bssid)
     return [Finding(f"{frames_text(len(wired))} behind `A`, for what was heard on the air, begin as Ethernet's do: "
-                    "with two addresses and a type", place_of(traces, wired[0]),
+                    "with two addresses and a type", place_of(traces, wired[0], (0, WIRED_LEN)),
                     f"a frame that came over the wire of a network stands behind `W` and its BSSID, as `W {bssid}`")]
 
 
@@ -249,7 +274,7 @@ def last_octets(traces: list[Source], line: Line):
     return traces[0].place(line.number, begin + 1, len(text) - begin)
 
 
-def of_network(hearing: Hearing, traces: list[Source], outcomes: Outcomes | None) -> list[Finding]:
+def of_network(hearing: Hearing, traces: list[Source], outcomes: Outcomes | None, config: Source) -> list[Finding]:
     """What is odd in one network; what is told of single lines isn't told of their sum."""
     section, findings = hearing.section, []
     if hearing.past_history:
@@ -258,7 +283,7 @@ def of_network(hearing: Hearing, traces: list[Source], outcomes: Outcomes | None
                                 f"nothing more from this line on; left out: {len(hearing.past_history)}",
                                 place_of(traces, first), "as many as the trace has lines are always enough"))
     findings += of_unread(hearing, traces, outcomes) + of_full_table(hearing)
-    findings += [] if outcomes else of_statuses(hearing)
+    findings += [] if outcomes else of_statuses(hearing, len(traces) > 1)
     if section.lost and not outcomes:
         quota = hearing.limit("quota")
         findings.append(Finding(f"{hearing.name}: units lost: {section.lost} (above `quota = {quota}`, too old where "
@@ -267,9 +292,26 @@ def of_network(hearing: Hearing, traces: list[Source], outcomes: Outcomes | None
     again = repeated([line for line in hearing.heard if id(line) not in unread])
     if again:
         findings.append(Finding(f"{hearing.name}: frames sent again: {len(again)} (with Retry 1 and the sequence "
-                                "number that came before: they are taken a second time)", place_of(traces, again[0]),
+                                f"number that came before: they are taken a second time){also_in(again, traces)}",
+                                place_of(traces, again[0], (1, 2)),
                                 f"{MAKES_TRACES} leaves them out"))
-    return findings + of_kept(hearing.name, section, hearing.heard, hearing.limit("dtim"))
+    dozing = outcomes.past.dozing if outcomes else {}
+    return findings + of_kept(hearing.name, section, hearing.heard, hearing.limit("dtim"), dozing,
+                              group_units(hearing, traces, outcomes, config))
+
+
+def group_units(hearing: Hearing, traces: list[Source], outcomes: Outcomes | None, config: Source) -> GroupUnits:
+    """Where the units stand that a network keeps for the group, and where its `dtim` does."""
+    lines = outcomes.past.group_units.get(hearing.section.bssid, []) if outcomes else []
+    entry = hearing.table.entries.get("dtim") if hearing.table else None
+    at = config.at(entry.begin, entry.end).line if entry else 0
+    period = f" (`dtim = {hearing.limit('dtim')}` in {config.name}, line {config.first + at - 1})" if entry else ""
+    if not lines:
+        return GroupUnits(None, "", period)
+    numbers = ", ".join(str(traces[0].first + line.number - 1) for line in lines[:MOST_UNITS])
+    more = f" and {len(lines) - MOST_UNITS} more" * (len(lines) > MOST_UNITS)
+    span = (0, 6) if lines[0].kind == "W" else (16, 22)
+    return GroupUnits(place_of(traces, lines[0], span), f", of lines {numbers}{more}" * (len(lines) > 1), period)
 
 
 def of_unread(hearing: Hearing, traces: list[Source], outcomes: Outcomes | None) -> list[Finding]:
@@ -285,23 +327,50 @@ def of_unread(hearing: Hearing, traces: list[Source], outcomes: Outcomes | None)
     qos = [line for line in summed.get("U3", []) if Frame(line.octets).is_qos]
     if qos:
         all_data = "all" if len(qos) == len(data) else f"{len(qos)} of {len(data)}"
-        findings.append(Finding(f"{hearing.name}: data frames of QoS (WMM), unread (U3): {all_data}",
-                                place_of(traces, qos[0]), "the program has no QoS: let the stations do without it"))
+        begin = qos[0].octets[:2]
+        findings.append(Finding(f"{hearing.name}: data frames of QoS (WMM), which it can't read (U3): {all_data}"
+                                f"{also_in(qos, traces)}", place_of(traces, qos[0], (0, 2)), "let the stations do "
+                                f"without it; in a trace write `{begin[0] & ~QOS:02x}{begin[1]:02x}` for "
+                                f"`{begin.hex()}`, and leave out the two octets of QoS Control behind the header"))
     own = [line for line in summed.get("U6", []) if Frame(line.octets).transmitter == hearing.section.bssid]
+    asked = [line for line in summed.get("U6", [])
+             if outcomes and outcomes.is_anothers(hearing.section.bssid, line.octets)]
     if own:
-        findings.append(Finding(f"{hearing.name}: frames that it sent itself, unread (U6): {len(own)}",
-                                place_of(traces, own[0]), "a trace has what the access point heard alone"))
-    told = {id(line) for line in (*qos, *own)}
+        findings.append(Finding(f"{hearing.name}: frames that it sent itself, unread (U6): {len(own)}"
+                                f"{also_in(own, traces)}",
+                                place_of(traces, own[0], SENDER), "a trace has what the access point heard alone"))
+    with_fcs = [line for lines in summed.values() for line in lines if ends_with_fcs(line.octets)]
+    told = {id(line) for line in (*qos, *own, *asked, *with_fcs)}
     rest = {kind: [line for line in lines if id(line) not in told] for kind, lines in hearing.unread.items()}
     for kind, lines in sorted(rest.items()):
-        if len(lines) > 1 or lines and lines[0].number not in single:
+        if outcomes and any(line.number not in single for line in lines):
             findings.append(Finding(f"{hearing.name}: events unread ({kind}): {len(lines)} of {len(hearing.heard)} "
-                                    f"({KINDS[kind]})", place_of(traces, lines[0])))
+                                    f"({KINDS[kind]}){also_in(lines, traces)}", place_of(traces, lines[0])))
     return findings
 
 
-def of_statuses(hearing: Hearing) -> list[Finding]:
-    """Requests that were refused, by the statuses and reasons of the answers."""
+def of_reasons(hearing: Hearing, homes: dict[int, Source]) -> list[Finding]:
+    """Why a network can't read frames of traces that weren't asked line by line; `homes` are the traces of the lines.
+    QoS, check sequences and frames that a network sent are told of in sum."""
+    bssid, findings = hearing.section.bssid, []
+    for kind, lines in sorted(hearing.unread.items()):
+        groups: dict[str, list[tuple[Line, Reason]]] = {}
+        for line in lines:
+            reason = unread(bssid, line.octets) if line.kind == "A" else wired_unread(bssid, line.octets)
+            if reason and not (line.kind == "A" and is_told_in_sum(bssid, line.octets, kind)):
+                groups.setdefault(reason.text, []).append((line, reason))
+        for of_one in list(groups.values())[:MOST_NAMED]:
+            (first, reason), more = of_one[0], len(of_one) - 1
+            findings.append(Finding(f"{hearing.name} can't read it ({kind}): {reason.text}" +
+                                    f"; so in {more} more frame{'s' * (more > 1)}" * (more > 0),
+                                    place_of_octets(homes[id(first)], first, reason.span), reason.advice))
+        rest = sum(map(len, list(groups.values())[MOST_NAMED:]))
+        findings += [Finding(f"{hearing.name}: events unread ({kind}) for other reasons: {rest}")] * (rest > 0)
+    return findings
+
+
+def of_statuses(hearing: Hearing, are_several: bool) -> list[Finding]:
+    """Requests that were refused, by the statuses and reasons of the answers, of one trace or of several."""
     section, findings = hearing.section, []
     sent = Counter(answer for answer in map(answer_of, section.air) if answer)
     known, stations = hearing.limit("max_known"), hearing.limit("max_stations")
@@ -319,7 +388,9 @@ def of_statuses(hearing: Hearing) -> list[Finding]:
         (DISASSOCIATION, 7): ("frames answered by a disassociation, reason 7", "the station isn't associated")}
     for answer, (what, reason) in texts.items():
         if sent[answer]:
-            findings.append(Finding(f"{hearing.name}: {what}: {sent[answer]} ({reason})"))
+            order = "; only the lines of one trace keep their order, so what another says may come before or after" \
+                if are_several and answer[0] in (DEAUTHENTICATION, DISASSOCIATION) else ""
+            findings.append(Finding(f"{hearing.name}: {what}: {sent[answer]} ({reason}{order})"))
     if sent[ASSOCIATION_RESPONSE, 1]:
         names = Counter(name for line in hearing.heard if (name := name_asked_for(line)) is not None
                         and name != section.ssid and not Frame(line.octets).is_management(PROBE_REQUEST))
@@ -364,20 +435,6 @@ def name_asked_for(line: Line) -> bytes | None:
     return first_of(listed, SSID) if listed else None
 
 
-def repeated(lines: list[Line]) -> list[Line]:
-    """Frames with Retry 1 and the sequence number that their sender's frame had before."""
-    before: dict[bytes, int] = {}
-    found = []
-    for line in lines:
-        frame = Frame(line.octets)
-        if line.kind != "A" or len(line.octets) < HEADER_LEN or frame.type not in (MANAGEMENT, DATA):
-            continue
-        if frame.retry and before.get(frame.transmitter) == frame.sequence_control:
-            found.append(line)
-        before[frame.transmitter] = frame.sequence_control
-    return found
-
-
 def of_roaming(hearings: list[Hearing]) -> list[Finding]:
     """Stations that are associated in several networks."""
     places: dict[bytes, list[str]] = {}
@@ -386,5 +443,5 @@ def of_roaming(hearings: list[Hearing]) -> list[Finding]:
             if station.aid is not None:
                 places.setdefault(station.address, []).append(hearing.section.name)
     return [Finding(f"the station {address_text(address)} is associated in several networks: {', '.join(names)}", None,
-                    f"no network knows of another: it left none of them ({called.document('EXAMPLES.md')})")
+                    f"no network knows of another: it left none of them ({called.document('README.md', 'examples')})")
             for address, names in places.items() if len(names) > 1][:MOST_NAMED]

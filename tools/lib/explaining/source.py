@@ -2,7 +2,7 @@
 import unicodedata
 from dataclasses import dataclass
 
-MOST_SHOWN = 96
+MOST_SHOWN, MOST_WRITTEN = 96, 1024
 BEFORE_MARK = 40
 TAB_SHOWN, BLANK_SHOWN, CONTROL_SHOWN = "\u21e5", "\u237d", 0x2400
 MARK = "\ufeff"
@@ -11,6 +11,8 @@ LOOK_ALIKES = dict(zip("\u0410\u0412\u0415\u041a\u041c\u041d\u041e\u0420\u0421\u
                        "\u0391\u0392\u0395\u0397\u0399\u039a\u039c\u039d\u039f\u03a1\u03a4\u03a7\u03bf",
                        "ABEKMHOPCTXaceopxyiABEHIKMNOPTXo"))
 LINE_ENDS = ("Zl", "Zp")  # the line and paragraph separators of Unicode
+# Letters and marks of Unicode that take no ink: fillers, the blank of Braille, and what chooses another letter's form.
+UNSEEN = frozenset("\u034f\u115f\u1160\u2800\u3164\uffa0" + "".join(map(chr, range(0xfe00, 0xfe10))))
 DASHES = "\u2010\u2011\u2012\u2013\u2014\u2015\u2212"
 
 
@@ -52,6 +54,12 @@ class Place:
         """File, line and column, as editors read them."""
         return f"{self.source.name}:{self.source.first + self.line - 1}:{self.column}"
 
+    def part(self, characters: str) -> "Place":
+        """These characters where they first stand within this place; all of it where they don't."""
+        begin = self.column - 1
+        at = self.source.line(self.line).find(characters, begin, begin + self.length)
+        return self.source.place(self.line, at + 1, len(characters)) if characters and at >= 0 else self
+
     def shown(self) -> list[str]:
         """The line with its number, and a line with a mark under the place."""
         text = self.source.line(self.line)
@@ -74,12 +82,12 @@ def visible(letter: str) -> str:
         return chr(CONTROL_SHOWN + ord(letter))
     if is_odd_blank(letter) and letter != MARK and unicodedata.category(letter) == "Zs":
         return BLANK_SHOWN
-    return "\ufffd" if unicodedata.category(letter)[0] == "C" else letter
+    return "\ufffd" if unicodedata.category(letter)[0] == "C" or letter in UNSEEN else letter
 
 
 def is_odd_blank(letter: str) -> bool:
     """Whether a character looks like a space or like nothing, and is no space of ASCII."""
-    return not letter.isascii() and unicodedata.category(letter) in ("Zs", "Cf", *LINE_ENDS)
+    return not letter.isascii() and (unicodedata.category(letter) in ("Zs", "Cf", *LINE_ENDS) or letter in UNSEEN)
 
 
 def odd_blank(source: Source, line: int, begin: int = 0, end: int | None = None) -> "Finding | None":
@@ -90,8 +98,10 @@ def odd_blank(source: Source, line: int, begin: int = 0, end: int | None = None)
             name = unicodedata.name(letter, "a character that isn't seen").lower()
             is_seen = unicodedata.category(letter) == "Zs"
             ends_line = unicodedata.category(letter) in LINE_ENDS
-            return Finding(f"a {name} (U+{ord(letter):04X}) stands here" +
-                           (", which looks like a space and is none" if is_seen else ", which isn't seen"),
+            also = text.count(letter) - 1
+            more = f"; so in {also} more place{'s' * (also > 1)} of this line" if also else ""
+            return Finding(f"a{'n' * (name[0] in 'aeiou')} {name} (U+{ord(letter):04X}) stands here" +
+                           (", which looks like a space and is none" if is_seen else ", which isn't seen") + more,
                            source.place(line, at + 1), "write a space" if is_seen else
                            "a line ends with LF: write that there" if ends_line else "leave it out")
     return None
@@ -104,8 +114,11 @@ def plain_letter(letter: str) -> str | None:
         return "-"
     if letter in LOOK_ALIKES:
         return LOOK_ALIKES[letter]
+    if letter.isascii() or unicodedata.category(letter) == "No":
+        return None
     plain = unicodedata.normalize("NFKC", letter)
-    return plain if not letter.isascii() and len(plain) == 1 and plain.isascii() else None
+    digit = unicodedata.decimal(letter, None)
+    return plain if len(plain) == 1 and plain.isascii() else None if digit is None else str(digit)
 
 
 def plain_text(text: str) -> str:
@@ -117,6 +130,11 @@ def quoted(text: str, most: int = 40) -> str:
     """Some words of a text, each character visible, cut where they are long."""
     shown = "".join(map(visible, text[:most]))
     return f"`{shown}\u2026`" if len(text) > most else f"`{shown}`"
+
+
+def in_full(text: str) -> str:
+    """A line that a person is to write, cut only where it is too long to be copied from a terminal."""
+    return quoted(text, MOST_WRITTEN)
 
 
 @dataclass(frozen=True)

@@ -4,14 +4,13 @@ import re
 from explaining.source import Place, Source
 from texts import Line
 
+MOST_ALSO = 8
 BEFORE_DIGITS = re.compile(r"A ?|W +[^ ]+ *")
 
 
-def place_of(traces: list[Source], line: Line):
-    """Where a line stands, where there is one trace."""
-    if len(traces) != 1:
-        return None
-    return traces[0].place(line.number, 1, len(traces[0].line(line.number).rstrip()))
+def place_of(traces: list[Source], line: Line, span: tuple[int, int] | None = None) -> Place | None:
+    """Where a line or these octets of it stand, where there is one trace."""
+    return place_of_octets(traces[0], line, span) if len(traces) == 1 else None
 
 
 def place_of_octets(trace: Source, line: Line, span: tuple[int, int] | None) -> Place:
@@ -24,3 +23,12 @@ def place_of_octets(trace: Source, line: Line, span: tuple[int, int] | None) -> 
     begin = min(2 * span[0], len(digits) - 1)
     end = max(begin, min(2 * span[1], len(digits)) - 1)
     return trace.place(line.number, digits[begin] + 1, digits[end] - digits[begin] + 1)
+
+
+def also_in(lines: list[Line], traces: list[Source]) -> str:
+    """The numbers of the lines behind the first one of which the same is told, the first few of them."""
+    if len(traces) != 1 or len(lines) < 2:
+        return ""
+    numbers = ", ".join(str(traces[0].first + line.number - 1) for line in lines[1:MOST_ALSO + 1])
+    more = len(lines) - 1 - MOST_ALSO
+    return f"; so in line{'s' * (len(lines) > 2)} {numbers}" + (f" and {more} more" if more > 0 else "")

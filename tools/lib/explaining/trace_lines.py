@@ -2,28 +2,28 @@
 import difflib
 import re
 
-import called
 from explaining import values
 from explaining.answers import Fault
 from explaining.file_kinds import is_binary, other_file
-from explaining.joined import of_remark, of_second_line, of_several_intervals, of_table
+from explaining.digits_meant import is_like, octets_from, of_digits, with_returns
+from explaining.joined import of_fields, of_several_intervals, of_table, of_two_words
+from explaining.no_key import INCLUDE, REMARK, remark_of
 from explaining.no_toml import REPORT_LINE
-from explaining.notations import among_marks, behind_words, over_lines, shown_frame, whole_frame
+from explaining.notations import behind_words, over_lines, shown_frame, whole_frame
 from explaining.other_programs import of_other_program, without_words
-from explaining.pasted import foreign, foreign_to_trace, unfilled
-from explaining.source import Finding, Place, Source, odd_blank, plain_letter, quoted
+from explaining.pasted import copied_from_page, foreign, foreign_to_trace, unfilled
+from explaining.source import Finding, Source, in_full, odd_blank, plain_letter, plain_text, quoted
 from explaining.unheard import is_slip
 
 MOST_OCTETS, MOST_LINES, MOST_NAMED = 4096, 1_000_000, 4
-BETWEEN_DIGITS, MOST_AROUND, MOST_MARKS = ":-,.;|_", 20, 6
 DIGITS = re.compile("[0-9A-Fa-f]{12,}")
 OTHER_WORDS = {"A": "A", "AIR": "A", "RX": "A", "HEARD": "A", "W": "W", "WIRE": "W", "ETH": "W", "T": "T", "TICK": "T",
-               "TBTT": "T", "BEACON": "T"}
-BEFORE_WORD = re.compile(r"((?:(?:\d+ *[|:.)] ?|->|=>|[>+$|*\u2022-]) ?|[\d.,:TZ/-]*\d[\d.,:TZ/-]*[:,]? +))"
-                         r"(?=[AW] +[0-9A-Fa-f]|T$)")
-SAMPLE, MOST_SHOWN = "02:00:00:00:00:01", 60
-NO_QUOTES = str.maketrans("", "", "\"'`")
-BEFORE_FRAME = re.compile("A +([0-9A-Fa-f]{2}(?::[0-9A-Fa-f]{2}){5}) +(?=[0-9A-Fa-f])")
+               "TBTT": "T", "BEACON": "T", "INTERVAL": "T", "WAIT": "T", "SLEEP": "T", "DELAY": "T", "CLOCK": "T"}
+MARKS_BEFORE = r"[>+$|*\u2022\u2192\u21d2\u203a\u00bb\u25b6\u2013\u2014\u2713\u2714-]"
+BEFORE_WORD = re.compile(rf"(\s*(?:(?:\d+ *[|:.)\t] ?|->|=>|{MARKS_BEFORE}) ?|"
+                         r"[\[(]?[\d.,:TZ/-]*\d[\d.,:TZ/-]*[\])]?[:,]? +))"
+                         r"(?=[AW] +[0-9A-Fa-f]|T$|#)")
+SAMPLE, LEAST_ADDRESS, LIKE = "02:00:00:00:00:01", 4, 0.7
 
 
 def explain(source: Source, fault: Fault, names: dict[str, str], is_live: bool = False) -> list[Finding]:
@@ -43,7 +43,7 @@ def explain(source: Source, fault: Fault, names: dict[str, str], is_live: bool =
     begin = octets_from(line) if fault.code == "L2" else 0
     shown = shown_frame(source, number, begin, names) if fault.code in ("L1", "L2") else None
     strange = foreign(source, number) or shown or of_other_program(source, number) or \
-        (foreign_to_trace(source, number) if fault.code == "L1" else None)
+        (foreign_to_trace(source, number, names) if fault.code == "L1" else None)
     if strange:
         return [strange]
     odd = odd_blank(source, number)
@@ -51,10 +51,10 @@ def explain(source: Source, fault: Fault, names: dict[str, str], is_live: bool =
         return [odd]
     bssids = list(names)
     named = of_name(source, number, line, names) if fault.code == "L3" else \
-        of_letters(source, number, line, names) if fault.code == "L2" else None
+        of_digits(source, number, line, names) if fault.code == "L2" else None
     if named:
         return [named]
-    parts = {"L1": of_word, "L2": of_digits, "L3": of_address, "L4": of_network, "L5": of_length}
+    parts = {"L1": of_word, "L3": of_address, "L4": of_network, "L5": of_length}
     finding = parts[fault.code](source, number, line, bssids) if fault.code in parts else None
     return [finding] if finding else []
 
@@ -67,9 +67,9 @@ def of_word(source: Source, number: int, line: str, bssids: list[str]) -> Findin
                        "`sed '1s/^\\xef\\xbb\\xbf//'` takes it off")
     if line.startswith("---"):
         return Finding("a second line `---`, which belongs to no trace", whole, "leave it out")
-    if line[:1] in " \t":
-        return Finding("a line begins with its word, and not with a blank", source.place(number, 1, len(line) -
-                       len(line.lstrip())), f"write {quoted(line.strip())}")
+    behind = BEFORE_WORD.match(line)
+    if line[:1] in " \t" and not behind:
+        return after_blank(source, number, line, bssids)
     several = of_several_intervals(line, whole)
     if several:
         return several
@@ -77,7 +77,7 @@ def of_word(source: Source, number: int, line: str, bssids: list[str]) -> Findin
         return of_tick(source, number, line)
     if "\r" in line:
         return with_returns(source, number, line)
-    table = of_table(source, number, line)
+    table = of_fields(source, number, line) or of_table(source, number, line)
     if table:
         return table
     if "\t" in first:
@@ -86,40 +86,59 @@ def of_word(source: Source, number: int, line: str, bssids: list[str]) -> Findin
     return of_first_word(source, number, line, bssids) or of_other_text(source, number, line, bssids)
 
 
+def beside(source: Source, mark: str) -> str:
+    """What is told beside a mark before a line's word: how many more lines have one, and how numbers are taken off."""
+    also = sum(bool(BEFORE_WORD.match(other)) for other in source.lines) - 1
+    if also < 1:
+        return "; a remark has a line of its own, before"
+    how = ": `sed 's/^ *[0-9]*[:.)|\\t ]*//'` takes such numbers off, which `cat -n`, `grep -n` and editors write"
+    return f"; so in {also} more line{'s' * (also > 1)}" + how * bool(re.fullmatch(r"\d+ *[|:.)\t]*", mark))
+
+
+def after_blank(source: Source, number: int, line: str, bssids: list[str]) -> Finding:
+    """A blank before a line, or before digits without their word."""
+    rest = line.strip()
+    place = source.place(number, 1, len(line) - len(line.lstrip()))
+    if re.fullmatch("[0-9A-Fa-f ]+", rest) and is_like(rest.replace(" ", ""), bssids):
+        return Finding("a line begins with its word, which is missing here", place, f"write {in_full(f'A {rest}')}")
+    return Finding("a remark begins at the beginning of its line, and here a blank stands before "
+                   "it" if rest[:1] == "#" else
+                   "a line begins with its word, and not with a blank", place, f"write {in_full(rest)}")
+
+
 def of_first_word(source: Source, number: int, line: str, bssids: list[str]) -> Finding | None:
     """A word that nearly is one of a trace, or something before it."""
     first, _, rest = line.partition(" ")
     place = source.place(number, 1, len(first))
     behind = BEFORE_WORD.match(line)
     if behind:
+        more = beside(source, behind[1].strip())
         return Finding(f"{quoted(behind[1].strip())} stands before the word, and a line begins with its word",
-                       source.place(number, 1, len(behind[1].rstrip())), f"write {quoted(line[behind.end(1):])}; a "
-                       "remark has a line of its own, before")
-    word = OTHER_WORDS.get(first.rstrip(":,").upper())
+                       source.place(number, 1, len(behind[1].rstrip())), f"write {in_full(line[behind.end(1):])}{more}")
+    several = of_two_words(source, number, line)
+    if several:
+        return several
+    bare = re.sub(r"^[^\w#]+|[^\w#]+$", "", first)
+    word = OTHER_WORDS.get(bare.upper())
+    rest = rest.rstrip("\"'`\u201d\u2019],;") if bare != first.rstrip(":,;.-") else rest
     if word == "W" and word != first.upper() and DIGITS.match(rest):
         return Finding(f"{quoted(first)} is no word of a trace; for a frame on a wire it is `W`, and then the BSSID of "
                        "the network whose wire it is", place,
-                       f"write {quoted(f'W {bssids[0] if bssids else SAMPLE} {rest}', MOST_SHOWN)}; {having(bssids)}")
+                       f"write {in_full(f'W {bssids[0] if bssids else SAMPLE} {rest}')}; {having(bssids)}")
     if word and word != first.upper() and not REPORT_LINE.fullmatch(line):
         return Finding(f"{quoted(first)} is no word of a trace; `{word}` is: `A` for a frame on the air, `W` for one "
-                       "on a wire, `T` for a beacon "
-                       "interval", place, f"write {quoted((word + ' ' + rest.strip()).strip())}")
+                       "on a wire, `T` for a beacon interval", place,
+                       f"write {in_full((word + ' ' + rest.strip()).strip() if word != 'T' else 'T')}")
     plain = plain_letter(line[0])
     if plain and plain.upper() in OTHER_WORDS:
         return Finding(f"{quoted(line[0])} (U+{ord(line[0]):04X}) looks like {quoted(plain)} and is another character",
-                       source.place(number), f"write {quoted(plain.upper() + line[1:])}")
+                       source.place(number), f"write {in_full(plain.upper() + line[1:])}")
     if first == "I":
         return Finding("`I` asks `live` for its tables, and is no line of a trace", place, "leave it out")
     if first.upper() in ("A", "W", "T"):
         return Finding(f"the word is `{first.upper()}`, a capital letter", place,
-                       f"write {quoted(first.upper() + line[1:])}")
+                       f"write {in_full(first.upper() + line[1:])}")
     return None
-
-
-def with_returns(source: Source, number: int, line: str) -> Finding:
-    """A CR within a line."""
-    return Finding("lines end with CR alone, and a trace's end with LF", source.place(number, line.index("\r") + 1),
-                   "`tr '\\r' '\\n'` writes such a text anew")
 
 
 def of_tick(source: Source, number: int, line: str) -> Finding:
@@ -131,20 +150,47 @@ def of_tick(source: Source, number: int, line: str) -> Finding:
         return Finding(text, source.place(number, 2, len(rest)), "`sed 's/\\r*$//'` takes the CRs off")
     if rest.startswith("\r"):
         return with_returns(source, number, line)
+    is_remark = re.match(r"\s*(?:#|//|--|;|/\*|%)", rest)
     return Finding("nothing follows `T`, which begins a beacon interval in every network",
-                   source.place(number, 2 + len(rest) - len(rest.lstrip()), len(rest.strip())), "write `T` alone")
+                   source.place(number, 2 + len(rest) - len(rest.lstrip()), len(rest.strip())), "write `T` alone" +
+                   ("; a remark has a line of its own, which begins with `#`" if is_remark else ""))
 
 
 def of_other_text(source: Source, number: int, line: str, bssids: list[str]) -> Finding | None:
     """A line of another kind of text."""
     place = source.place(number, 1, len(line))
-    if re.match(r"[AW][0-9A-Fa-f]", line):
-        return Finding(f"a space stands after `{line[0]}`", place, f"write {quoted(f'{line[0]} {line[1:]}')}")
-    if re.match(r";|//|--|!|%", line):
+    page = copied_from_page(source, number, line)
+    if page:
+        return page
+    if re.match(r"[AW][0-9A-Fa-f]", line) or re.fullmatch(r"[aw][0-9A-Fa-f ]+", line) and \
+            is_like(line[1:].replace(" ", ""), bssids):
+        return Finding(f"a space stands after `{line[0].upper()}`", source.place(number, 1),
+                       f"write {in_full(f'{line[0].upper()} {line[1:]}')}")
+    named = re.match(r"([AWaw])[=:,;]+(?=[0-9A-Fa-f]{2})", line)
+    if named:
+        return Finding(f"a space alone stands after `{named[1].upper()}`",
+                       source.place(number, 2, named.end() - 1),
+                       f"write {in_full(f'{named[1].upper()} {line[named.end():]}')}")
+    marked = re.fullmatch(r"([AaWw])([^\w\s:])((?:[0-9A-Fa-f]+\2)+[0-9A-Fa-f]+)", line)
+    if marked:
+        return Finding(f"{quoted(marked[2])} stands where a space does", source.place(number, 2),
+                       f"write {in_full(f'{marked[1].upper()} {marked[3].replace(marked[2], chr(32))}')}")
+    underscored = re.fullmatch(r"([AaWw])_((?:[0-9A-Fa-f]+_)+[0-9A-Fa-f]+)", line)
+    if underscored:
+        digits = underscored[2].replace("_", " ")
+        return Finding("`_` stands where a space does", source.place(number, 2),
+                       f"write {in_full(f'{underscored[1].upper()} {digits}')}")
+    include = INCLUDE.match(line)
+    if include:
+        return Finding("no other file is read from here: a trace is one text", place.part(include[0]),
+                       "write that file's lines in this place")
+    if REMARK.match(line):
         return Finding("a remark begins with `#`", source.place(number, 1, 2),
-                       f"write {quoted('# ' + line.strip(';/-!% '))}")
+                       f"write {in_full('# ' + remark_of(line))}")
     if REPORT_LINE.fullmatch(line) or re.match(r"station [0-9a-f:]{17} |end$", line):
-        return Finding("this is a line of a report, and no trace", place)
+        return Finding("this is a line of a report, and no trace", place,
+                       f"where the report was written over the trace, as by `> {source.name}`, which empties a file "
+                       "before it is read, take the trace from a copy, and write the report to another file")
     if re.match(r"[a-z_]+ *= *\S|\[\[?network", line):
         return Finding("this is a line of a configuration, and no trace", place,
                        "a configuration stands before the line `---`, or in a file of its own: `run CONFIG TRACE`")
@@ -154,125 +200,15 @@ def of_other_text(source: Source, number: int, line: str, bssids: list[str]) -> 
     if strange:
         return strange
     first = line.split(" ")[0]
+    if re.fullmatch(r"(?:EOF|EOT|END|quit|exit|stop)\.?", line.strip()):
+        return Finding(f"{quoted(first)} is no word of a trace, which ends with its last line",
+                       source.place(number, 1, len(first)), "leave it out")
+    digits = re.sub("[^0-9A-Fa-f]", "", line)
+    if re.fullmatch(r"(?:[0-9A-Fa-f]{2}[ :.,-]?)+", line) and is_like(digits, bssids):
+        return Finding("a line begins with its word, which is missing here, and its digits have spaces alone between",
+                       place.part(first), f"write {in_full(f'A {digits}')}")
     return Finding(f"{quoted(first)} is no word of a trace: a line begins with `A`, `W` or `T`, or with `#`",
-                   source.place(number, 1, len(first)), "a remark begins with `#`")
-
-
-def octets_from(line: str) -> int:
-    """Where the digits of a line begin."""
-    match = re.match(r"A ?|W +[^ ]+ *", line)
-    return match.end() if match else 0
-
-
-def of_digits(source: Source, number: int, line: str, bssids: list[str]) -> Finding | None:
-    """L2: another character among the digits, or an odd number of them."""
-    begin = octets_from(line)
-    digits = line[begin:]
-    stray = re.search("[^0-9A-Fa-f ]", digits)
-    second = of_second_line(source, number, line)
-    if second:
-        return second
-    if stray is None:
-        return of_odd_digits(source, number, line, begin)
-    strange = unfilled(source, number, line, begin + stray.start()) or behind_words(source, number, begin, bssids)
-    if strange:
-        return strange
-    named = BEFORE_FRAME.match(line)
-    if named:
-        return Finding("behind `A` the frame follows at once: an address stands there in what `live` answers, and "
-                       "behind `W`", source.place(number, named.start(1) + 1, len(named[1])),
-                       f"write {quoted(f'A {line[named.end():].strip()}')}")
-    at = begin + stray.start()
-    if values.address_fault(digits.strip()) is None:
-        return Finding("an address alone stands here, and a frame has more: Frame Control and Duration stand before it",
-                       source.place(number, begin + 1, len(digits.strip())),
-                       f"{called.document('FIRST_TRACE.md')} has lines to copy")
-    if digits.startswith(("...", "\u2026"), stray.start()):
-        return Finding("`...` stands for octets that were left out, and a line has all octets of its frame",
-                       source.place(number, at + 1, 3 if stray[0] == "." else 1), "write them there")
-    kinds = re.match("(probe|auth|join|assoc|data|null|poll|leave|deauth|beacon)", digits)
-    if kinds:
-        return Finding(f"behind `A` the frame's octets stand, and {quoted(digits.split(' ')[0])} is a word for it",
-                       source.place(number, begin + 1, len(digits)),
-                       f"{called.fellow('frame')} writes the line of such a frame")
-    return of_remark(source, number, line, at) or of_stray(source, number, line, at) or \
-        among_marks(source, number, begin, bssids) or of_no_digit(line[at], source.place(number, at + 1))
-
-
-def of_stray(source: Source, number: int, line: str, at: int) -> Finding | None:
-    """A character among the digits, by what people write there."""
-    place, letter, before, behind = source.place(number, at + 1), line[at], line[:at], line[at + 1:]
-    if letter in "hH" and before[-1:].isalnum():
-        return Finding(f"digits stand without `{letter}` behind them", place, f"leave each `{letter}` out")
-    if letter in "\"'`":
-        return Finding("digits stand without quotes", place, f"write {quoted(line.translate(NO_QUOTES))}")
-    if letter == "#":
-        return Finding("a remark has a line of its own, and here one stands behind a frame", source.place(
-            number, at + 1, len(line) - at), "move it to a line before this one")
-    if letter in "xX" and before.endswith("0"):
-        return Finding("digits stand without `0x`", source.place(number, at, 2), "leave `0x` out")
-    if letter == "%" and re.search("%[0-9A-Fa-f]{2}%", line):
-        return Finding("octets are written as in an address of a page (URL), each with `%` before it", place,
-                       f"write {quoted(line.replace('%', ''))}")
-    if letter in BETWEEN_DIGITS:
-        return of_mark_between(line[octets_from(line):], at - octets_from(line), place)
-    if letter == "\t":
-        return Finding("a TAB among the digits; spaces alone may stand there", place, "write a space")
-    if letter == "\r":
-        return of_return(source, number, line, place)
-    if letter == "\\" and behind.strip() == "":
-        return Finding("a frame is one line, and a backslash doesn't join it with the next one", place,
-                       "write the next line's digits here")
-    return None
-
-
-def of_no_digit(letter: str, place: Place) -> Finding:
-    """A character that is no digit, and perhaps looks like one."""
-    like = {"O": "0", "o": "0", "l": "1", "I": "1"}.get(letter) or plain_letter(letter)
-    return Finding(f"{quoted(letter)} is no hexadecimal digit", place, f"write {like}" if like else
-                   "a frame is digits of 0 to 9 and a to f, with spaces where you like")
-
-
-def of_mark_between(digits: str, at: int, place: Place) -> Finding:
-    """A mark between digits, once or between all of them."""
-    mark, word = digits[at], word_around(digits, at)
-    mended = "".join(digit for digit in word if digit not in BETWEEN_DIGITS)
-    if digits.count(mark) > MOST_MARKS:
-        write = f"leave each `{mark}` out: write {quoted('A ' + digits.replace(mark, ''), MOST_SHOWN)}"
-    else:
-        write = f"write {quoted(mended)} for {quoted(word)}" if mended else f"leave {quoted(word)} out"
-    return Finding(f"digits stand without `{mark}` between them; spaces may stand there", place, write)
-
-
-def of_return(source: Source, number: int, line: str, place: Place) -> Finding:
-    """A CR behind a frame."""
-    if line.rstrip("\r").count("\r"):
-        return with_returns(source, number, line)
-    if number == len(source.lines):
-        return Finding("the last line ends with CR, and no LF follows: a CR is dropped before an LF alone", place,
-                       "`sed 's/\\r*$//'` takes the CRs off")
-    return Finding("a line ends with at most one CR", place, "`sed 's/\\r*$//'` takes the CRs off")
-
-
-def word_around(text: str, at: int) -> str:
-    """What stands between spaces around a place of a text; of a long word what is near that place."""
-    begin, end = text.rfind(" ", 0, at) + 1, text.find(" ", at)
-    end = len(text) if end < 0 else end
-    return text[max(begin, at - MOST_AROUND):min(end, at + MOST_AROUND)]
-
-
-def of_odd_digits(source: Source, number: int, line: str, begin: int) -> Finding | None:
-    """Where a digit may be missing or one too many: the first group with an odd number, else the whole."""
-    count = len(line[begin:].replace(" ", ""))
-    if count % 2 == 0:
-        return None
-    groups = [match for match in re.finditer("[^ ]+", line[begin:]) if len(match[0]) % 2]
-    group = groups[0] if len(groups) == 1 or len(line[begin:].split(" ")) > 1 else None
-    text = f"an odd number of digits, {count}: each octet has two"
-    if group is None:
-        return Finding(text, source.place(number, begin + 1, len(line) - begin), "a digit is missing, or one too many")
-    return Finding(text, source.place(number, begin + group.start() + 1, len(group[0])),
-                   f"this group has {len(group[0])}: a digit is missing, or one too many")
+                   source.place(number, 1, len(first)), f"where it is a remark write {in_full(f'# {line.strip()}')}")
 
 
 def of_name(source: Source, number: int, line: str, names: dict[str, str]) -> Finding | None:
@@ -280,22 +216,15 @@ def of_name(source: Source, number: int, line: str, names: dict[str, str]) -> Fi
     match = re.match("W +([^ ]+)", line)
     word = match[1].strip("\"'`") if match else ""
     owners = [bssid for bssid, name in names.items() if name.lower() == word.lower()]
+    close = difflib.get_close_matches(word, list(names.values()), 1, LIKE)
+    if match and not owners and close and not re.fullmatch("[0-9A-Fa-f:.-]+", word):
+        owners = [bssid for bssid, name in names.items() if name == close[0]]
     if not match or not owners:
         return None
-    return Finding(f"after `W` a network is named by its address, and {quoted(word)} is the SSID of "
+    what = "is" if names[owners[0]].lower() == word.lower() else "is nearly"
+    return Finding(f"after `W` a network is named by its address, and {quoted(word)} {what} the SSID of "
                    f"{' and '.join(owners)}",
                    source.place(number, match.start(1) + 1, len(match[1])), f"write `W {owners[0]}`")
-
-
-def of_letters(source: Source, number: int, line: str, names: dict[str, str]) -> Finding | None:
-    """A network's SSID as letters within a frame."""
-    stray = re.search("[^0-9A-Fa-f ]", line[octets_from(line):])
-    at = octets_from(line) + stray.start() if stray else 0
-    found = next((name for name in names.values() if stray and name in line and
-                  line.index(name) <= at < line.index(name) + len(name)), None)
-    return None if not found else Finding(
-        f"{quoted(found)} stands here as letters, and a frame has the digits of its octets",
-        source.place(number, line.index(found) + 1, len(found)), f"write `{found.encode().hex()}`")
 
 
 def of_address(source: Source, number: int, line: str, bssids: list[str]) -> Finding | None:
@@ -308,20 +237,32 @@ def of_address(source: Source, number: int, line: str, bssids: list[str]) -> Fin
     fault = values.address_fault(word)
     if not fault:
         return None
-    empty = unfilled(source, number, line, match.start(1), having(bssids) if bssids else None)
-    if empty:
-        return empty
-    if not re.search("[:.-]", word) and re.search("[^0-9A-Fa-f]", word):
-        return Finding(f"after `W` a network is named by its address, and {quoted(word)} is none",
-                       source.place(number, match.start(1) + 1, len(word)), having(bssids) if bssids else None)
     text, span, mended = fault
     some = bssids[0] if bssids else "02:00:00:00:00:01"
+    whole = source.place(number, match.start(1) + 1, len(word))
+    digits = line[match.start(1):].replace(" ", "")
+    if re.fullmatch("[0-9A-Fa-f]+", digits) and re.fullmatch("[0-9A-Fa-f]{4}|[0-9A-Fa-f]{8}", word) and \
+            is_like(digits, bssids):
+        return Finding("a frame on the air (802.11) stands behind `W`, which is for a frame on a wire, and before it "
+                       "the address of the network", whole, f"write {in_full(f'A {line[match.start(1):]}')}")
+    joined = re.match(r"((?:[0-9A-Fa-f]{2}:){5}[0-9A-Fa-f]{2})[,;]?(?=[0-9A-Fa-f]{6})", word)
+    if joined:
+        return Finding("a space is missing behind the address of the network",
+                       source.place(number, match.start(1) + len(joined[1])),
+                       f"write {in_full(f'W {joined[1]} {word[len(joined[0]):]}')}")
+    empty = None if mended else unfilled(source, number, line, match.start(1), having(bssids) if bssids else None)
+    if empty:
+        return empty
+    if len(word) < LEAST_ADDRESS or not re.search("[:.-]", plain_text(word)) and re.search("[^0-9A-Fa-f]", word):
+        return Finding(f"after `W` a network is named by its address, and {quoted(word)} is none", whole,
+                       having(bssids) if bssids else None)
     place = source.place(number, match.start(1) + 1 + span[0], span[1] - span[0])
     if DIGITS.fullmatch(word) and (mended is None or mended not in map(str.lower, bssids)):
         return Finding("after `W` the BSSID is missing, the address of the network whose wire it is, before the frame",
-                       source.place(number, match.start(1) + 1, len(word)),
-                       f"write {quoted(f'W {some} {word}', 60)}" + (f"; {having(bssids)}" if bssids else ""))
-    return Finding(text, place, f"write `W {mended or some}`")
+                       whole, f"write {in_full(f'W {some} {word}')}" + (f"; {having(bssids)}" if bssids else ""))
+    is_one = not bssids or mended is not None and mended in map(str.lower, bssids)
+    return Finding(text, place, f"write `W {mended or some}`" if is_one or not mended else
+                   f"the address is {mended}, which no network has; {having(bssids)}")
 
 
 def having(bssids: list[str]) -> str:

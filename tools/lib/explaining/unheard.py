@@ -5,10 +5,10 @@ from collections.abc import Iterable
 from explaining.check_sequences import LEAST_LEN
 from explaining.reason import Reason
 from explaining.repairs import repaired
-from frames import Frame, address_text
-from in_words import address_word
+from frames import ASSOCIATION_REQUEST, BROADCAST, MANAGEMENT, PROBE_REQUEST, REASSOCIATION_REQUEST, Frame, address_text
+from in_words import address_word, name_in
 
-
+NAMING = (PROBE_REQUEST, ASSOCIATION_REQUEST, REASSOCIATION_REQUEST)
 
 def unheard(octets: bytes, networks: dict[bytes, str]) -> Reason | None:
     """The reason, for networks with these addresses and names; None where nothing but the address itself is to be
@@ -29,12 +29,26 @@ def unheard(octets: bytes, networks: dict[bytes, str]) -> Reason | None:
         return Reason(f"Address 1 is {address_text(frame.receiver)}, which is its sender, Address 2, too: the "
                       "network's BSSID stands there", (4, 10), f"write `{bssid.hex()}`")
     like = nearest(frame.receiver, networks)
+    if like is None and is_slip(frame.receiver.hex(), BROADCAST.hex()):
+        return Reason(f"Address 1 is {address_text(frame.receiver)}, and all are `{BROADCAST.hex()}`", (4, 10),
+                      f"write `{BROADCAST.hex()}`")
     if like is None:
-        return None
+        return by_name(octets, networks)
     turned = ": its octets stand the wrong way round, and so may those of the other addresses" * \
         (frame.receiver == like[::-1])
     return Reason(f"Address 1 is {address_text(frame.receiver)}, and {networks[like]} has {address_text(like)}{turned}",
                   (4, 10), f"write `{like.hex()}`")
+
+
+def by_name(octets: bytes, networks: dict[bytes, str]) -> Reason | None:
+    """A request to another address that names one of the networks."""
+    frame = Frame(octets)
+    if frame.type != MANAGEMENT or frame.subtype not in NAMING:
+        return None
+    name = (name_in(frame) or b"").decode("utf-8", "replace")
+    bssid = next((bssid for bssid, other in networks.items() if name and other == name), None)
+    return Reason(f"Address 1 is {address_text(frame.receiver)}, no network's, and it names `{name}`, which has "
+                  f"{address_text(bssid)}", (4, 10), f"write `{bssid.hex()}`, as Address 3 too") if bssid else None
 
 
 def nearest(address: bytes, others: Iterable[bytes]) -> bytes | None:

@@ -1,19 +1,25 @@
 """From the program's words to what is said of its answer: finds the texts that it was given, and who explains what."""
+import glob
 import os
+import re
+import shlex
 from dataclasses import dataclass, field
 
 import called
-from explaining import config, no_toml, octet_records, odd_config, other_programs, runs, trace_lines, words
-from explaining.answers import Answer, Fault, read_fault
+from explaining import (as_they_come, config, configuration, no_key, no_toml, octet_records, odd_config,
+                        other_programs, runs, trace_lines, words)
+from explaining.answers import Answer, Fault, read_fault, said_already
 from explaining.line_by_line import Unanswered
 from explaining.source import Finding, Source
 from explaining.toml_scan import NoToml
 from texts import TextError
 
 SEPARATOR = b"---"
-STANDARD_INPUT = "standard input"
-MOST_LIVE_FAULTS = 5
-NOTHING_FOUND = f"no reason was found: {called.document('FAULTS.md')} says of each fault what to look at"
+STANDARD_INPUT, ENDED_WELL = "standard input", "the program ended well"
+# How many faults of lines are looked at, how many causes are told of them, and how many numbers behind each.
+MOST_LIVE_FAULTS, MOST_LIVE_GROUPS, MOST_NUMBERS = 200, 5, 10
+QUOTED = re.compile("`[^`]*`")
+NOTHING_FOUND = f"no reason was found: {called.document('FORMATS.md')} says of each fault what to look at"
 
 
 @dataclass
@@ -68,6 +74,8 @@ def texts_of(given_words: list[str], given: bytes | None, name: str = STANDARD_I
 
 def source_of(name: str) -> Source | None:
     """A file's text, or None where it can't be read, or only once, as a pipe."""
+    if os.path.exists(name) and os.path.samefile(name, os.devnull):
+        return Source(name, b"")
     if not os.path.isfile(name):
         return None
     try:
@@ -116,7 +124,7 @@ def findings_of(texts: Texts, fault: Fault) -> list[Finding]:
 def of_another_program(source: Source) -> Finding | None:
     """A text of TOML that has none of the program's keys; nothing if it is no TOML."""
     try:
-        return other_programs.without_listed(config.Config(source))
+        return other_programs.without_listed(configuration.Config(source))
     except (NoToml, RecursionError):
         return None
 
@@ -124,15 +132,32 @@ def of_another_program(source: Source) -> Finding | None:
 def of_order(texts: Texts) -> Finding | None:
     """A trace where the configuration is looked for, and a configuration behind it."""
     behind = next((trace for trace in texts.traces if trace and "[[network]]" in trace.text), None)
-    if texts.words[:1] not in (["run"], ["play"]) or texts.config is None or behind is None:
+    if texts.words[:1] not in ([name] for name in words.SUBCOMMANDS) or texts.config is None:
         return None
     first = next((line for line in texts.config.lines if line.strip() and not line.startswith("#")), "")
-    if not no_toml.TRACE_LINE.fullmatch(first):
+    if not no_toml.TRACE_LINE.fullmatch(first) or "[[network]]" in texts.config.text:
         return None
-    names = texts.config.name, behind.name
-    others = [trace.name for trace in texts.traces if trace and trace is not behind]
-    return Finding(f"{names[0]} is a trace, and {names[1]} a configuration: the configuration comes first", None,
-                   f"write `{' '.join([texts.words[0], names[1], names[0], *others])}`")
+    if texts.words[0] == "check":
+        config_name = config_beside(texts.config.name) or "CONFIG"
+        return Finding(f"{texts.config.name} is a trace, and a configuration is read here", None,
+                       f"write `{shlex.join(['run', config_name, texts.config.name])}`")
+    if behind is None:
+        command, *names = texts.words
+        config_name = config_beside(texts.config.name) or "CONFIG"
+        return Finding(f"{texts.config.name} is a trace, and behind `{command}` the configuration comes first, which "
+                       "is missing",
+                       None, f"write `{shlex.join([command, config_name, *names])}`" if command != "live" else
+                       f"write `live {config_name} < {texts.config.name}`")
+    trace, config = texts.config.name, behind.name
+    others = [other.name for other in texts.traces if other and other is not behind]
+    return Finding(f"{trace} is a trace, and {config} a configuration: the configuration comes first", None,
+                   f"write `{' '.join([texts.words[0], config, trace, *others])}`")
+
+
+def config_beside(name: str) -> str | None:
+    """The one configuration in the folder of a file; None where there is none, or are several."""
+    found = glob.glob(os.path.join(glob.escape(os.path.dirname(name)), "*.toml"))
+    return found[0] if len(found) == 1 else None
 
 
 def of_first_line(texts: Texts) -> Finding | None:
@@ -141,9 +166,9 @@ def of_first_line(texts: Texts) -> Finding | None:
     if trace is None or texts.config is None or texts.config.text.strip() or not trace.text.strip():
         return None
     first = next(number for number, line in enumerate(trace.lines, 1) if line.strip())
-    if no_toml.is_yaml(trace, first):
+    if no_key.is_yaml(trace, first):
         return Finding("this is YAML, and a configuration is TOML", trace.place(first, 1, len(trace.line(first))),
-                       no_toml.FOR_YAML)
+                       no_key.FOR_YAML)
     return Finding("the configuration is empty: the text begins with the line `---`, before which it has to stand",
                    Source(trace.name, SEPARATOR, trace.first - 1).place(1, 1, len(SEPARATOR)),
                    "write the configuration before it")
@@ -152,7 +177,7 @@ def of_first_line(texts: Texts) -> Finding | None:
 def names_of(texts: Texts) -> dict[str, str]:
     """The networks' SSIDs by their addresses, as the configuration has both."""
     try:
-        networks = config.Config(texts.config).networks if texts.config else []
+        networks = configuration.Config(texts.config).networks if texts.config else []
     except (NoToml, RecursionError):
         return {}
     pairs = [(network.entries.get("bssid"), network.entries.get("ssid")) for network in networks]
@@ -168,7 +193,20 @@ def of_good_run(texts: Texts, answer: Answer) -> list[str]:
         return of_live(texts, octet_records.faults_of(answer.output), "record")
     if texts.words[:1] == ["live"]:
         return of_live(texts, [fault for fault in map(read_fault, output.splitlines()) if fault], "line")
-    return ["the program ended well", *of_findings(odd_in(texts, output))]
+    return [ENDED_WELL, *of_findings(odd_in(texts, output))]
+
+
+def odd_as_they_come(texts: Texts, faults: list[Fault]) -> list[Finding]:
+    """What is odd in lines or records that had no fault, where they may be looked at once more."""
+    given = texts.traces[0] if texts.traces else None
+    if texts.records is not None:
+        given = as_they_come.as_lines(STANDARD_INPUT, texts.records)
+    if texts.config is None or texts.program is None or given is None:
+        return []
+    try:
+        return as_they_come.odd(texts.config, given, {fault.line for fault in faults if fault.line}, texts.program)
+    except (TextError, Unanswered) as fault:
+        return [Finding(f"what is odd in what came wasn't looked for: {fault}")]
 
 
 def odd_in(texts: Texts, output: str) -> list[Finding]:
@@ -184,21 +222,36 @@ def odd_in(texts: Texts, output: str) -> list[Finding]:
 
 
 def of_live(texts: Texts, faults: list[Fault], what: str) -> list[str]:
-    """The faults of lines or records that were answered as they came."""
-    lines = []
+    """The faults of lines or records that were answered as they came: those of one cause once, with the others' numbers
+    behind it."""
+    groups: dict[tuple[str, ...], list[Fault]] = {}
+    findings: dict[tuple[str, ...], list[Finding]] = {}
     for fault in faults[:MOST_LIVE_FAULTS]:
-        lines += [fault.said, *of_findings(findings_of(texts, fault) or [Finding(NOTHING_FOUND)])]
-    if len(faults) > MOST_LIVE_FAULTS:
-        lines.append(f"and {len(faults) - MOST_LIVE_FAULTS} more {what}s with a fault")
-    return lines or ["the program ended well", f"no {what} had a fault"]
+        found = findings_of(texts, fault) or [Finding(NOTHING_FOUND)]
+        key = (fault.code, *(QUOTED.sub("`", finding.text) for finding in found))
+        findings.setdefault(key, found)
+        groups.setdefault(key, []).append(fault)
+    lines = []
+    for key, group in list(groups.items())[:MOST_LIVE_GROUPS]:
+        lines += [group[0].said, *of_findings(findings[key])]
+        is_told = any("so in " in (finding.advice or "") for finding in findings[key])
+        lines += [f"  so in {numbers_text(what, group[1:])}"] * (len(group) > 1 and not is_told)
+    rest = [fault for group in list(groups.values())[MOST_LIVE_GROUPS:] for fault in group] + faults[MOST_LIVE_FAULTS:]
+    lines += [f"and with a fault: {numbers_text(what, rest)}"] if rest else []
+    return (lines or [ENDED_WELL, f"no {what} had a fault"]) + of_findings(odd_as_they_come(texts, faults))
+
+
+def numbers_text(what: str, faults: list[Fault]) -> str:
+    """The numbers of the lines or records of some faults, the first few of them."""
+    numbers = ", ".join(str(fault.line) for fault in faults[:MOST_NUMBERS])
+    more = len(faults) - MOST_NUMBERS
+    return f"{what}{'s' * (len(faults) > 1)} {numbers}" + (f" and {more} more" if more > 0 else "")
 
 
 def explain_config(name: str, said: str) -> list[str]:
     """What is said of a configuration's file in which the program found this fault: for who ran it already."""
-    fault = read_fault(said)
-    if fault is None:
-        return [said]
-    return explain(texts_of(["check", name], None), Answer(1, b"", fault, said))
+    answer = said_already(said)
+    return [said] if answer.fault is None else explain(texts_of(["check", name], None), answer)
 
 
 def is_joined_file(name: str) -> bool:

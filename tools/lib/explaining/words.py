@@ -1,35 +1,40 @@
 """What a fault of the program's words, files, memory or streams comes of."""
 import difflib
-import glob
 import os
 import re
 import shlex
 import stat
-from collections.abc import Callable
 
 import called
-from explaining.answers import Fault
-from explaining.source import Finding, quoted
+from explaining.answers import SUBCOMMANDS, Fault
+from explaining.files import in_folder, is_like_file, missing_file, names_within
+from explaining.source import DASHES, Finding, quoted
 
-SUBCOMMANDS = {"check": "check CONFIG", "run": "run CONFIG TRACE", "play": "play CONFIG TRACE...",
-               "live": "live CONFIG"}
 FORMS = ("check CONFIG, run CONFIG TRACE, play CONFIG TRACE..., live CONFIG and live --octets CONFIG; without words it "
          "reads standard input")
 OCTETS = "--octets"
 # Words of tools, by those that people give the program; of them the tools themselves have no word for what they do.
 OF_OTHERS = {"status": "live", "events": "live", "kick": "live", "reload": "live", "check-radio": "live",
              "check-networks": "live", "explain": "explain", "frame": "frame", "picture": "picture"}
+# Tools with other names than the program's words, which take what stands behind them.
+FELLOWS = ("config-from-hostapd", "trace-from-capture", "capture-from-run", "capture-from-report", "report-to-json",
+           "live-demo", "open-status")
+# What people call what the program does, and the program itself where its name stands among its words.
+CALLED = {**dict.fromkeys(("validate", "verify", "lint", "test", "parse", "config", "load", "syntax"), "check"),
+          **dict.fromkeys(("exec", "simulate", "replay", "trace", "execute"), "run"),
+          **dict.fromkeys(("serve", "server", "daemon", "ap", "start", "listen", "stream"), "live")}
+ITSELF = ("apctl", "sudo", "explain", "waltigon-explain", "waltigon")
+CONFIGURATION = re.compile(r"^\[\[network", re.M)
+BINARY = ("--binary", "--bytes", "--raw", "--octet", "--records", "--octects", "-octets", "-o", "-b")
 OF_ITSELF: dict[str, list[str]] = {"explain": ["CONFIG"], "frame": ["--help"], "picture": ["--help"]}
 # How many words follow each at least.
 LEAST = {"check": 1, "run": 2, "play": 2, "live": 1}
 # The options of the tool that starts the program on a radio.
-OF_BRIDGE = ("--phy", "--wire", "--wires", "--share", "--monitor", "--country", "--idle", "--record", "--tables",
-             "--status",
-             "--bridge", "--json", "--watch")
-MOST_TRACES, MOST_FILES, MOST_READ = 64, 4, 65_536
-# How much a file's name has to be like the one that was given, for it to be meant: all of it, and what stands before its
-# ending.
-LIKE, STEM_LIKE = 0.75, 0.65
+OF_BRIDGE = ("--phy", "--wire", "--wires", "--share", "--monitor", "--by", "--country", "--idle", "--no-update",
+             "--record", "--record-limit", "--tables", "--status", "--status-host", "--status-from",
+             "--station-metrics", "--names", "--as-root", "--bridge", "--program", "--json", "--watch", "--since")
+MOST_TRACES, MOST_READ = 64, 65_536
+LIKE = 0.75  # how much an option has to be like another one
 
 
 def explain(fault: Fault, words: list[str]) -> list[Finding]:
@@ -47,6 +52,17 @@ def of_words(fault: Fault, words: list[str]) -> list[Finding]:
     if unreadable:
         return [Finding("a word isn't UTF-8, and the program reads no other words", None,
                         "give the file another name, or a link to it")]
+    dashed = next((word for word in words if word[:1] in DASHES), None)
+    if dashed:
+        return [of_dashes(words, dashed)]
+    cut = cut_name(words)
+    if cut:
+        return [cut]
+    begin = next((at for at, word in enumerate(words) if os.path.basename(word) not in ITSELF), len(words))
+    if 0 < begin < len(words) and not os.path.isfile(words[begin - 1]) and words[begin] in SUBCOMMANDS:
+        return [Finding(f"{quoted(words[begin - 1])} stands among the program's words, which begin with its "
+                        f"command", None,
+                        f"write `{shlex.join(words[begin:])}` behind the program's name alone")]
     first, rest = words[0], words[1:]
     if first in ("-h", "--help", "help", "-V", "--version"):
         return [Finding(f"the program has no word {quoted(first)}", None, f"its words are {FORMS}")]
@@ -56,9 +72,14 @@ def of_words(fault: Fault, words: list[str]) -> list[Finding]:
     if several:
         return [of_several(several + rest, first)]
     if first in OF_OTHERS:
-        return [Finding(f"the program has no word {quoted(first)}: it is one of {called.fellow(OF_OTHERS[first])}", None,
-                        f"write `{shlex.join([*called.fellow(OF_OTHERS[first]).split(), *OF_ITSELF.get(first, [first])])}`")]
-    close = difflib.get_close_matches(first.lower(), list(SUBCOMMANDS), 1, 0.6)
+        tool = called.fellow(OF_OTHERS[first])
+        return [Finding(f"the program has no word {quoted(first)}: it is one of "
+                        f"{tool}", None, f"write `{shlex.join([*tool.split(), *OF_ITSELF.get(first, [first])])}`")]
+    if first in FELLOWS:
+        return [Finding(f"the program has no word {quoted(first)}: it is a tool of its own", None,
+                        f"write `{shlex.join([*called.fellow(first).split(), *rest])}`")]
+    close = [CALLED[first.lower()]] if first.lower() in CALLED else \
+        difflib.get_close_matches(first.lower(), list(SUBCOMMANDS), 1, 0.6)
     if close:
         write = shlex.join([close[0], *rest]) if len(rest) >= LEAST[close[0]] else SUBCOMMANDS[close[0]]
         return [Finding(f"the program has no word {quoted(first)}", None, f"write `{write}`")]
@@ -74,19 +95,49 @@ def of_words(fault: Fault, words: list[str]) -> list[Finding]:
         return [Finding(f"the program has no word {quoted(first)}, and no options", None,
                         f"{more}its words are {FORMS}")]
     if is_like_file(first):
-        return [Finding(f"a file's name, {quoted(first)}, is no first word", None, f"write `{form_for(words)}`, or "
-                        f"`{called.program()} < {first}` where it is a configuration and a trace")]
+        return [of_missing_command(words)]
     return [Finding(f"the program has no word {quoted(first)}", None, f"its words are {FORMS}")]
+
+
+def of_missing_command(files: list[str]) -> Finding:
+    """Names of files alone: which command is missing before them, or that a file is both texts and needs none."""
+    first = files[0]
+    said = f"a file's name, {quoted(first)}, is no first word"
+    whole = f"`{called.program()} < {shlex.quote(first)}`"
+    if len(files) == 1 and is_joined(text_of(first)):
+        return Finding(f"{said}: it is a configuration and a trace in one, with a line `---`", None, f"write {whole}")
+    meant = sorted(files, key=lambda name: not CONFIGURATION.search(text_of(name)))
+    command = form_for(meant).split()[0]
+    other = "" if len(files) > 1 or os.path.isfile(first) else f", or {whole} where it is a configuration and a trace"
+    return Finding(f"the command `{command}` is missing: {said}", None, f"write `{form_for(meant)}`{other}")
+
+
+def cut_name(words: list[str]) -> Finding | None:
+    """A file's name with blanks, of which the shell made several words."""
+    for begin in range(len(words)):
+        for end in range(begin + 2, len(words) + 1):
+            name = " ".join(words[begin:end])
+            if os.path.isfile(name) and not all(map(os.path.exists, words[begin:end])):
+                meant = [*words[:begin], name, *words[end:]]
+                write = shlex.join(meant) if meant[0] in SUBCOMMANDS else form_for(meant)
+                return Finding(f"{quoted(name)} is a file, and its blanks make {end - begin} words of its name: a "
+                               f"name with blanks stands in quotes", None, f"write `{write}`")
+    return None
+
+
+def of_dashes(words: list[str], dashed: str) -> Finding:
+    """A word that begins with a dash of print, as texts that were printed have it, for two hyphens."""
+    meant = [f"--{word.lstrip(DASHES + '-')}" if word[:1] in DASHES else word for word in words]
+    options = [word for word in meant[1:] if word.startswith("--")]
+    write = shlex.join([meant[0], *options, *(word for word in meant[1:] if not word.startswith("--"))])
+    return Finding(f"{quoted(dashed)} begins with a dash of print (U+{ord(dashed[0]):04X}), and an option with two "
+                   f"hyphens",
+                   None, f"write `{write}`")
 
 
 def value_of(word: str) -> str:
     """What stands behind `=` in an option; another word as it is, and nothing of an option alone."""
     return word.partition("=")[2] if word.startswith("-") else word
-
-
-def is_like_file(word: str) -> bool:
-    """Whether a word names a file, or is written as a file's name."""
-    return os.path.exists(word) or bool(os.path.splitext(word)[1]) or "/" in word
 
 
 def form_for(files: list[str]) -> str:
@@ -118,11 +169,15 @@ def of_subcommand(first: str, rest: list[str]) -> Finding:
         if dashed in ("-h", "--help", "--version"):
             return Finding(f"the program has no word {quoted(dashed)}", None, f"its words are {FORMS}")
         others = [value_of(word) for word in rest if not word.startswith("-") or is_like_file(value_of(word))]
-        is_octets = first == "live" and difflib.SequenceMatcher(None, dashed, OCTETS).ratio() > LIKE
+        name = dashed.partition("=")[0]
+        is_octets = first == "live" and (form != SUBCOMMANDS[first] or OCTETS in rest or name in BINARY or
+                                         difflib.SequenceMatcher(None, name, OCTETS).ratio() > LIKE)
         meant = [first] + [OCTETS] * is_octets + others
-        write = f"write `{shlex.join(meant)}`; " if len(others) == LEAST[first] else ""
+        write = f"write `{shlex.join(meant)}`" if len(others) == LEAST[first] else ""
+        is_file = os.path.lexists(dashed) or not write
+        of_name = f"for a file of this name write `{first} -- {more}`" if is_file else ""
         return Finding(f"{quoted(dashed)} begins with `-`, and `{first}` has {options}", None,
-                       f"{write}for a file of this name write `{first} -- {more}`")
+                       "; ".join(filter(None, (write, of_name))))
     least = LEAST[first]
     count = len([word for word in rest if word != "--"])
     if count < least:
@@ -130,11 +185,33 @@ def of_subcommand(first: str, rest: list[str]) -> Finding:
     if first == "live":
         files = [word for word in rest if word not in ("--", OCTETS)]
         is_octets = form != SUBCOMMANDS[first] or OCTETS in rest
-        return Finding(f"`live` reads its {'records' if is_octets else 'lines'} from standard input, and takes one word "
-                       "and no more", None, f"write `live {f'{OCTETS} ' * is_octets}{files[0]} < {files[1]}`")
+        if rest[0] in OF_OTHERS and not os.path.exists(rest[0]):
+            return of_bridge(rest)
+        if files[0] in ("octets", "octet", "binary") and not os.path.exists(files[0]):
+            return Finding(f"{quoted(files[0])} is no file: the option has two hyphens", None,
+                           f"write `{shlex.join([first, OCTETS, *files[1:]])}`")
+        if len(files) < 2:
+            return Finding(f"behind `--` stand names of files, and `{OCTETS}` stands there", None,
+                           f"write `{shlex.join([first, OCTETS, *files])}`")
+        return Finding(f"`live` reads its {'records' if is_octets else 'lines'} from standard input, and takes one "
+                       f"word and no more", None, f"write `live {f'{OCTETS} ' * is_octets}{files[0]} < {files[1]}`")
+    files = [word for word in rest if word != "--"]
+    if first == "run" and count == least + 1 and not os.path.exists(files[-1]):
+        return Finding(f"`run` writes its report on standard output, and takes no word for it, as {quoted(files[-1])}",
+                       None, f"write `{shlex.join([first, *files[:-1]])} > {files[-1].lstrip('>')}`")
+    if first == "check" and count == 2 and not files[1].endswith(".toml"):
+        return Finding(f"`check` takes a configuration alone, and there are {count} words", None,
+                       f"write `{shlex.join(['run', *files])}` for a trace")
     return Finding(f"`{first}` takes {'one word' if least == 1 else 'two words'} and no more, and there are {count}",
                    None, f"write `{form}`" + (", or `play CONFIG TRACE...` for several traces" if first == "run"
                                               else ", and `run CONFIG TRACE` for a trace" if first == "check" else ""))
+
+
+def of_bridge(words: list[str]) -> Finding:
+    """What the tool does that has the name of one of the program's words."""
+    return Finding(f"{quoted(words[0])} is asked of {called.fellow('live')}, which is another program than "
+                   f"`{called.program()} "
+                   f"live`", None, f"write `{shlex.join([*called.fellow('live').split(), *words])}`")
 
 
 def of_missing(first: str, files: list[str], form: str) -> Finding:
@@ -143,29 +220,41 @@ def of_missing(first: str, files: list[str], form: str) -> Finding:
     if several:
         return of_several([first, *(name for word in files for name in names_within(word) or [word])], several)
     text = text_of(files[0]) if files else ""
-    if re.search("^---$", text, re.M) and re.search(r"^\[\[network", text, re.M):
+    if is_joined(text):
         return Finding(f"after `{first}` the word TRACE is missing, and {quoted(files[0])} is a configuration and a "
                        "trace in one, with a line `---`", None, f"write `{called.program()} < {files[0]}`")
     if re.search(r"^(?:A|W [0-9A-Fa-f:]{17}) +[0-9A-Fa-f]{2}|^T$", text, re.M):
         return Finding(f"{quoted(files[0])} is a trace, and after `{first}` a configuration stands before it", None,
                        f"write `{first} CONFIG {files[0]}`")
     what = "TRACE" if files else "CONFIG"
+    given = standard_input() if first in ("run", "play") and files else None
+    if given:
+        return Finding(f"after `{first}` the word TRACE is missing, and the trace is on standard input, which "
+                       f"`{first}` doesn't read", None, f"write `{shlex.join([first, *files, given])}`, without `<`")
     return Finding(f"after `{first}` the word {what} is missing", None, f"write `{form}`")
 
 
-def names_within(word: str) -> list[str]:
-    """The words that stand in one, with commas or blanks between, each of which the program has or is a file's name;
-    none where there are fewer than two, or a file has that name."""
-    parts = [part for part in re.split(r"[,;\s]+", word) if part]
-    is_meant = len(parts) > 1 and not os.path.exists(word) and all(
-        part in SUBCOMMANDS or is_like_file(part) for part in parts)
-    return parts if is_meant else []
+def standard_input() -> str | None:
+    """The name of the file on standard input; None where it is none."""
+    try:
+        if not stat.S_ISREG(os.fstat(0).st_mode):
+            return None
+        path = os.readlink("/proc/self/fd/0")
+    except OSError:
+        return None
+    near = os.path.relpath(path)
+    return near if len(near) < len(path) else path
 
 
 def of_several(meant: list[str], word: str) -> Finding:
     """A word that holds several."""
-    return Finding(f"{quoted(word)} is one word, and names {len(names_within(word))}: a space that no quotes hold stands "
-                   "between words", None, f"write `{shlex.join(meant)}`")
+    return Finding(f"{quoted(word)} is one word, and names {len(names_within(word))}: a space that no quotes hold "
+                   f"stands between words", None, f"write `{shlex.join(meant)}`")
+
+
+def is_joined(text: str) -> bool:
+    """Whether a text is a configuration and a trace with a line `---` between."""
+    return bool(re.search("^---$", text, re.M) and CONFIGURATION.search(text))
 
 
 def text_of(name: str) -> str:
@@ -180,6 +269,8 @@ def text_of(name: str) -> str:
 def of_file(fault: Fault, words: list[str]) -> list[Finding]:
     """A file that can't be read."""
     name = fault.file or ""
+    if words[:1] == ["live"] and name in OF_OTHERS:
+        return [of_bridge(words[1:])]
     if name == "-" and "-" not in words:
         return [Finding("standard input can't be read: it is closed, or a folder", None,
                         f"give a text by `{called.program()} < my.input`, or `live CONFIG < LINES`")]
@@ -199,63 +290,6 @@ def of_file(fault: Fault, words: list[str]) -> list[Finding]:
     return []
 
 
-def in_folder(name: str) -> str | None:
-    """The files of a folder that may be meant, the newest first."""
-    try:
-        paths = [path for path in (os.path.join(name, file) for file in os.listdir(name)) if os.path.isfile(path)]
-        paths.sort(key=os.path.getmtime, reverse=True)
-    except OSError:
-        return None
-    more = len(paths) - MOST_FILES
-    files = ", ".join(map(os.path.basename, paths[:MOST_FILES]))
-    if more > 0:
-        return f"the newest of its files are {files}, and there are {more} more"
-    return f"in it are {files}" if paths else None
-
-
-def missing_file(name: str, advice: str | None, reason: OSError) -> Finding:
-    """A name that no file has."""
-    if os.path.islink(name):
-        return Finding(f"{quoted(name)} is a link to {quoted(os.readlink(name))}, which isn't there", None, advice)
-    if not isinstance(reason, FileNotFoundError):
-        return Finding(f"{quoted(name)} can't be read: {reason.strerror}", None, advice)
-    folder = os.path.dirname(name) or "."
-    if names_within(name):
-        return Finding(f"{quoted(name)} isn't there, and is one word for {len(names_within(name))} files", None,
-                       f"write `{shlex.join(names_within(name))}`")
-    if re.search(r"[*?]|\[.+\]", name) and not advice:
-        return Finding(f"{quoted(name)} isn't there: the shell puts files in the place of a pattern, and leaves one as "
-                       "it is that no file fits, or that stands in quotes", None, matching(name))
-    if name.startswith("~"):
-        home = os.path.expanduser(name)
-        advice = "a shell puts the home in the place of `~` where no quotes stand around it" + \
-            (f": write {home}" if os.path.exists(home) else "; there is no " + home)
-    if not os.path.isdir(folder):
-        return Finding(f"{quoted(name)} isn't there: there is no folder {quoted(folder)}", None, advice)
-    try:
-        files = {file.lower(): file for file in filter(like(name), os.listdir(folder))}
-        close = [files[file] for file in difflib.get_close_matches(os.path.basename(name).lower(), files, 1, LIKE)]
-    except OSError:
-        close = []
-    if close and not advice:
-        advice = f"`{os.path.join(os.path.dirname(name), close[0])}` is there, and may be meant"
-    where = f"the folder {os.path.realpath(folder)} has none of this name"
-    return Finding(f"{quoted(name)} isn't there: {where}", None, advice)
-
-
-def matching(name: str) -> str:
-    """Which files fit a pattern, or that none does."""
-    found = sorted(glob.glob(name))[:MOST_FILES]
-    folder = os.path.dirname(name) or "."
-    return f"without quotes it is {', '.join(found)}" if found else f"`ls {folder}` shows which files are there"
-
-
-def like(name: str) -> Callable[[str], bool]:
-    """Whether a file may be meant by a name, by what stands before its ending: many files share that."""
-    stem = os.path.splitext(os.path.basename(name))[0].lower()
-    return lambda file: difflib.SequenceMatcher(None, stem, os.path.splitext(file)[0].lower()).ratio() >= STEM_LIKE
-
-
 def of_sources(fault: Fault, words: list[str]) -> list[Finding]:
     """More traces than may be played."""
     count = len([word for word in words[2:] if word != "--"])
@@ -264,8 +298,8 @@ def of_sources(fault: Fault, words: list[str]) -> list[Finding]:
 
 
 def of_memory(fault: Fault, words: list[str]) -> list[Finding]:
-    """Memory that isn't there: for what a line would have one network of `live` keep or send, for `live` to begin, or for
-    a run."""
+    """Memory that isn't there: for what a line would have one network of `live` keep or send, for `live` to begin, or
+    for a run."""
     if fault.line is not None:
         return [Finding("the process may not have the memory for what this network would keep or send: the network has "
                         "not changed, and others may have taken what came", None,

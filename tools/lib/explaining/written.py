@@ -6,7 +6,7 @@ from itertools import accumulate
 
 from explaining.reason import Reason
 from explaining.spans import BEFORE_DIGITS
-from frames import CONTROL, PS_POLL, Frame
+from frames import BROADCAST, CONTROL, PS_POLL, Frame
 from in_words import octets_text
 from texts import Line
 
@@ -30,6 +30,7 @@ class Known:
     def meant(self, name: str, octets: bytes) -> bytes | None:
         """The address in the place of one with an octet too few or too many."""
         nearest = [*self.bssids, *self.stations] if name == "Address 1" else [*self.stations, *self.bssids]
+        nearest += [BROADCAST] * (name != "Address 2")
         return next((address for address in nearest if is_one_off(address, octets)), None)
 
 
@@ -48,7 +49,8 @@ def misfit(text: str, line: Line, known: Known) -> Reason | None:
     stand between fields."""
     groups = groups_of(text)
     fields = WIRED if line.kind == "W" else POLL if is_poll(line.octets) else HEADER
-    if line.kind == "T" or len(groups) < LEAST_GROUPS or ADDRESS_LEN not in groups:
+    is_other = fields is HEADER and len(line.octets) > 1 and Frame(line.octets).type == CONTROL
+    if line.kind == "T" or is_other or len(groups) < LEAST_GROUPS or ADDRESS_LEN not in groups:
         return None
     place = begin = 0
     for number, length in enumerate(groups):
@@ -116,8 +118,9 @@ class Slip:
             return Reason(f"{name} has {octets_text(len(octets))}, and {NUMBERS[size]}", span,
                           f"write `{meant.hex()}`" if meant else None)
         if fits(self.fields[self.place + 1:], self.groups):
+            write = "the identifier, as `01c0` for 1," if name == "AID" else "`0000`"
             return Reason(self.missing(name, size, known), span,
-                          None if size == ADDRESS_LEN else f"write `0000` before `{octets.hex()}`")
+                          None if size == ADDRESS_LEN else f"write {write} before `{octets.hex()}`")
         if fits(self.fields[self.place:], self.groups[1:]):
             return Reason(f"`{octets.hex()}` stands {self.behind()}, and belongs to no field", span, "leave it out")
         return None

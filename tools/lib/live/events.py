@@ -1,7 +1,8 @@
 """What happens to stations and wires of an access point that runs, for scripts: lines of JSON, each as it comes.
 
 The bridge keeps the last events and is asked for those that are new, so no reader keeps it waiting. Where another bridge
-takes its place, its events follow; a line says so, and one says where events are missing. docs/JSON.md has all of them.
+takes its place, its events follow; a line says so, and one says where events are missing. docs/FORMATS.md has all of
+them.
 """
 import json
 import re
