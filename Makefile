@@ -136,7 +136,7 @@ test-live: apctl ## tests the bridge with real stations in a guest; takes root
 	@tools/dev/test-live site
 	@tools/dev/test-prometheus
 
-# Draws the example of three networks, the picture of README.md, and those of docs/EXAMPLES.md.
+# Draws the example of three networks, the picture of README.md, and those of examples/README.md.
 picture: ## draws the pictures of README.md and docs/
 	@tools/dev/install
 	@tools/picture $(THREE)/input $(THREE)/stdout --out docs/three_networks.svg

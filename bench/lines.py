@@ -1,4 +1,4 @@
-"""The lines of a trace (docs/PROTOCOL.md, "Trace"), and the octets that stations send and that come over the wire, as
+"""The lines of a trace (docs/FORMATS.md, "Trace"), and the octets that stations send and that come over the wire, as
 a well-behaved sender makes them. Addresses, names and bodies are octets."""
 import os
 import sys

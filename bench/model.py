@@ -1,7 +1,7 @@
-"""A slow model of docs/PROTOCOL.md: of a configuration and a trace, what the program has to write, octet for octet; and
-of a configuration and records, what `apctl live --octets` has to write ("Lines as they come").
+"""A slow model of docs/PROTOCOL.md and docs/FORMATS.md: of a configuration and a trace, what the program has to write,
+octet for octet; and of a configuration and records, what `apctl live --octets` has to write ("Lines as they come").
 
-bench/stations, bench/limits and bench/fuzz hold the program against it. It follows the sentences of that document one
+bench/stations, bench/limits and bench/fuzz hold the program against it. It follows the sentences of these pages one
 by one, and shares nothing with the program. What is read of a string of octets, or of a wired frame, stands in
 tools/lib/reading.py, which the tools for captures follow too.
 """

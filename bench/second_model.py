@@ -1,7 +1,8 @@
 #!/usr/bin/env python3
-"""A second model of docs/PROTOCOL.md, in plain Python: of a configuration and a trace, what the program has to write.
+"""A second model of docs/PROTOCOL.md and docs/FORMATS.md, in plain Python: of a configuration and a trace, what the
+program has to write.
 
-It was written from the clauses of IEEE Std 802.11-2016 and RFC 1042 and from docs/PROTOCOL.md alone, by someone who had
+It was written from the clauses of IEEE Std 802.11-2016 and RFC 1042 and from these pages alone, by someone who had
 seen neither the definitions nor the first model, bench/model.py. So where both models and the program give one answer,
 their writers took each sentence to say the same. Neither model takes anything from the other.
 
@@ -36,7 +37,7 @@ STATUS_OF_A_FAULT = 1  # of a configuration or a trace
 
 # --- Configuration --------------------------------------------------------------------------------------------------
 
-BYTE_ORDER_MARK = "\ufeff"  # docs/FAULTS.md, "Which TOML is read": at the start it is read over
+BYTE_ORDER_MARK = "\ufeff"  # docs/FORMATS.md, "Which TOML is read": at the start it is read over
 MOST_LEVELS = 80  # that a configuration nests
 LARGEST_INTEGER = 2**63 - 1  # TOML: an integer that isn't held without loss is an error; 64 bits are held
 

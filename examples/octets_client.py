@@ -4,7 +4,7 @@
 Usage: octets_client.py CONFIG TRACE [PROGRAM]. It gives the program the lines of a trace one by one, and prints each
 frame that the networks send, behind the number of the line that brought it, and the tables at the end. A client with a
 radio calls `tick` each `interval` of the configuration, and not where a trace has a line T. A record is a kind, a
-BSSID, a length of two octets, the low one first, and so many octets (docs/PROTOCOL.md, "Lines as they come").
+BSSID, a length of two octets, the low one first, and so many octets (docs/FORMATS.md, "Lines as they come").
 """
 import queue
 import subprocess
