@@ -8,7 +8,8 @@ from test_explain_outcomes import (ATTIC, CELLAR, CELLARS, CONFIG, JOINED, OTHER
                                    join, managed, null, ssid, wire)
 
 FULL = CONFIG.replace("max_known = 4", "max_known = 2")
-ANSWERED = "an association request of it, in line 5, was answered by a deauthentication, reason 6: it wasn't authenticated"
+ANSWERED = ("an association request of it, in line 5, was answered by a deauthentication, reason 6: "
+            "it wasn't authenticated")
 FIRST = "comes its authentication: `A b000"
 
 
@@ -102,7 +103,8 @@ class Consequences(ToolTest):
         found = self.explained([*JOINED, join(THIRD), auth(THIRD), wire(THIRD)], CONFIG, "--lines")
         self.assertIn(ANSWERED, found)
         self.assertNotIn("it never asked", found)
-        self.assertIn("no line before has it authenticate to attic; it asks to authenticate after that, in line 6", found)
+        self.assertIn("no line before has it authenticate to attic; it asks to authenticate after that, in line 6",
+                      found)
 
 
 if __name__ == "__main__":

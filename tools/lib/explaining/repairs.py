@@ -19,8 +19,8 @@ RADIOTAP_MOST, MOST_STEPS = 64, 4
 CONTROL_LENGTHS, UNUSED = {8: 20, 9: 32, 10: 16, 11: 16, 12: 10, 13: 10, 14: 16, 15: 16}, (7, 15)
 QOS_SUBTYPES = (8, 12)
 CURRENT = "the BSSID of the access point that the station comes from"
-NO_CURRENT = "it is associated with none of these networks, and an association request, which has no such field, begins " \
-    "with `0000`"
+NO_CURRENT = "it is associated with none of these networks, and an association request, which has no such field, " \
+    "begins with `0000`"
 
 
 def repaired(bssid: bytes, octets: bytes, current: bytes | None = None) -> Reason | None:
