@@ -127,3 +127,47 @@ fn the_newer_state_stays_until_another_is_whole() {
     }
     [0, 1].iter().for_each(|number| fs::remove_file(format!("{state}.{number}")).unwrap());
 }
+
+/// The file names of the state that an earlier bridge left, handed to the test that a process of its own runs.
+const LEFT_STATE: &str = "BRIDGE_TEST_LEFT_STATE";
+
+/// Says whether a bridge uses the state that it is handed.
+#[test]
+#[ignore = "the next test runs it in a process whose machine seems to have slept"]
+fn says_whether_it_restores() {
+    let state: &str = Box::leak(std::env::var(LEFT_STATE).unwrap().into());
+    let program = JOINING.replace("ANSWER", ANSWER).replace("JOINED", JOINED);
+    let (outcome, stage) = run_with(&program, Surroundings { state: Some(state), ..Surroundings::default() }, end);
+    assert_eq!(outcome, Ok(()));
+    let is_restored = stage.record().iter().any(|line| line.contains(RESTORED_FROM));
+    println!("is restored: {is_restored}");
+}
+
+/// While the machine is suspended its stations leave. So the age of a state counts the time of suspension: in a
+/// namespace of time the clock that goes on meanwhile is ahead by that time, and the other clocks are not.
+#[test]
+fn a_state_is_older_by_the_time_that_the_machine_slept() {
+    let state: &str = Box::leak(format!("{}/slept-{}", std::env::temp_dir().display(), std::process::id()).into());
+    let program = JOINING.replace("ANSWER", ANSWER).replace("JOINED", JOINED);
+    let with_state = Surroundings { state: Some(state), ..Surroundings::default() };
+    let (outcome, _) = run_with(&program, with_state, |stage| {
+        stage.hear(&Unit { control: [0xb0, 0], body: vec![0, 0, 1, 0, 0, 0], ..Unit::default() }.octets());
+        thread::sleep(Duration::from_millis(100));
+        stage.hear(&own_request());
+        thread::sleep(Duration::from_millis(300));
+        end(stage);
+    });
+    assert_eq!(outcome, Ok(()));
+    for (slept, is_restored) in [("20", true), ("120", false)] {
+        let child = std::process::Command::new("unshare")
+            .args(["--time", "--boottime", slept])
+            .arg(std::env::current_exe().unwrap())
+            .args(["--exact", "--ignored", "--nocapture", "run::tests::staying_tests::says_whether_it_restores"])
+            .env(LEFT_STATE, state)
+            .output()
+            .unwrap();
+        let said = String::from_utf8_lossy(&child.stdout);
+        assert!(said.contains(&format!("is restored: {is_restored}")), "{slept} {said} {child:?}");
+    }
+    [0, 1].iter().for_each(|number| fs::remove_file(format!("{state}.{number}")).unwrap());
+}
