@@ -1,5 +1,6 @@
 //! Stations stay from one bridge to the next.
 use super::*;
+use crate::testing::samples::tell_not_run;
 
 /// What the next bridge's program answers to what it is told of the station isn't sent, and the record marks it. A
 /// third one has what the second left.
@@ -147,6 +148,14 @@ fn says_whether_it_restores() {
 /// namespace of time the clock that goes on meanwhile is ahead by that time, and the other clocks are not.
 #[test]
 fn a_state_is_older_by_the_time_that_the_machine_slept() {
+    let slept_for = |seconds: &str| {
+        let mut command = std::process::Command::new("unshare");
+        command.args(["--time", "--boottime", seconds]);
+        command
+    };
+    if !slept_for("1").arg("true").status().map_or(false, |status| status.success()) {
+        return tell_not_run("no namespace of time here, which takes root");
+    }
     let state: &str = Box::leak(format!("{}/slept-{}", std::env::temp_dir().display(), std::process::id()).into());
     let program = JOINING.replace("ANSWER", ANSWER).replace("JOINED", JOINED);
     let with_state = Surroundings { state: Some(state), ..Surroundings::default() };
@@ -159,8 +168,7 @@ fn a_state_is_older_by_the_time_that_the_machine_slept() {
     });
     assert_eq!(outcome, Ok(()));
     for (slept, is_restored) in [("20", true), ("120", false)] {
-        let child = std::process::Command::new("unshare")
-            .args(["--time", "--boottime", slept])
+        let child = slept_for(slept)
             .arg(std::env::current_exe().unwrap())
             .args(["--exact", "--ignored", "--nocapture", "run::tests::staying_tests::says_whether_it_restores"])
             .env(LEFT_STATE, state)
