@@ -1,14 +1,20 @@
 """What the tests share: the repository's cases, and the tools, run as a user runs them."""
 import glob
+import importlib.machinery
+import importlib.util
 import os
 import subprocess
+import sys
 import tempfile
+import time
 import unittest
+from unittest import mock
 
 from texts import SEPARATOR, read_report, read_text, read_trace
 
 TOOLS = os.path.dirname(os.path.dirname(os.path.realpath(__file__)))
 ROOT = os.path.dirname(TOOLS)
+GUEST_TOOLS = os.path.join(TOOLS, "guest")
 # the folders of examples/, and of those of tests/; no two have the same name
 CASES = {os.path.basename(folder): folder for pattern in ("examples/*", "tests/*/*")
          for folder in glob.glob(os.path.join(ROOT, pattern)) if os.path.isdir(folder)}
@@ -17,11 +23,38 @@ THREE = CASES["three_networks_over_some_intervals"]
 GUEST, OFFICE, DEVICES = (bytes([2, 0, 0, 0, 1, number]) for number in (1, 2, 3))
 
 
+def run_to_end(words, **more):
+    """A command that has ended, with what it wrote as text, whatever its status is."""
+    return subprocess.run(words, capture_output=True, text=True, check=False, **more)
+
+
 def tool(name, *words, program_input=None):
     """Runs a tool: its status, standard output and standard error."""
-    done = subprocess.run([os.path.join(TOOLS, name), *words], input=program_input, capture_output=True, text=True,
-                          check=False)
+    done = run_to_end([os.path.join(TOOLS, name), *words], input=program_input)
     return done.returncode, done.stdout, done.stderr
+
+
+def module_of(*names):
+    """A script of the tools as a module, which it isn't named as."""
+    path = os.path.join(TOOLS, *names)
+    loader = importlib.machinery.SourceFileLoader("_".join(names).replace("-", "_"), path)
+    module = importlib.util.module_from_spec(importlib.util.spec_from_loader(loader.name, loader))
+    sys.modules[loader.name] = module
+    loader.exec_module(module)
+    return module
+
+
+def text_of(*names):
+    """A text of the repository."""
+    return read_text(os.path.join(ROOT, *names))
+
+
+def wait_until(holds, seconds=20):
+    """Waits until something holds, or after so many seconds no more: what it is then."""
+    until = time.monotonic() + seconds
+    while not (found := holds()) and time.monotonic() < until:
+        time.sleep(0.05)
+    return found
 
 
 def run_program(*words, program_input=None):
@@ -55,13 +88,34 @@ class ToolTest(unittest.TestCase):
     maxDiff = None
 
     def setUp(self):
-        folder = tempfile.TemporaryDirectory()
-        self.addCleanup(folder.cleanup)
-        self.folder = folder.name
+        self.folder = self.enterContext(tempfile.TemporaryDirectory())
 
-    def path(self, name):
+    def path(self, *names):
         """A file of the test's folder."""
-        return os.path.join(self.folder, name)
+        return os.path.join(self.folder, *names)
+
+    def write(self, name, text="", mode=None):
+        """Writes a file of the test's folder, of a text or octets, and answers its path."""
+        path = self.path(name)
+        os.makedirs(os.path.dirname(path), exist_ok=True)
+        with open(path, "wb") as file:
+            file.write(text.encode() if isinstance(text, str) else text)
+        if mode is not None:
+            os.chmod(path, mode)
+        return path
+
+    def read(self, name):
+        """The text of a file of the test's folder."""
+        return read_text(self.path(name))
+
+    def files_of_run(self, text):
+        """The files of what the program is given, and of its report."""
+        return self.write("input", text), self.write("report", run_program(program_input=text))
+
+    def patch(self, *patches):
+        """Puts values in place of names until the test ends; a patch is a module or class, a name and a value."""
+        for where, name, value in patches:
+            self.enterContext(mock.patch.object(where, name, value))
 
     def refused(self, name, *words, says):
         """A tool has to end with status 1 and one message that says this."""

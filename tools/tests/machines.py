@@ -1,9 +1,5 @@
 """What tests of tools/live share: what `iw` says of radios, and a machine whose commands are only kept."""
-import os
-import tempfile
-import unittest
-from unittest import mock
-
+from common import ToolTest
 from frames import address_of
 from live import changes, machine, setting_up
 from live.changes import Changes
@@ -66,7 +62,7 @@ COUNTED = """\tSupported interface modes:
 """
 
 
-class OnMachine(unittest.TestCase):
+class OnMachine(ToolTest):
     """A machine whose commands are only kept here."""
 
     SETTINGS = Settings(6, 100, (Network(OURS, b"\x82"), Network(OTHER, b"\x82")))
@@ -84,20 +80,14 @@ class OnMachine(unittest.TestCase):
                "-i": "driver: veth\n"}
 
     def setUp(self):
+        super().setUp()
         self.commands = []
         self.failing = None
         self.channel = ""  # what `iw` says of the monitor interface
-        folder = tempfile.TemporaryDirectory()
-        self.addCleanup(folder.cleanup)
-        self.folder = folder.name
         self.made = Changes("phy9", self.folder)
         self.addCleanup(self.made.close)
-        for where, name, value in (
-                (machine, "run", self.run_command), (changes.shutil, "which", lambda command: None),
-                (setting_up, "UNMANAGED", os.path.join(self.folder, "conf.d", "waltigon-{}.conf"))):
-            patch = mock.patch.object(where, name, value)
-            patch.start()
-            self.addCleanup(patch.stop)
+        self.patch((machine, "run", self.run_command), (changes.shutil, "which", lambda command: None),
+                   (setting_up, "UNMANAGED", self.path("conf.d", "waltigon-{}.conf")))
 
     def run_command(self, *words):
         """Keeps a command, which fails where the test says so."""

@@ -5,7 +5,8 @@ import os
 import shutil
 import subprocess
 
-from common import ROOT, ToolTest
+from common import ROOT, ToolTest, run_to_end
+from texts import read_text
 
 SECONDS = 60
 TOOLCHAIN = "rattle-kit-test logic 0"
@@ -68,8 +69,7 @@ class SmallRepository(ToolTest):
         self.write("crates/apctl/src/main.rt", "#!/bin/bash\necho first\n")
         self.write("crates/apctl/stdin", "")
         for name, text in (("rt", RT), ("rattle", RATTLE), ("rattle-link", LINK)):
-            self.write(f"bin/{name}", text)
-            os.chmod(self.path_of(f"bin/{name}"), 0o755)
+            self.write(f"bin/{name}", text, 0o755)
         for name in QUIET:
             self.write(name, "#!/bin/sh\necho '1 passed, 0 failed'\n")
         self.git("init", "-q")
@@ -79,18 +79,15 @@ class SmallRepository(ToolTest):
         """A file of the small repository."""
         return os.path.join(self.top, name)
 
-    def write(self, name, text):
+    def write(self, name, text="", mode=None):
         """Writes one."""
-        os.makedirs(os.path.dirname(self.path_of(name)), exist_ok=True)
-        with open(self.path_of(name), "w", encoding="utf-8") as file:
-            file.write(text)
+        return super().write(self.path_of(name), text, mode)
 
     def state(self, name, holds):
         """Has the toolchain do something else from now on, or no more."""
         path = os.path.join(self.states, name)
         if holds:
-            with open(path, "w", encoding="ascii"):
-                pass
+            self.write(path)
         elif os.path.exists(path):
             os.remove(path)
 
@@ -112,8 +109,7 @@ class SmallRepository(ToolTest):
 
     def run_there(self, *words):
         """A script's status, and what it says."""
-        done = subprocess.run([self.path_of(words[0]), *words[1:]], capture_output=True, text=True, check=False,
-                              cwd=self.top, env=self.environment())
+        done = run_to_end([self.path_of(words[0]), *words[1:]], cwd=self.top, env=self.environment())
         return done.returncode, done.stdout + done.stderr
 
     def built(self):
@@ -127,8 +123,7 @@ class SmallRepository(ToolTest):
         path = os.path.join(self.states, "proved")
         if not os.path.exists(path):
             return []
-        with open(path, encoding="ascii") as file:
-            found = file.read().split()
+        found = read_text(path).split()
         os.remove(path)
         return found
 

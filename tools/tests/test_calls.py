@@ -1,16 +1,10 @@
 """Tests of docs/CALLS.md: it has each public call of the crates, and no other."""
-import importlib.machinery
-import importlib.util
-import os
 import re
 import unittest
 
-from common import ROOT, TOOLS
+from common import module_of, text_of
 
-PATH = os.path.join(TOOLS, "dev", "calls")
-loader = importlib.machinery.SourceFileLoader("calls", PATH)
-calls = importlib.util.module_from_spec(importlib.util.spec_from_loader("calls", loader))
-loader.exec_module(calls)
+calls = module_of("dev", "calls")
 ROW = re.compile(r"^- `([\w:]+)\(", re.M)
 
 
@@ -19,8 +13,7 @@ class Calls(unittest.TestCase):
 
     def test_each_call_has_a_line(self):
         """By name, in each crate; `tools/dev/calls` writes the page anew."""
-        with open(os.path.join(ROOT, "docs", "CALLS.md"), encoding="utf-8") as file:
-            there = file.read()
+        there = text_of("docs", "CALLS.md")
         self.assertGreater(len(ROW.findall(there)), 300)
         for now, then in zip(calls.page().split("\n## "), there.split("\n## "), strict=True):
             self.assertEqual(ROW.findall(now), ROW.findall(then), "run tools/dev/calls")
@@ -63,7 +56,3 @@ class Calls(unittest.TestCase):
         self.assertGreater(len(said), 300)
         self.assertEqual([row for row in said if len(row.split()) > 40], [])
         self.assertLess(sum(len(row.split()) > calls.MOST_WORDS for row in said), len(said) / 15)
-
-
-if __name__ == "__main__":
-    unittest.main()

@@ -4,6 +4,7 @@ import gzip
 import io
 import os
 from itertools import accumulate
+from pathlib import Path
 
 from captures.files import PLAIN_80211, read_capture, write_pcap, write_pcapng
 from common import THREE, ToolTest, tool
@@ -20,15 +21,9 @@ SHORT_BLOCK = bytes.fromhex("060000000c0000000c000000")
 class CaptureFiles(ToolTest):
     """Pcap and pcapng, packed by gzip or not."""
 
-    def write(self, name, octets):
-        """Makes a file of the test's folder."""
-        with open(self.path(name), "wb") as file:
-            file.write(octets)
-
     def octets_of(self, path):
         """What a file has."""
-        with open(path, "rb") as file:
-            return file.read()
+        return Path(path).read_bytes()
 
     def pcap(self):
         """A pcap file, and where its frames end."""
@@ -78,16 +73,16 @@ class CaptureFiles(ToolTest):
             for size in range(ends[0], len(whole) + 1):
                 self.write("cut", whole[:size])
                 wanted = sum(end <= size for end in ends) - 1, size not in ends
-                self.assertEqual(self.read("cut"), wanted, f"{size} octets of {len(whole)}")
+                self.assertEqual(self.frames_of("cut"), wanted, f"{size} octets of {len(whole)}")
 
     def test_packed_file_that_was_cut(self):
         """So it is with one that was packed by gzip."""
         self.write("packed", gzip.compress(self.pcap()[0])[:-12])
-        count, is_cut = self.read("packed")
+        count, is_cut = self.frames_of("packed")
         self.assertTrue(is_cut)
         self.assertLess(count, len(FRAMES))
 
-    def read(self, name):
+    def frames_of(self, name):
         """How many frames a file has, and whether it is told that it ends within one."""
         with contextlib.redirect_stderr(io.StringIO()) as told:
             count = len(list(read_capture(self.path(name))))

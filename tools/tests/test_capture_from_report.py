@@ -115,8 +115,7 @@ class CaptureFromReport(ToolTest):
         lines = text.split("\n")
         place = next(place for place, line in enumerate(lines) if line.startswith("air 0802") and line.endswith("01"))
         lines[place] = lines[place][:-2] + "fe"
-        with open(self.path("changed"), "w", encoding="ascii") as file:
-            file.write("\n".join(lines))
+        self.write("changed", "\n".join(lines))
         tool("capture-from-report", self.path("changed"), "--out", self.path("out"))
         section = report_of(THREE)[1]
         path = os.path.join(self.path("out"), f"{section.bssid.hex()}.air.pcap")
@@ -131,12 +130,10 @@ class CaptureFromReport(ToolTest):
         self.refused("capture-from-report", report, "--out", self.path("out"), "--network", "02:00:00:00:00:09",
                      says="no section of it is of the network 02:00:00:00:00:09")
         for cut in (40, 1):
-            with open(self.path("cut"), "w", encoding="ascii") as file:
-                file.write(read_text(report)[:-cut])
+            self.write("cut", read_text(report)[:-cut])
             self.refused("capture-from-report", self.path("cut"), "--out", self.path("out"), says="report")
-        with open(self.path("short"), "w", encoding="ascii") as file:
-            file.write("network 02:00:00:00:00:01 ssid 6c6162\nevents 1 clock 0 unread 0 lost 0 kept 0\n"
-                       "air 5000\nend\n")
+        self.write("short", "network 02:00:00:00:00:01 ssid 6c6162\nevents 1 clock 0 unread 0 lost 0 kept 0\n"
+                            "air 5000\nend\n")
         self.refused("capture-from-report", self.path("short"), "--out", self.path("out"), says="header alone has 24")
 
 

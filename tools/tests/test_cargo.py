@@ -2,10 +2,10 @@
 import glob
 import os
 import shutil
-import subprocess
 import unittest
 
-from common import TOOLS, ToolTest
+from common import TOOLS, ToolTest, run_to_end
+from texts import read_text
 
 # How cargo finds Debian's crates, a crate that needs one of them, and a version of that which Debian has no more.
 CONFIG = os.path.join(TOOLS, "bridge", ".cargo")
@@ -42,14 +42,12 @@ class Cargo(ToolTest):
         are there stay chosen."""
         crate = self.path("any")
         shutil.copytree(CONFIG, os.path.join(crate, ".cargo"))
-        os.mkdir(os.path.join(crate, "src"))
         lock = os.path.join(crate, "Cargo.lock")
         for path, text in ((os.path.join(crate, "Cargo.toml"), MANIFEST), (lock, CHOSEN),
                            (os.path.join(crate, "src", "main.rs"), "fn main() {}\n")):
-            with open(path, "w", encoding="ascii") as file:
-                file.write(text)
+            self.write(path, text)
         self.begin(crate)
-        self.assertNotIn('"0.2.1"', self.text_of(lock))
+        self.assertNotIn('"0.2.1"', read_text(lock))
         before = os.stat(lock)
         self.begin(crate)
         self.assertEqual((os.stat(lock).st_ino, os.stat(lock).st_mtime_ns), (before.st_ino, before.st_mtime_ns))
@@ -57,11 +55,5 @@ class Cargo(ToolTest):
     def begin(self, crate):
         """Lets cargo choose, as a build does first."""
         script = f'. {TOOLS}/lib/cargo.sh; use_debians_cargo "$1" "$2"; cargo metadata --format-version 1 --offline'
-        done = subprocess.run(["bash", "-c", script, "bash", crate, self.path("target")], capture_output=True, text=True,
-                              check=False)
+        done = run_to_end(["bash", "-c", script, "bash", crate, self.path("target")])
         self.assertEqual(done.returncode, 0, done.stderr)
-
-    def text_of(self, path):
-        """What a file has."""
-        with open(path, encoding="utf-8") as file:
-            return file.read()

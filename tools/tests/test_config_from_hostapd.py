@@ -4,6 +4,7 @@ import subprocess
 import tomllib
 
 from common import PROGRAM, TOOLS, ToolTest, needs_program, tool
+from texts import read_text
 
 FILE = """# three networks
 interface=wlan0
@@ -138,12 +139,10 @@ class FromHostapd(ToolTest):
         self.assertEqual(tool("config-from-hostapd", "-", "--out", path, program_input=refused)[0], 1)
         self.assertFalse(os.path.exists(path))
         self.assertEqual(tool("config-from-hostapd", "-", "--out", path, program_input=LEAST)[:2], (0, ""))
-        with open(path, encoding="utf-8") as file:
-            before = file.read()
+        before = read_text(path)
         self.assertEqual(before, converted(LEAST)[1])
         self.assertEqual(tool("config-from-hostapd", "-", "--out", path, program_input=refused)[0], 1)
-        with open(path, encoding="utf-8") as file:
-            self.assertEqual(file.read(), before)
+        self.assertEqual(read_text(path), before)
         with open(self.path("other.toml"), "w", encoding="utf-8") as file:
             done = subprocess.run([os.path.join(TOOLS, "config-from-hostapd"), "-"], input=refused, stdout=file,
                                   stderr=subprocess.PIPE, text=True, check=False)
@@ -175,9 +174,7 @@ class FromHostapd(ToolTest):
 
     def test_file(self):
         """A file is named by its name; one that isn't there is told."""
-        path = self.path("hostapd.conf")
-        with open(path, "w", encoding="utf-8") as file:
-            file.write(FILE)
+        path = self.write("hostapd.conf", FILE)
         status, written, told = tool("config-from-hostapd", path)
         self.assertEqual(status, 0)
         self.assertTrue(written.startswith("# Made of hostapd.conf. hostapd.conf says nothing of queue, max_known, "))
@@ -189,8 +186,6 @@ class FromHostapd(ToolTest):
         """The program finds no fault in what is written."""
         most = LEAST + "".join(f"bss=b{n}\nssid=n{n}\n" for n in range(15))
         for text, networks in ((FILE, 3), (LEAST, 1), (most, 16)):
-            path = self.path("made.toml")
-            with open(path, "w", encoding="utf-8") as file:
-                file.write(converted(text)[1])
+            path = self.write("made.toml", converted(text)[1])
             done = subprocess.run([PROGRAM, "check", path], capture_output=True, text=True, check=True)
             self.assertEqual(done.stdout, f"ok {networks}\n")

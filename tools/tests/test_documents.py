@@ -2,11 +2,9 @@
 import os
 import re
 import shutil
-import subprocess
 import tomllib
 
-from common import ROOT, ToolTest, needs_program, run_program
-from texts import read_text
+from common import ROOT, ToolTest, needs_program, run_program, run_to_end, text_of
 
 FILES = {
     "CHANGELOG.md": "# Changes\n\n## 0.3.1\n",
@@ -48,18 +46,11 @@ WRONG = [
 class Documents(ToolTest):
     """A small repository, whose documents are right but for one thing."""
 
-    def write(self, name, text):
-        """Writes a file of it."""
-        os.makedirs(os.path.dirname(self.path(name)), exist_ok=True)
-        with open(self.path(name), "w", encoding="utf-8") as file:
-            file.write(text)
-
     def found(self, *words):
         """The status of the checker, and what it says."""
         os.makedirs(self.path(".ci"), exist_ok=True)
         shutil.copy(os.path.join(ROOT, ".ci", "documents"), self.path(".ci"))
-        done = subprocess.run([self.path(os.path.join(".ci", "documents")), *words], capture_output=True, text=True,
-                              check=False)
+        done = run_to_end([self.path(os.path.join(".ci", "documents")), *words])
         self.assertEqual(done.stderr, "")
         return done.returncode, done.stdout
 
@@ -89,8 +80,7 @@ class Documents(ToolTest):
         self.write("crates/other/specs/Other.antt", "-- it moved\n\nabbrev pub alone : Unit\n")
         self.assertEqual(self.found()[0], 1)
         self.assertEqual(self.found("--fix")[0], 0)
-        with open(self.path("docs/PROMISES.md"), encoding="utf-8") as file:
-            self.assertIn("| `alone` | `crates/other/specs/Other.antt` | 3 | it |", file.read())
+        self.assertIn("| `alone` | `crates/other/specs/Other.antt` | 3 | it |", self.read("docs/PROMISES.md"))
         self.assertEqual(self.found()[0], 0)
 
     def test_wrong_bodies_are_counted_anew(self):
@@ -98,15 +88,15 @@ class Documents(ToolTest):
         self.write("wrong/part.toml", "[[run_twice]]\n[[run_never]]\n")
         self.assertEqual(self.found()[0], 1)
         self.assertEqual(self.found("--fix")[0], 0)
-        with open(self.path("docs/PROMISES.md"), encoding="utf-8") as file:
-            self.assertIn("There are 3 wrong bodies of `wrong/`.", file.read())
+        self.assertIn("There are 3 wrong bodies of `wrong/`.", self.read("docs/PROMISES.md"))
+
 
 class Readme(ToolTest):
     """What README.md shows: a configuration, a trace, and what a network answers."""
 
     def blocks(self):
         """The blocks of its text."""
-        return re.findall(r"^```\n(.*?)^```$", read_text(os.path.join(ROOT, "README.md")), re.DOTALL | re.M)
+        return re.findall(r"^```\n(.*?)^```$", text_of("README.md"), re.DOTALL | re.M)
 
     def shown(self):
         """The configuration, and the trace."""
@@ -115,7 +105,7 @@ class Readme(ToolTest):
     def test_it_is_the_sample(self):
         """The configuration is that of share/networks, of three networks, and guests are kept apart in it."""
         config = tomllib.loads(self.shown()[0])
-        self.assertEqual(config, tomllib.loads(read_text(os.path.join(ROOT, "share/networks/phy0.toml"))))
+        self.assertEqual(config, tomllib.loads(text_of("share/networks/phy0.toml")))
         self.assertEqual([(network["ssid"], network["relay"]) for network in config["network"]],
                          [("guests", False), ("office", True), ("devices", False)])
 

@@ -1,35 +1,23 @@
 """Tests of what the cases of stations that doze count, and of the stations that are made up for them."""
 import contextlib
-import importlib.machinery
-import importlib.util
 import os
 import socket
 import subprocess
-import sys
 import time
 import unittest
 
-GUEST = os.path.join(os.path.dirname(os.path.dirname(os.path.realpath(__file__))), "guest")
-sys.path.append(GUEST)
-import dozing  # noqa: E402
-import following  # noqa: E402
-import made_up  # noqa: E402
-from frames import Frame, address_of  # noqa: E402
-from stations import Radio  # noqa: E402
+import dozing
+import following
+import made_up
+from common import GUEST_TOOLS, module_of
+from frames import Frame, address_of
+from stations import Radio
 
+doze_cases = module_of("guest", "doze-cases")
 BSSID, HARDWARE, ALL, PORT = "02:00:00:00:01:01", "02:00:00:00:03:00", "ff:ff:ff:ff:ff:ff", 9000
 MILLISECOND = 1_000_000
 RADIOTAP = bytes([0, 0, 8, 0, 0, 0, 0, 0])
 FROM_NETWORK, MORE = 0x02, 0x20
-
-
-def load_cases():
-    """The program of the cases, which isn't named as a module."""
-    loader = importlib.machinery.SourceFileLoader("guest_doze_cases", os.path.join(GUEST, "doze-cases"))
-    module = importlib.util.module_from_spec(importlib.util.spec_from_loader("guest_doze_cases", loader))
-    sys.modules[module.__name__] = module
-    loader.exec_module(module)
-    return module
 
 
 class Counted(unittest.TestCase):
@@ -85,13 +73,13 @@ class Counted(unittest.TestCase):
 
     def test_the_largest_wakes_come_in_different_parts_of_the_beacon_interval(self):
         """None before the last one's round has ended."""
-        moments = load_cases().rounds_of(7.0, 5.0)
+        moments = doze_cases.rounds_of(7.0, 5.0)
         self.assertEqual([round((moment - 7) / 0.1024 % 1, 6) for moment in moments], [0, 0.25, 0.5, 0.75])
         self.assertTrue(all(later - moment >= 5 for moment, later in zip(moments, moments[1:])))
 
     def test_no_row_is_asked_for_by_the_name_of_another(self):
         """But rows beside a download, and those whose units age."""
-        names = [row.name for row in load_cases().rows()]
+        names = [row.name for row in doze_cases.rows()]
         self.assertEqual(len(names), len(set(names)))
         for name in names:
             others = [other for other in names if name in other and other != name]
@@ -188,7 +176,7 @@ class Sent(unittest.TestCase):
             taken.settimeout(20)
             begin = time.monotonic() + 0.5
             words = ["send", "127.0.0.1", str(taken.getsockname()[1]), str(begin), "1", "10", "100", "--burst", "5"]
-            subprocess.run([os.path.join(GUEST, "stamped"), *words], check=True, capture_output=True, timeout=60)
+            subprocess.run([os.path.join(GUEST_TOOLS, "stamped"), *words], check=True, capture_output=True, timeout=60)
             stamps = [int.from_bytes(taken.recv(200)[:8], "big") / 1e9 - begin for _ in range(10)]
         self.assertGreaterEqual(stamps[0], 0)
         self.assertLess(stamps[4] - stamps[0], 0.4)
@@ -312,7 +300,3 @@ class Stations(unittest.TestCase):
         self.assertEqual([frame.power_management for frame in self.sent], [True, False, True])
         self.assertTrue(all(made_up.stamp_of(frame.body, PORT) for frame in self.sent))
         self.assertEqual({frame.third for frame in self.sent}, {address_of("02:00:00:00:09:01")})
-
-
-if __name__ == "__main__":
-    unittest.main()

@@ -4,7 +4,7 @@ import re
 import shutil
 import subprocess
 
-from common import ROOT, ToolTest
+from common import ROOT, ToolTest, run_to_end
 
 CHECK = os.path.join(".ci", "first-version")
 FIRST = "crates/versions/specs/FirstVersion.antt"
@@ -27,16 +27,14 @@ class FirstVersion(ToolTest):
 
     def check(self, *words):
         """Runs the check in the copy: its status and its lines."""
-        done = subprocess.run([self.path(CHECK), *words], capture_output=True, text=True, check=False)
+        done = run_to_end([self.path(CHECK), *words])
         return done.returncode, done.stdout.splitlines()
 
     def turn(self, name, old, new):
         """Turns a text that stands once in a file of the copy."""
-        with open(self.path(name), encoding="utf-8") as file:
-            text = file.read()
+        text = self.read(name)
         self.assertEqual(text.count(old), 1, f"{name}: {old}")
-        with open(self.path(name), "w", encoding="utf-8") as file:
-            file.write(text.replace(old, new))
+        self.write(name, text.replace(old, new))
 
     def passes(self):
         """The check passes."""

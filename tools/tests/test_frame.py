@@ -142,8 +142,7 @@ class Frames(ToolTest):
     def setUp(self):
         super().setUp()
         self.config = os.path.join(FIRST, "input")
-        with open(self.path("my.trace"), "w", encoding="ascii") as file:
-            file.write("T\n")
+        self.write("my.trace", "T\n")
 
     def words(self, text):
         """Words of a table, with the files of the test."""

@@ -1,8 +1,7 @@
 """Tests of what the gate does beside the proofs: what it installs, and how it counts a crate's tests."""
 import os
-import subprocess
 
-from common import ROOT, TOOLS, ToolTest
+from common import ToolTest, run_to_end, text_of
 
 # Installs packages up to a number at a time, and none that is named in $GONE.
 APT = """#!/bin/sh
@@ -28,27 +27,17 @@ test result: {}. 4 passed; {} failed; 0 ignored; 0 measured; 0 filtered out; fin
 class Packages(ToolTest):
     """What is missing is installed, and what can't be is named and counted."""
 
-    def put(self, name, text):
-        """A script of the test's folder."""
-        os.makedirs(os.path.dirname(self.path(name)), exist_ok=True)
-        with open(self.path(name), "w", encoding="utf-8") as file:
-            file.write(text)
-        os.chmod(self.path(name), 0o755)
-
     def installed(self, most=99, gone="", updated=0):
         """Runs `.ci/packages` in a folder of its own, where nothing is installed: its status, its lines, and what was
         asked of apt-get."""
-        with open(os.path.join(ROOT, ".ci", "packages"), encoding="utf-8") as file:
-            self.put(".ci/packages", file.read())
+        self.write(".ci/packages", text_of(".ci", "packages"), 0o755)
         for name, text in (("bin/apt-get", APT), ("bin/dpkg-query", QUERY), ("bin/sudo", SUDO),
                            ("bin/sleep", "#!/bin/sh\n"), ("log", ""), ("there", "")):
-            self.put(name, text)
+            self.write(name, text, 0o755)
         more = {"PATH": f"{self.path('bin')}:{os.environ['PATH']}", "LOG": self.path("log"), "MOST": str(most),
                 "THERE": self.path("there"), "GONE": gone, "UPDATED": str(updated)}
-        done = subprocess.run([self.path(".ci/packages")], capture_output=True, text=True, check=False,
-                              env={**os.environ, **more})
-        with open(self.path("log"), encoding="ascii") as file:
-            return done.returncode, done.stdout.splitlines(), file.read().splitlines()
+        done = run_to_end([self.path(".ci/packages")], env={**os.environ, **more})
+        return done.returncode, done.stdout.splitlines(), self.read("log").splitlines()
 
     def test_all_at_once(self):
         """One update and one call install all."""
@@ -78,12 +67,9 @@ class Counted(ToolTest):
 
     def counted(self, text, status):
         """What `test_by_cargo` makes of what cargo says."""
-        with open(os.path.join(TOOLS, "lib", "cargo.sh"), encoding="utf-8") as file:
-            script = file.read().replace("/usr/bin/cargo", self.path("cargo"))
-        with open(self.path("cargo"), "w", encoding="ascii") as file:
-            file.write(f"#!/bin/sh\ncat <<'END'\n{text}\nEND\nexit {status}\n")
-        os.chmod(self.path("cargo"), 0o755)
-        done = subprocess.run(["bash", "-euc", f"{script}\ntest_by_cargo"], capture_output=True, text=True, check=False)
+        script = text_of("tools", "lib", "cargo.sh").replace("/usr/bin/cargo", self.path("cargo"))
+        self.write("cargo", f"#!/bin/sh\ncat <<'END'\n{text}\nEND\nexit {status}\n", 0o755)
+        done = run_to_end(["bash", "-euc", f"{script}\ntest_by_cargo"])
         return done.returncode, done.stdout.splitlines()[-1]
 
     def test_what_was_not_run_is_not_counted(self):

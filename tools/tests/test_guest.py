@@ -1,37 +1,23 @@
 """Tests of how the cases of real stations go on where one failed: no case depends on how another ended."""
 import contextlib
-import importlib.machinery
-import importlib.util
 import io
 import os
-import sys
-import tempfile
 import unittest
 from unittest import mock
 
-GUEST = os.path.join(os.path.dirname(os.path.dirname(os.path.realpath(__file__))), "guest")
-sys.path.append(GUEST)
-import airing  # noqa: E402
-import crowding  # noqa: E402
-import parts  # noqa: E402
-import points  # noqa: E402
-import profiling  # noqa: E402
-import sharing  # noqa: E402
-import stage  # noqa: E402
-from stations import Failed  # noqa: E402
+import airing
+import crowding
+import parts
+import points
+import profiling
+import sharing
+import stage
+from common import ToolTest, module_of
+from stations import Failed
+from texts import read_text
 
-
-def load(name):
-    """A program of this name, which isn't that of a module."""
-    loader = importlib.machinery.SourceFileLoader(f"guest_{name}", os.path.join(GUEST, name))
-    module = importlib.util.module_from_spec(importlib.util.spec_from_loader(f"guest_{name}", loader))
-    sys.modules[module.__name__] = module
-    loader.exec_module(module)
-    return module
-
-
-cases, compare, share_cases = load("cases"), load("compare"), load("share-cases")
-wrong_bridges = load("wrong-bridges")
+cases, compare, share_cases, wrong_bridges = (
+    module_of("guest", name) for name in ("cases", "compare", "share-cases", "wrong-bridges"))
 
 
 class WrongBridges(unittest.TestCase):
@@ -42,8 +28,8 @@ class WrongBridges(unittest.TestCase):
         edits = wrong_bridges.read_edits()
         self.assertGreater(len(edits), 8)
         for name, edit in edits.items():
-            with open(os.path.join(wrong_bridges.BRIDGE, edit["file"]), encoding="utf-8") as file:
-                self.assertEqual(file.read().count(edit["old"]), 1, name)
+            text = read_text(os.path.join(wrong_bridges.BRIDGE, edit["file"]))
+            self.assertEqual(text.count(edit["old"]), 1, name)
 
 
 class FakeStart:
@@ -292,17 +278,15 @@ class HandedBack(unittest.TestCase):
         self.assertEqual(stage.without_unsent("02:00:00:00:01:02", wrote, heard, back), wrote)
 
 
-class FullNetworks(unittest.TestCase):
+class FullNetworks(ToolTest):
     """Made-up stations that fill networks."""
 
     def setUp(self):
+        super().setUp()
         self.networks = [crowding.Network(f"02:00:00:00:01:0{place}", f"full{place}") for place in (1, 2)]
         self.sent, self.waiting, self.refusing = [], [], set()
         air = mock.Mock(send=self.send, recv=self.recv)
-        for where, name, value in ((crowding.socket, "socket", lambda *_: air), (crowding, "ANSWER_SECONDS", 0)):
-            patch = mock.patch.object(where, name, value)
-            patch.start()
-            self.addCleanup(patch.stop)
+        self.patch((crowding.socket, "socket", lambda *_: air), (crowding, "ANSWER_SECONDS", 0))
         self.crowd = crowding.Crowd("obs0", self.networks)
 
     def send(self, packet):
@@ -334,14 +318,13 @@ class FullNetworks(unittest.TestCase):
         self.assertEqual(list(self.crowd.joined.values()), [{0, 1, 2}] * 2)
 
 
-class Folders(unittest.TestCase):
+class Folders(ToolTest):
     """Files of starts of one name."""
 
     def test_each_start_has_a_folder_of_its_own(self):
         """By numbers."""
-        with tempfile.TemporaryDirectory() as folder:
-            names = [os.path.basename(stage.new_folder(folder, "silence")) for _ in range(3)]
-            self.assertEqual(names, ["silence", "silence-2", "silence-3"])
+        names = [os.path.basename(stage.new_folder(self.folder, "silence")) for _ in range(3)]
+        self.assertEqual(names, ["silence", "silence-2", "silence-3"])
 
 
 class Shares(unittest.TestCase):
@@ -431,7 +414,3 @@ class Shares(unittest.TestCase):
         names = [row.name for row in share_cases.ROWS] + [division.name for division in share_cases.DIVISIONS]
         for name in names:
             self.assertEqual([other for other in names if name in other], [name])
-
-
-if __name__ == "__main__":
-    unittest.main()

@@ -11,7 +11,7 @@ import subprocess
 import time
 import unittest
 
-from common import CASES, PROGRAM, ROOT, TOOLS, ToolTest, needs_program
+from common import CASES, PROGRAM, ROOT, TOOLS, ToolTest, needs_program, run_to_end, text_of
 from small import SmallRepository
 
 SECONDS = 60
@@ -37,8 +37,8 @@ class Install(ToolTest):
 
     def run_install(self, *words, **environment):
         """The status of share/install, and what it says."""
-        done = subprocess.run([os.path.join(ROOT, "share", "install"), *words], capture_output=True, text=True,
-                              check=False, env={**os.environ, "MAKE_USERS": "no", **environment})
+        done = run_to_end([os.path.join(ROOT, "share", "install"), *words],
+                          env={**os.environ, "MAKE_USERS": "no", **environment})
         return done.returncode, done.stdout + done.stderr
 
     def installed(self, top):
@@ -58,7 +58,7 @@ class Install(ToolTest):
         json = [os.path.join(self.prefix, "bin", "waltigon-report-to-json"), report]
         self.assertIn('"ssid": "lab"', subprocess.run(json, capture_output=True, text=True, check=True).stdout)
         for name in glob.glob(os.path.join(self.prefix, "*bin", "waltigon-*")):
-            done = subprocess.run([name, "--help"], capture_output=True, text=True, check=False)
+            done = run_to_end([name, "--help"])
             self.assertEqual((done.returncode, done.stderr), (0, ""), name)
 
     @needs_program
@@ -81,8 +81,7 @@ class Install(ToolTest):
     def test_others_files_stay(self):
         """Where a file of that name is there, nothing is installed."""
         os.makedirs(os.path.join(self.prefix, "bin"))
-        with open(os.path.join(self.prefix, "bin", "apctl"), "w", encoding="ascii") as file:
-            file.write("other")
+        self.write(os.path.join(self.prefix, "bin", "apctl"), "other")
         status, said = self.run_install(self.prefix)
         self.assertEqual(status, 1)
         self.assertIn("was not installed by this", said)
@@ -112,15 +111,13 @@ class WhatIsInstalled(SmallRepository):
 
     def read(self, name):
         """An installed text."""
-        with open(self.path(f"usr/{name}"), encoding="utf-8") as file:
-            return file.read()
+        return self.read(f"usr/{name}")
 
     def test_missing_bridge_is_told(self):
         """Installing says so where none is built, and the command says where to build it; once built, it is there."""
         self.assertIn("no bridge is installed, without which waltigon-live serves no radio", self.install())
         self.assertFalse(os.path.exists(self.path("usr/lib/waltigon/build/bridge/release/bridge")))
-        self.write("build/bridge/release/bridge", "#!/bin/bash\n")
-        os.chmod(self.path_of("build/bridge/release/bridge"), 0o755)
+        self.write("build/bridge/release/bridge", "#!/bin/bash\n", 0o755)
         self.assertNotIn("no bridge", self.install())
         self.assertTrue(os.access(self.path("usr/lib/waltigon/build/bridge/release/bridge"), os.X_OK))
 
@@ -145,7 +142,7 @@ class WhatIsInstalled(SmallRepository):
         for path in glob.glob(self.path("usr/*bin/waltigon-*")):
             command = os.path.basename(path)
             for words in (["--help"], ["--no-such-word"], FAULTS[COMMANDS[command]]):
-                done = subprocess.run([path, *words], capture_output=True, text=True, check=False, cwd=self.folder)
+                done = run_to_end([path, *words], cwd=self.folder)
                 begins = f"usage: {command} " if words[0].startswith("--") and len(words) == 1 else f"{command}: "
                 said = done.stdout + done.stderr
                 for installed in ("apctl", "bridge/release/bridge"):
@@ -201,8 +198,7 @@ class WhatIsInstalled(SmallRepository):
 
     def test_package_is_refused_at_once(self):
         """Where no program is built, or nothing tells of what, packing says so before it builds anything."""
-        self.write("tools/bridge/build", "#!/bin/sh\n: >begun\n")
-        os.chmod(self.path_of("tools/bridge/build"), 0o755)
+        self.write("tools/bridge/build", "#!/bin/sh\n: >begun\n", 0o755)
         os.remove(self.path_of("build/apctl.origin"))
         self.assertIn("does not tell of what", self.refused_package())
         os.remove(self.path_of("build/apctl"))
@@ -211,8 +207,7 @@ class WhatIsInstalled(SmallRepository):
     def test_packages_are_named_before_they_are_installed(self):
         """All that packing takes and isn't there, in one line, before apt-get begins."""
         for name, script in (("dpkg-query", "exit 1"), ("apt-get", 'echo "apt-get $*"; exit 1'), ("id", "echo 0")):
-            self.write(f"bin/{name}", f"#!/bin/sh\n{script}\n")
-            os.chmod(self.path_of(f"bin/{name}"), 0o755)
+            self.write(f"bin/{name}", f"#!/bin/sh\n{script}\n", 0o755)
         said = self.refused_package()
         before = said.partition("apt-get update")[0]
         self.assertIn("these packages of Debian are missing, and are installed now: debhelper lintian cargo rustc", before)
@@ -243,13 +238,12 @@ class WithoutPackages(ToolTest):
     def setUp(self):
         super().setUp()
         for name in ("scapy", "PIL"):
-            with open(self.path(f"{name}.py"), "w", encoding="ascii") as file:
-                file.write("raise ImportError\n")
+            self.write(f"{name}.py", "raise ImportError\n")
 
     def run_without(self, name, *words, **environment):
         """What a tool answers there."""
-        done = subprocess.run([os.path.join(TOOLS, name), *words], capture_output=True, text=True, check=False,
-                              env={**os.environ, "PYTHONPATH": self.folder, **environment})
+        done = run_to_end([os.path.join(TOOLS, name), *words],
+                          env={**os.environ, "PYTHONPATH": self.folder, **environment})
         return done.returncode, done.stdout, done.stderr
 
     def test_words_are_answered(self):
@@ -286,15 +280,14 @@ class Pages(ToolTest):
 
     def page(self, path):
         """A page as text, and what `man` warns of."""
-        return subprocess.run(["man", "--warnings", "-l", path], capture_output=True, text=True, check=False,
-                              env={**os.environ, "LC_ALL": "C.UTF-8", "MANPAGER": "cat", "MANWIDTH": "200"})
+        return run_to_end(["man", "--warnings", "-l", path],
+                          env={**os.environ, "LC_ALL": "C.UTF-8", "MANPAGER": "cat", "MANWIDTH": "200"})
 
     def test_each_option_is_named(self):
         """Each option of a tool stands in its page, and in no page one that it doesn't have; completion has the same."""
         completions = {}
         for name in ("waltigon.bash", "_waltigon"):
-            with open(os.path.join(ROOT, "share", "completions", name), encoding="utf-8") as file:
-                completions[name] = file.read()
+            completions[name] = text_of("share", "completions", name)
         for command, name in COMMANDS.items():
             helped = subprocess.run([os.path.join(TOOLS, name), "--help"], capture_output=True, text=True, check=True)
             options = set(OPTION.findall(helped.stdout))
@@ -447,6 +440,5 @@ class Sample(ToolTest):
     @needs_program
     def test_sample_has_no_fault(self):
         """The program reads it."""
-        done = subprocess.run([PROGRAM, "check", os.path.join(ROOT, "share", "apctl.toml")], capture_output=True,
-                              text=True, check=False)
+        done = run_to_end([PROGRAM, "check", os.path.join(ROOT, "share", "apctl.toml")])
         self.assertEqual((done.stdout, done.stderr), ("ok 2\n", ""))

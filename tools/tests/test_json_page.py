@@ -1,21 +1,14 @@
 """Tests of docs/FORMATS.md, "JSON and metrics": it names each member of the documents, each event and each metric, and
 no other metric."""
-import os
 import re
 import unittest
 
-from common import ROOT
+from common import text_of
 from status.demo import demo_of
 from status.document import complete
 from status.history import NETWORK_SERIES, STATION_SERIES
 from status.metrics import metrics_of
 from statuses import document, network, station
-
-
-def text_of(*names):
-    """A file of the repository."""
-    with open(os.path.join(ROOT, *names), encoding="utf-8") as file:
-        return file.read()
 
 
 def members(value):
@@ -67,7 +60,3 @@ class JsonPage(unittest.TestCase):
                         drops={"x": 1}, left_out={"x": 1}, record={"octets": 1, "fault": None})
         told = set(re.findall(r"^# TYPE (\w+)", metrics_of(complete(made, 0), of_each_station=True), re.M))
         self.assertEqual(told, set(re.findall(r"`(waltigon_\w+)`", self.page)))
-
-
-if __name__ == "__main__":
-    unittest.main()

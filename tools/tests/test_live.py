@@ -13,7 +13,6 @@ import socket
 import stat
 import subprocess
 import sys
-import tempfile
 import threading
 import time
 import unittest
@@ -21,6 +20,7 @@ from contextlib import ExitStack, suppress
 from dataclasses import replace
 from unittest import mock
 
+from common import TOOLS, ToolTest, run_to_end, text_of, tool, wait_until
 from configurations import ONE_NETWORK
 from frames import address_of, address_text
 from live import (asking, changes, checks, machine, recording, rights, running, serving, setting_up, showing,
@@ -41,15 +41,9 @@ from machines import OTHER, OURS, OnMachine
 from status import asking as asking_of_status
 from status.endpoint import Endpoint
 from statuses import document, network, only_known, station
+from texts import read_text
 
-TOOLS = os.path.dirname(os.path.dirname(os.path.realpath(__file__)))
 STRANGER = address_of("02:bb:00:00:00:01")
-
-
-def read(path):
-    """The text of a file."""
-    with open(path, encoding="utf-8") as file:
-        return file.read()
 
 
 def setUpModule():
@@ -191,7 +185,7 @@ class Machine(OnMachine):
         with (mock.patch.object(setting_up, "reload_network_manager", reloaded),
               mock.patch.object(changes, "reload_network_manager", reloaded),
               mock.patch.object(machine, "interfaces", lambda: others),
-              mock.patch.object(setting_up.SettingUp, "tune", lambda *_: written.append(read(path)))):
+              mock.patch.object(setting_up.SettingUp, "tune", lambda *_: written.append(read_text(path)))):
             made, taken_back, _ = self.changed(self.plan())
         self.assertEqual((made[0], taken_back[-1]), ("reload, True", "reload, False"))
         self.assertEqual(written, ["[device-waltigon-mon0]\nmatch-device=interface-name:mon0*,interface-name:wlan3\n"
@@ -200,7 +194,7 @@ class Machine(OnMachine):
 
     def test_network_manager_without_a_place(self):
         """Where the file can't be written that is told, and stations are served all the same."""
-        with mock.patch.object(setting_up, "UNMANAGED", os.path.join(self.folder, "phy9.lock", "{}.conf")):
+        with mock.patch.object(setting_up, "UNMANAGED", self.path("phy9.lock", "{}.conf")):
             made, _, told = self.changed(self.plan())
         self.assertEqual(made, self.RADIO)
         self.assertIn("mon0.conf: File exists: NetworkManager may take the interfaces of this radio", told)
@@ -230,11 +224,8 @@ class KilledBefore(OnMachine):
         self.made.close()
         again = Changes("phy9", self.folder)
         self.addCleanup(again.close)
-        for name in ("radio", "exists"):
-            answers = self.RADIOS.get if name == "radio" else self.RADIOS.__contains__
-            patch = mock.patch.object(Interface, name, property(lambda found, answers=answers: answers(found.name)))
-            patch.start()
-            self.addCleanup(patch.stop)
+        self.patch((Interface, "radio", property(lambda found: self.RADIOS.get(found.name))),
+                   (Interface, "exists", property(lambda found: found.name in self.RADIOS)))
         self.addCleanup(setattr, self, "made", again)
         self.made = again
         return again
@@ -272,8 +263,7 @@ class KilledBefore(OnMachine):
         """It is told, with what can be done."""
         self.made.close()
         for text in ("", "[1]", '{"a": 1}', '[["interface"]]'):
-            with open(self.made.path, "w", encoding="utf-8") as file:
-                file.write(text)
+            self.write(self.made.path, text)
             with self.assertRaisesRegex(Fault, "take it away where no tools/live runs"):
                 Changes("phy9", self.folder)
 
@@ -286,20 +276,14 @@ class HandedOn(OnMachine):
     def setUp(self):
         super().setUp()
         self.phys, self.addresses, self.up, self.joins, self.found_country = {}, {}, set(), True, "00"
-        for name, value in (("radio", lambda one: self.phys.get(one.name)), ("is_up", lambda one: one.name in self.up),
-                            ("exists", lambda one: one.name in self.phys or one.name == "nowire1"),
-                            ("address", lambda one: self.addresses.get(one.name))):
-            self.patch(Interface, name, property(value))
-        self.patch(machine, "country", lambda: self.found_country)
-        self.patch(machine, "radios", lambda: ["phy9"])
-        self.patch(machine, "interfaces", lambda: [Interface(name) for name in (*self.phys, "nowire1")])
-        self.patch(checks, "this_kernel", lambda: (6, 12))
-
-    def patch(self, where, name, value):
-        """Puts something in place until the test ends."""
-        patch = mock.patch.object(where, name, value)
-        patch.start()
-        self.addCleanup(patch.stop)
+        self.patch(
+            (Interface, "radio", property(lambda one: self.phys.get(one.name))),
+            (Interface, "is_up", property(lambda one: one.name in self.up)),
+            (Interface, "exists", property(lambda one: one.name in self.phys or one.name == "nowire1")),
+            (Interface, "address", property(lambda one: self.addresses.get(one.name))),
+            (machine, "country", lambda: self.found_country), (machine, "radios", lambda: ["phy9"]),
+            (machine, "interfaces", lambda: [Interface(name) for name in (*self.phys, "nowire1")]),
+            (checks, "this_kernel", lambda: (6, 12)))
 
     def run_command(self, *words):
         """The machine is as the commands leave it."""
@@ -380,10 +364,10 @@ class HandedOn(OnMachine):
                 (self.WORDS, self.SETTINGS, lambda: self.up.remove("mon0n2")),
                 (self.WORDS, self.SETTINGS, lambda: setattr(self, "found_country", "US")),
                 (replace(self.WORDS, way=Way.ACCESS_POINTS), self.SETTINGS, lambda: None),
-                (self.WORDS, self.SETTINGS, lambda: self.write("1 2437\n")),
-                (self.WORDS, self.SETTINGS, lambda: self.write("2 managed 2437\n")),
-                (self.WORDS, self.SETTINGS, lambda: self.write("")),
-                (self.WORDS, self.SETTINGS, lambda: os.unlink(os.path.join(self.folder, "phy9.stay")))):
+                (self.WORDS, self.SETTINGS, lambda: self.write("phy9.stay", "1 2437\n")),
+                (self.WORDS, self.SETTINGS, lambda: self.write("phy9.stay", "2 managed 2437\n")),
+                (self.WORDS, self.SETTINGS, lambda: self.write("phy9.stay")),
+                (self.WORDS, self.SETTINGS, lambda: os.unlink(self.path("phy9.stay")))):
             self.setUp()
             self.hand_on()
             change()
@@ -394,11 +378,6 @@ class HandedOn(OnMachine):
             self.assertNotIn("going on with", told)
             self.assertRegex(told, "an earlier start for phy9 (was killed|left its radio set up in another way); taking back")
             self.assertEqual(os.listdir(self.folder), ["phy9.lock"])
-
-    def write(self, text):
-        """Another one has written so how the radio is set up."""
-        with open(os.path.join(self.folder, "phy9.stay"), "w", encoding="utf-8") as file:
-            file.write(text)
 
     def test_fault_before_it_is_set_up(self):
         """What was handed on is taken back where the next start ends before it goes on with it."""
@@ -429,14 +408,10 @@ class WiresThatGo(OnMachine):
 
     def setUp(self):
         super().setUp()
-        self.interfaces = os.path.join(self.folder, "interfaces")
+        self.interfaces = self.path("interfaces")
         self.opened = []
-        for where, name, value in (
-                (machine, "INTERFACES", self.interfaces), (wires, "open_wire", self.open),
-                (machine, "read_file", self.read_file)):
-            patch = mock.patch.object(where, name, value)
-            patch.start()
-            self.addCleanup(patch.stop)
+        self.patch((machine, "INTERFACES", self.interfaces), (wires, "open_wire", self.open),
+                   (machine, "read_file", self.read_file))
         self.setting_up = setting_up.SettingUp(self.WANTED, self.made, ExitStack())
         self.wires = wires.Wires(self.setting_up)
         self.plan = Plan(self.SETTINGS, ((OTHER, "nowire1"),))
@@ -447,17 +422,13 @@ class WiresThatGo(OnMachine):
         path = os.path.join(*path)
         if not path.startswith(self.interfaces) or not os.path.exists(path):
             return None
-        with open(path, encoding="ascii") as file:
-            return file.read().strip()
+        return read_text(path).strip()
 
     def have(self, index, is_up=False):
         """There is the interface with this number."""
-        folder = os.path.join(self.interfaces, "nowire1")
-        os.makedirs(folder, exist_ok=True)
         for name, text in (("ifindex", str(index)), ("iflink", str(index)), ("type", "1"),
                            ("flags", "0x1003" if is_up else "0x1002")):
-            with open(os.path.join(folder, name), "w", encoding="ascii") as file:
-                file.write(text)
+            self.write(os.path.join(self.interfaces, "nowire1", name), text)
 
     def open(self, name):
         """Opens nothing, and keeps the name."""
@@ -544,26 +515,12 @@ class WiresThatGo(OnMachine):
         self.assertEqual(self.commands[before:].count("ip link set nowire1 down"), 1)
 
 
-class WithFiles(unittest.TestCase):
-    """A test with a folder of its own, and a configuration in it."""
+class WithFiles(ToolTest):
+    """A test with a configuration in its folder."""
 
     def setUp(self):
-        folder = tempfile.TemporaryDirectory()
-        self.addCleanup(folder.cleanup)
-        self.folder = folder.name
+        super().setUp()
         self.config = self.write("radio.toml", ONE_NETWORK)
-
-    def write(self, name, text, mode=0o644):
-        """A file of the test's folder."""
-        path = os.path.join(self.folder, name)
-        with open(path, "w", encoding="utf-8") as file:
-            file.write(text)
-        os.chmod(path, mode)
-        return path
-
-    def path(self, name):
-        """A file of the test's folder, there or not."""
-        return os.path.join(self.folder, name)
 
     def wanted(self, program, wires=()):
         """Words."""
@@ -583,11 +540,11 @@ class FilesAndPrograms(WithFiles):
     def test_faults_before_anything(self):
         """A program that isn't there, one that refuses the configuration, a record that is there."""
         with self.assertRaisesRegex(Fault, "make apctl"):
-            check_program(os.path.join(self.folder, "apctl"))
+            check_program(self.path("apctl"))
         refusing = self.write("refusing", "#!/bin/sh\necho fault C4 >&2\nexit 1\n", 0o755)
         with self.assertRaisesRegex(Fault, "fault C4"):
             check_config(self.wanted(refusing))
-        wanted = Wanted("", "", "", "phy0", "mon0", (), os.path.join(self.folder, "none", "record"), None)
+        wanted = Wanted("", "", "", "phy0", "mon0", (), self.path("none", "record"), None)
         with self.assertRaisesRegex(Fault, "its folder isn't there"):
             check_record(wanted, read_settings(self.config))
 
@@ -610,10 +567,9 @@ class FilesAndPrograms(WithFiles):
             words = words_of(wanted, plan, 5, (6, "a.trace"), False, None)
             place = words.index("6:a.trace") + 1
             self.assertEqual(words[place:words.index("--network")], said)
-        done = subprocess.run([os.path.join(TOOLS, "live"), self.config, "--phy", "phy0", "--record-limit", "5M"], capture_output=True, text=True,
-                              check=False)
-        self.assertEqual(done.returncode, 2)
-        self.assertIn("--record-limit says when a record ends: give --record too", done.stderr)
+        status, _, told = tool("live", self.config, "--phy", "phy0", "--record-limit", "5M")
+        self.assertEqual(status, 2)
+        self.assertIn("--record-limit says when a record ends: give --record too", told)
 
     def test_updates_of_wires(self):
         """The bridge is told where wires aren't to learn which stations join."""
@@ -666,7 +622,7 @@ class FilesAndPrograms(WithFiles):
             with self.assertRaisesRegex(Fault, "^--wires "):
                 read_wires(self.write("wires", text))
         with self.assertRaisesRegex(Fault, "No such file"):
-            read_wires(os.path.join(self.folder, "nothing"))
+            read_wires(self.path("nothing"))
 
     def test_faults_of_wires(self):
         """A BSSID that isn't there, a network or an interface given twice, an interface that isn't one for this."""
@@ -683,9 +639,7 @@ class FilesAndPrograms(WithFiles):
 
     def test_words(self):
         """--help says what it is; wrong words are told, and a fault is one line and status 1."""
-        tool = os.path.join(TOOLS, "live")
-        said = subprocess.run([tool, "--help"], capture_output=True, text=True, check=True).stdout
-        self.assertIn("--phy", said)
+        self.assertIn("--phy", tool("live", "--help")[1])
         phy = [self.config, "--phy", "phy0"]
         for words in ([], [self.config], [*phy, "--wire", "x=y"], [*phy, "--tables", "0"], [*phy, "--idle", "-1"],
                       [*phy, "--country", "Germany"], [*phy, "--status", "70000"], ["kick"], ["kick", "x", "y"],
@@ -693,16 +647,12 @@ class FilesAndPrograms(WithFiles):
                       ["check-radio"], ["check-radio", "phy0", "phy1"], [*phy, "--status", "0.0.0.0:9617"],
                       [*phy, "--status", "9617", "--status-host", "a b"], [*phy, "--status-host", "ap1.example"],
                       [*phy, "--station-metrics"], [*phy, "--status", "9617", "--status-from", "192.0.2.1/24"]):
-            self.assertEqual(subprocess.run([tool, *words], capture_output=True, check=False).returncode, 2, words)
-        done = subprocess.run([tool, self.config, "--phy", "phy0", "--program", os.path.join(self.folder, "apctl")],
-                              capture_output=True, text=True, check=False)
-        self.assertEqual((done.returncode, done.stdout, len(done.stderr.splitlines())), (1, "", 1), done.stderr)
-        done = subprocess.run([tool, "status", "--phy", "no-such-radio"], capture_output=True, text=True, check=False)
-        self.assertEqual((done.returncode, done.stdout), (1, ""))
-        self.assertIn("no-such-radio.sock: no bridge answers", done.stderr)
-        done = subprocess.run([tool, "check-radio", "no-such-radio"], capture_output=True, text=True, check=False)
-        self.assertEqual((done.returncode, done.stdout), (1, ""))
-        self.assertIn("live: no-such-radio: there is no such radio", done.stderr)
+            self.assertEqual(tool("live", *words)[0], 2, words)
+        status, said, told = tool("live", self.config, "--phy", "phy0", "--program", self.path("apctl"))
+        self.assertEqual((status, said, len(told.splitlines())), (1, "", 1), told)
+        for words, says in ((["status", "--phy", "no-such-radio"], "no-such-radio.sock: no bridge answers"),
+                            (["check-radio", "no-such-radio"], "live: no-such-radio: there is no such radio")):
+            self.refused("live", *words, says=says)
 
 
 class Unit(WithFiles):
@@ -711,12 +661,11 @@ class Unit(WithFiles):
     @unittest.skipUnless(shutil.which("systemd-analyze"), "systemd isn't there")
     def test_no_fault(self):
         """systemd finds nothing to say of it, where the command is there."""
-        with open(os.path.join(TOOLS, "systemd", "waltigon@.service"), encoding="utf-8") as file:
-            text = file.read()
+        text = text_of("tools", "systemd", "waltigon@.service")
         self.assertEqual(text.count("/usr/local/sbin/waltigon-live"), 1)
         path = self.write("waltigon@phy0.service", text.replace("/usr/local/sbin/waltigon-live",
                                                                 os.path.join(TOOLS, "live")))
-        done = subprocess.run(["systemd-analyze", "verify", "--man=no", path], capture_output=True, text=True, check=False)
+        done = run_to_end(["systemd-analyze", "verify", "--man=no", path])
         self.assertEqual((done.returncode, done.stdout + done.stderr), (0, ""))
 
     def test_page_is_found(self):
@@ -729,11 +678,8 @@ class Asked(WithFiles):
 
     def setUp(self):
         super().setUp()
-        patch = mock.patch.object(changes, "RUN", self.folder)
-        patch.start()
-        self.addCleanup(patch.stop)
-        self.stack = ExitStack()
-        self.addCleanup(self.stack.close)
+        self.patch((changes, "RUN", self.folder))
+        self.stack = self.enterContext(ExitStack())
 
     def answer(self, phy, text):
         """Answers one question, and gives what was asked."""
@@ -876,7 +822,7 @@ class Told(WithFiles):
 
     def test_levels(self):
         """A line has its level where standard error is the journal's, and else none."""
-        with open(os.path.join(self.folder, "journal"), "w+", encoding="utf-8") as file:
+        with open(self.path("journal"), "w+", encoding="utf-8") as file:
             found = os.fstat(file.fileno())
             journal = f"{found.st_dev}:{found.st_ino}"
             for stream, wanted in ((journal, "<4>live: hello\n<4>you\n"), ("1:2", "live: hello\nyou\n")):
@@ -889,7 +835,7 @@ class Told(WithFiles):
 
     def service(self, **more):
         """A manager of services, as a socket, and what speaks to it."""
-        path = os.path.join(self.folder, "notify")
+        path = self.path("notify")
         manager = socket.socket(socket.AF_UNIX, socket.SOCK_DGRAM)
         self.addCleanup(manager.close)
         manager.bind(path)
@@ -952,7 +898,7 @@ class WhatStays(WithFiles):
 
     def test_link(self):
         """What somebody else has put there is not followed."""
-        os.symlink(self.write("other", "other"), os.path.join(self.folder, "phy0.state.1"))
+        os.symlink(self.write("other", "other"), self.path("phy0.state.1"))
         with mock.patch.object(changes, "RUN", self.folder), ExitStack() as stack:
             with self.assertRaisesRegex(Fault, "phy0.state.1: Too many levels of symbolic links"):
                 state_files.StateFiles("phy0", stack)
@@ -975,9 +921,8 @@ class Reloaded(WithFiles):
 
     def setUp(self):
         super().setUp()
-        self.stack = ExitStack()
-        self.addCleanup(self.stack.close)
-        self.stack.enter_context(mock.patch.object(changes, "RUN", self.folder))
+        self.stack = self.enterContext(ExitStack())
+        self.patch((changes, "RUN", self.folder))
         self.program = self.write("apctl", "#!/bin/sh\ngrep -q 'channel = 6$' $2 || { echo 'fault C4' >&2; exit 1; }\n",
                                   0o755)
         self.wanted = Wanted(self.config, self.program, "bridge", "phy0", "mon0", (), None, None)
@@ -1020,8 +965,7 @@ class Reloaded(WithFiles):
     def test_another_process_has_its_number(self):
         """It is sent no signal."""
         told = self.run_with()
-        with open(told.path, encoding="utf-8") as file:
-            found = json.load(file)
+        found = json.loads(read_text(told.path))
         self.write("phy0.run", json.dumps({**found, "started": found["started"] - 1}))
         with self.assertRaisesRegex(Fault, "phy0: no access point runs"):
             running.reload_running("phy0")
@@ -1113,8 +1057,7 @@ class Running(WithFiles):
 
     def setUp(self):
         super().setUp()
-        self.stack = ExitStack()
-        self.addCleanup(self.stack.close)
+        self.stack = self.enterContext(ExitStack())
         for number in (signal.SIGINT, signal.SIGTERM, signal.SIGHUP, signal.SIGUSR1):
             self.stack.callback(signal.signal, number, signal.getsignal(number))
         self.told = self.stack.enter_context(contextlib.redirect_stderr(io.StringIO()))
@@ -1151,21 +1094,18 @@ class Running(WithFiles):
         """The configuration is read again: where it isn't one that is a fault."""
         return replace(before, settings=read_settings(self.config))
 
-    def read(self, name):
-        """What the bridge has written."""
-        with open(os.path.join(self.folder, name), encoding="utf-8") as file:
-            return file.read()
-
     def end_once(self, is_so):
         """Ends it once something is so, or after some seconds."""
-        until = time.monotonic() + 20
-        while not is_so() and time.monotonic() < until:
-            time.sleep(0.05)
+        wait_until(is_so)
         self.end()
 
     def end_once_told(self, text):
         """Ends it once this was told, or after some seconds."""
         self.end_once(lambda: text in self.told.getvalue())
+
+    def end_once_there(self, name):
+        """Ends it once this file is there, or after some seconds."""
+        self.end_once(lambda: os.path.exists(self.path(name)))
 
     def times_asked(self, request):
         """How often the bridge was asked for this so far."""
@@ -1174,6 +1114,23 @@ class Running(WithFiles):
     def end(self):
         """Ends it as a person does."""
         os.kill(os.getpid(), signal.SIGINT)
+
+    def reload_with(self, name, text=""):
+        """Runs it; a file is written, the configuration is read again, and a while later all ends."""
+        def later():
+            self.write(name, text)
+            os.kill(os.getpid(), signal.SIGHUP)
+            time.sleep(0.8)
+            self.end()
+        self.run_bridge(later)
+
+    def once(self, name, does):
+        """What a bridge does as this is called for the first time, and no more."""
+        return f"[ -e {self.folder}/{name} ] || {{ touch {self.folder}/{name}; {does}; }}"
+
+    def left(self):
+        """The files of the radio that are there."""
+        return sorted(name for name in os.listdir(self.folder) if name.startswith("phy0."))
 
     def test_runs_and_ends_by_a_signal(self):
         """It is told what there is, signals are passed on, and what it tells is told."""
@@ -1189,7 +1146,7 @@ class Running(WithFiles):
         self.assertRegex(self.told.getvalue(), "^live: 1 networks are on channel 6, by active monitor interfaces; Ctrl-C ends it, .*\nlive: the program "
                                                "ended with status 0; taking down what was set up\n$")
         self.assertEqual(len(self.followed), 1)
-        self.assertEqual([name for name in os.listdir(self.folder) if name.startswith("phy0.")], ["phy0.lock"])
+        self.assertEqual(self.left(), ["phy0.lock"])
 
     def test_ends_for_the_next_start(self):
         """Where PHY.stay is there what it set up is left, with the state of stations; the next start takes that file away."""
@@ -1199,10 +1156,9 @@ class Running(WithFiles):
         self.run_bridge(later)
         self.assertIn("; all stays as it is set up, for the next start\n", self.told.getvalue())
         self.assertEqual(self.read("phy0.stay"), "2 active-monitors 2437\n")
-        left = ["phy0.lock", "phy0.state.0", "phy0.state.1", "phy0.stay"]
-        self.assertEqual(sorted(name for name in os.listdir(self.folder) if name.startswith("phy0.")), left)
+        self.assertEqual(self.left(), ["phy0.lock", "phy0.state.0", "phy0.state.1", "phy0.stay"])
         self.run_bridge(self.end)
-        self.assertEqual([name for name in os.listdir(self.folder) if name.startswith("phy0.")], ["phy0.lock"])
+        self.assertEqual(self.left(), ["phy0.lock"])
 
     def test_ends_by_a_fault(self):
         """Then all is taken down, whoever asks for what."""
@@ -1216,12 +1172,7 @@ class Running(WithFiles):
     def test_reload(self):
         """By SIGHUP another bridge is started, stations of what is another network now are told to join again, and what
         is set up follows."""
-        def later():
-            self.write("radio.toml", ONE_NETWORK.replace("channel = 6", "channel = 11"))
-            os.kill(os.getpid(), signal.SIGHUP)
-            time.sleep(0.8)
-            self.end()
-        self.run_bridge(later)
+        self.reload_with("radio.toml", ONE_NETWORK.replace("channel = 6", "channel = 11"))
         self.assertEqual(self.read("asked"), "state\nopen\ndismiss 0\nstate\nopen\n")
         self.assertEqual([plan.settings.channel for plan in self.followed], [6, 11])
         told = self.told.getvalue()
@@ -1230,12 +1181,7 @@ class Running(WithFiles):
 
     def test_reload_that_changes_nothing_for_stations(self):
         """Nobody is told to join again."""
-        def later():
-            self.write("radio.toml", ONE_NETWORK.replace("quota = 8", "quota = 9"))
-            os.kill(os.getpid(), signal.SIGHUP)
-            time.sleep(0.8)
-            self.end()
-        self.run_bridge(later)
+        self.reload_with("radio.toml", ONE_NETWORK.replace("quota = 8", "quota = 9"))
         self.assertEqual(self.read("asked"), "state\nopen\nstate\nopen\n")
         self.assertEqual(self.outcomes, [None])
         self.assertIn(" --sends ", self.read("words"))
@@ -1264,9 +1210,7 @@ class Running(WithFiles):
                 time.sleep(0.2)
                 opened.append(len(os.listdir("/proc/self/fd")))
                 os.kill(os.getpid(), signal.SIGHUP)
-                until = time.monotonic() + 20
-                while len(self.outcomes) <= turn and time.monotonic() < until:
-                    time.sleep(0.05)
+                wait_until(lambda turn=turn: len(self.outcomes) > turn)
             self.end()
         self.run_bridge(later)
         self.assertEqual(opened, opened[:1] * 4)
@@ -1278,10 +1222,7 @@ class Running(WithFiles):
 
         def later():
             for turn in range(4):
-                until = time.monotonic() + 20
-                while (self.told.getvalue().count("networks are on channel") - told_before <= turn
-                       and time.monotonic() < until):
-                    time.sleep(0.05)
+                wait_until(lambda turn=turn: self.told.getvalue().count("networks are on channel") - told_before > turn)
                 opened.append(len(os.listdir("/proc/self/fd")))
                 if turn < 3:
                     crash()
@@ -1305,24 +1246,21 @@ class Running(WithFiles):
     def test_begins_anew(self):
         """A bridge that is killed, or whose program ends, is followed by another one; what it left is handed on."""
         for does, after, told in (
-                (f"[ -e {self.folder}/second ] || {{ touch {self.folder}/second; kill -9 $$; }}", "true",
+                (self.once("second", "kill -9 $$"), "true",
                  "the bridge ended by itself, by the signal SIGKILL; it begins anew"),
-                (f"[ -e {self.folder}/second ] || {{ touch {self.folder}/second; break; }}",
-                 f"[ -e {self.folder}/third ] || {{ touch {self.folder}/third; "
-                 "echo 'fault 4 the program ended by itself'; exit 1; }",
+                (self.once("second", "break"), self.once("third", "echo 'fault 4 the program ended by itself'; exit 1"),
                  "the program ended by itself, with status 0; it begins anew")):
             does = f"[ \"$request\" != open ] || {{ {does}; echo sending; }}"
             self.run_bridge(lambda: self.end_once_told("networks are on channel"), does=does, after=after)
             self.assertIn(told, self.told.getvalue())
             self.assertEqual(self.read("asked"), "state\nopen\nstate\nopen\n")
             for name in ("asked", "second"):
-                os.unlink(os.path.join(self.folder, name))
+                os.unlink(self.path(name))
             self.told.truncate(0)
 
     def test_begins_anew_with_what_changed(self):
         """The next program reads the configuration as it is then, and so does the script."""
-        does = (f"[ \"$request\" != open ] || {{ [ -e {self.folder}/second ] || {{ touch {self.folder}/second; "
-                "sleep 0.3; kill -9 $$; }; echo sending; }")
+        does = f"[ \"$request\" != open ] || {{ {self.once('second', 'sleep 0.3; kill -9 $$')}; echo sending; }}"
         changed = threading.Timer(0.2, self.write, ("radio.toml", ONE_NETWORK.replace("channel = 6", "channel = 11")))
         changed.start()
         self.run_bridge(lambda: self.end_once_told("networks are on channel"), does=does)
@@ -1334,8 +1272,8 @@ class Running(WithFiles):
         """Then the radio is set up in the next way; where there is none all ends."""
         self.write("words", "")
         nothing = "this radio does not send beside its interfaces: no beacon was seen as sent within 1 second"
-        does = f"[ \"$request\" != open ] || {{ [ -e {self.folder}/second ] || {{ touch {self.folder}/second; break; }}; echo sending; }}"
-        after = f"[ -e {self.folder}/third ] || {{ touch {self.folder}/third; echo 'fault 8 {nothing}'; exit 1; }}"
+        does = f"[ \"$request\" != open ] || {{ {self.once('second', 'break')}; echo sending; }}"
+        after = self.once("third", f"echo 'fault 8 {nothing}'; exit 1")
         self.run_bridge(lambda: self.end_once_told("networks are on channel"), does=does, after=after,
                         ways=(Way.MANAGED, Way.ACCESS_POINTS))
         self.assertEqual([plan.way for plan in self.followed], [Way.MANAGED, Way.ACCESS_POINTS])
@@ -1381,12 +1319,7 @@ class Running(WithFiles):
 
     def test_reload_with_a_fault(self):
         """All stays as it is, and the fault is told."""
-        def later():
-            self.write("radio.toml", "channel = ")
-            os.kill(os.getpid(), signal.SIGHUP)
-            time.sleep(0.8)
-            self.end()
-        self.run_bridge(later)
+        self.reload_with("radio.toml", "channel = ")
         self.assertEqual((self.read("asked"), len(self.followed)), ("state\nopen\n", 1))
         self.assertIn("all stays as it is", self.told.getvalue())
         self.assertEqual(len(self.outcomes), 1)
@@ -1394,12 +1327,7 @@ class Running(WithFiles):
 
     def test_reload_that_does_not_begin(self):
         """Where the program doesn't begin with the new configuration, the one before goes on."""
-        def later():
-            self.write("fails", "")
-            os.kill(os.getpid(), signal.SIGHUP)
-            time.sleep(0.8)
-            self.end()
-        self.run_bridge(later)
+        self.reload_with("fails")
         self.assertEqual(self.read("asked"), "state\nopen\n")
         self.assertIn("all stays as it is: it doesn't begin", self.told.getvalue())
 
@@ -1424,13 +1352,12 @@ class Running(WithFiles):
         """The page is told where to ask, and is ended; where it ends by itself that is told."""
         page = self.write("page", f"#!/bin/sh\necho $* > {self.folder}/page-words\n"
                                   "sleep 60 & trap 'kill $!; exit 0' TERM; wait\n", 0o755)
-        with mock.patch.object(page_of, "PROGRAM", page):
-            self.run_bridge(lambda: self.end_once(lambda: os.path.exists(self.path("page-words"))), port=9617)
+        self.patch((page_of, "PROGRAM", page))
+        self.run_bridge(lambda: self.end_once_there("page-words"), port=9617)
         self.assertEqual(self.read("page-words"), f"9617 {self.folder}/phy0.sock\n")
         os.unlink(self.path("page-words"))
-        with mock.patch.object(page_of, "PROGRAM", page):
-            self.run_bridge(lambda: self.end_once(lambda: os.path.exists(self.path("page-words"))), port=9617,
-                            hosts=("ap1.example", "ap2"), sources=("192.0.2.0/24",))
+        self.run_bridge(lambda: self.end_once_there("page-words"), port=9617, hosts=("ap1.example", "ap2"),
+                        sources=("192.0.2.0/24",))
         self.assertEqual(self.read("page-words"), f"9617 {self.folder}/phy0.sock --host ap1.example --host ap2 "
                                                   "--from 192.0.2.0/24 --station-metrics\n")
         self.assertIn(" --alive ", self.read("words"))
@@ -1438,19 +1365,18 @@ class Running(WithFiles):
         self.assertIn("--name live --phy ", self.read("words"))
         self.write("page", "#!/bin/sh\nexit 3\n", 0o755)
         does = SENDS + "; [ $request = open ] && (sleep 0.3; echo alive)"
-        with mock.patch.object(page_of, "PROGRAM", page):
-            self.run_bridge(lambda: self.end_once_told("the page ended"), does=does, port=9617)
+        self.run_bridge(lambda: self.end_once_told("the page ended"), does=does, port=9617)
         self.assertIn("--status 9617: the page ended with status 3", self.told.getvalue())
-        with mock.patch.object(page_of, "PROGRAM", f"{page}-is-nowhere"):
-            with self.assertRaisesRegex(Fault, "page-is-nowhere: .*No such file"):
-                self.run_bridge(self.end, port=9617)
+        self.patch((page_of, "PROGRAM", f"{page}-is-nowhere"))
+        with self.assertRaisesRegex(Fault, "page-is-nowhere: .*No such file"):
+            self.run_bridge(self.end, port=9617)
 
     def test_page_that_ignores_its_end(self):
         """It is killed some time later, so that all ends."""
         page = self.write("page", f"#!/bin/sh\ntrap '' TERM\necho $$ > {self.folder}/page-number\n"
                                   "while :; do sleep 0.1; done\n", 0o755)
-        with mock.patch.object(page_of, "PROGRAM", page), mock.patch.object(page_of, "SECONDS_TO_END", 0.3):
-            self.run_bridge(lambda: self.end_once(lambda: os.path.exists(self.path("page-number"))), port=9617)
+        self.patch((page_of, "PROGRAM", page), (page_of, "SECONDS_TO_END", 0.3))
+        self.run_bridge(lambda: self.end_once_there("page-number"), port=9617)
         self.assertFalse(os.path.exists(f"/proc/{self.read('page-number').strip()}"))
 
     def test_page_whose_port_is_taken(self):
@@ -1458,20 +1384,16 @@ class Running(WithFiles):
         page = self.write("page", f"#!/bin/sh\n> {self.folder}/page-begins\nsleep 60 & trap 'kill $!; exit 0' TERM; wait\n",
                           0o755)
         does = SENDS + "; [ $request = open ] && (while sleep 0.1; do echo alive; done) & "
-        with socket.socket() as taken:
-            taken.bind(("127.0.0.1", 0))
-            taken.listen()
+        with socket.create_server(("127.0.0.1", 0)) as taken:
             port = taken.getsockname()[1]
 
             def later():
-                until = time.monotonic() + 20
-                while "there is no page" not in self.told.getvalue() and time.monotonic() < until:
-                    time.sleep(0.05)
+                wait_until(lambda: "there is no page" in self.told.getvalue())
                 self.begun_while_taken = os.path.exists(self.path("page-begins"))
                 taken.close()
-                self.end_once(lambda: os.path.exists(self.path("page-begins")))
-            with mock.patch.object(page_of, "PROGRAM", page), mock.patch.object(page_of, "AGAIN_SECONDS", 0.2):
-                self.run_bridge(later, does=does, after="kill $!", port=port)
+                self.end_once_there("page-begins")
+            self.patch((page_of, "PROGRAM", page), (page_of, "AGAIN_SECONDS", 0.2))
+            self.run_bridge(later, does=does, after="kill $!", port=port)
         self.assertFalse(self.begun_while_taken)
         self.assertTrue(os.path.exists(self.path("page-begins")))
         self.assertEqual(self.told.getvalue().count(
@@ -1503,8 +1425,8 @@ class Running(WithFiles):
         with self.assertRaisesRegex(Fault, "the program ended by itself"):
             self.run_bridge(does="break", after="echo 'fault 3 the program ended by itself'; exit 1")
         self.assertNotIn("it begins anew", self.told.getvalue())
-        with open(os.path.join(TOOLS, "bridge/src/control/faults.rs"), encoding="utf-8") as file:
-            numbers = dict(re.findall(r"Fault::(\w+)(?:\(_\)| \{ \.\. \})? => (\d+),", file.read()))
+        source = text_of("tools/bridge/src/control/faults.rs")
+        numbers = dict(re.findall(r"Fault::(\w+)(?:\(_\)| \{ \.\. \})? => (\d+),", source))
         for code in FaultCode:
             self.assertEqual(numbers[code.name.title().replace("_", "")], str(code.value))
 
@@ -1526,7 +1448,7 @@ class Running(WithFiles):
 
     def test_bridge_that_is_not_there(self):
         """It is told how it is built, which packages that takes, and where to build it for an installation."""
-        missing = os.path.join(self.folder, "missing")
+        missing = self.path("missing")
         with mock.patch.object(checks.shutil, "which", lambda command: None):
             with self.assertRaisesRegex(Fault, "install Debian's packages cargo librust-ahash.*`make bridge` builds"):
                 check_bridge(missing)
@@ -1537,7 +1459,3 @@ class Running(WithFiles):
             with self.assertRaisesRegex(Fault, "missing isn't there: in a checkout of the source `make bridge` builds"):
                 check_bridge(missing)
         check_bridge(self.write("there", "", 0o755))
-
-
-if __name__ == "__main__":
-    unittest.main()

@@ -4,13 +4,12 @@ import io
 import json
 import os
 import subprocess
-import time
 import unittest
 from contextlib import redirect_stdout
 from datetime import datetime, timedelta, timezone
 from unittest import mock
 
-from common import TOOLS, ToolTest
+from common import TOOLS, ToolTest, tool, wait_until
 from live import changes, events
 from live.events import Follower, moment_of, text_of
 from live.faults import Fault
@@ -30,7 +29,7 @@ class Following(ToolTest):
 
     def setUp(self):
         super().setUp()
-        self.enterContext(mock.patch.object(changes, "RUN", self.folder))
+        self.patch((changes, "RUN", self.folder))
         self.began, self.events, self.dropped, self.asked = BEGAN, [event(1, 10), event(2, 20)], [], []
         self.most = 1000  # of an answer
         self.bridge = self.start()
@@ -121,9 +120,7 @@ class Following(ToolTest):
         with subprocess.Popen(["python3", "-c", script], stdout=subprocess.PIPE, stderr=subprocess.PIPE,
                               text=True) as process:
             self.assertEqual(json.loads(process.stdout.readline())["event"], "following")
-            until = time.monotonic() + 20
-            while len(self.asked) < 2 and time.monotonic() < until:
-                time.sleep(0.05)
+            wait_until(lambda: len(self.asked) >= 2)
             self.events.append(event(3, 30))
             self.assertEqual(json.loads(process.stdout.readline()), event(3, 30))
             process.stdout.close()
@@ -153,11 +150,6 @@ class Moments(unittest.TestCase):
         for text in ("", "10", "10m", "yesterday", "-5s", "1.5h"):
             with self.assertRaises(ValueError, msg=text):
                 moment_of(text)
-        done = subprocess.run([os.path.join(TOOLS, "live"), "events", "--since", "10m"], capture_output=True, text=True,
-                              check=False)
-        self.assertEqual(done.returncode, 2)
-        self.assertIn("10m is neither a time as 2026-11-29T16:30:00Z nor as 90s, 10min or 2h ago", done.stderr)
-
-
-if __name__ == "__main__":
-    unittest.main()
+        status, _, told = tool("live", "events", "--since", "10m")
+        self.assertEqual(status, 2)
+        self.assertIn("10m is neither a time as 2026-11-29T16:30:00Z nor as 90s, 10min or 2h ago", told)

@@ -23,22 +23,19 @@ class OtherPrograms(OnMachine):
         super().setUp()
         self.up = {"wlan0": "phy9"}
         self.monitors, self.managed, self.text = set(), None, SIMULATED
-        self.processes, self.units = os.path.join(self.folder, "proc"), os.path.join(self.folder, "units")
-        os.makedirs(os.path.join(self.folder, "ieee80211", "phy9"))
+        self.processes, self.units, radios = (self.path(name) for name in ("proc", "units", "ieee80211"))
+        os.makedirs(os.path.join(radios, "phy9"))
         os.makedirs(self.processes)
-        for where, name, value in (
-                (other_programs, "PROCESSES", self.processes), (other_programs, "UNITS", self.units),
-                (other_programs.shutil, "which", lambda _: None if self.managed is None else "/usr/bin/nmcli"),
-                (machine, "RADIOS", os.path.join(self.folder, "ieee80211")), (machine, "country", lambda: "DE"),
-                (machine, "interfaces", lambda: [Interface(name) for name in sorted(self.up)]),
-                (Interface, "radio", property(lambda one: self.up.get(one.name))),
-                (Interface, "is_up", property(lambda one: one.name in self.up)),
-                (Interface, "is_monitor", property(lambda one: one.name in self.monitors)),
-                (changes, "RUN", self.folder), (checks, "this_kernel", lambda: (6, 1)),
-                (radio_report, "this_kernel", lambda: (6, 1))):
-            patch = mock.patch.object(where, name, value)
-            patch.start()
-            self.addCleanup(patch.stop)
+        self.patch(
+            (other_programs, "PROCESSES", self.processes), (other_programs, "UNITS", self.units),
+            (other_programs.shutil, "which", lambda _: None if self.managed is None else "/usr/bin/nmcli"),
+            (machine, "RADIOS", radios), (machine, "country", lambda: "DE"),
+            (machine, "interfaces", lambda: [Interface(name) for name in sorted(self.up)]),
+            (Interface, "radio", property(lambda one: self.up.get(one.name))),
+            (Interface, "is_up", property(lambda one: one.name in self.up)),
+            (Interface, "is_monitor", property(lambda one: one.name in self.monitors)),
+            (changes, "RUN", self.folder), (checks, "this_kernel", lambda: (6, 1)),
+            (radio_report, "this_kernel", lambda: (6, 1)))
 
     def run_command(self, *words):
         """What NetworkManager says of interfaces; where it doesn't run, it fails."""
@@ -50,11 +47,8 @@ class OtherPrograms(OnMachine):
 
     def process(self, number, program, *words):
         """A process of a program, begun with these words."""
-        folder = os.path.join(self.processes, str(number))
-        os.makedirs(folder)
         for name, text in (("comm", f"{program}\n"), ("cmdline", "\0".join((f"/usr/libexec/{program}", *words)) + "\0")):
-            with open(os.path.join(folder, name), "w", encoding="ascii") as file:
-                file.write(text)
+            self.write(os.path.join(self.processes, str(number), name), text)
 
     def said(self):
         """What a start refuses with, and `check-radio` says that it is missing: the same."""
@@ -88,10 +82,8 @@ class OtherPrograms(OnMachine):
 
     def test_iwd_that_is_hidden(self):
         """Its unit has processes, and /proc shows none of them."""
-        os.makedirs(os.path.join(self.units, "iwd.service"))
         for text, takes in (("612\n", True), ("", False)):
-            with open(os.path.join(self.units, "iwd.service", "cgroup.procs"), "w", encoding="ascii") as file:
-                file.write(text)
+            self.write(os.path.join(self.units, "iwd.service", "cgroup.procs"), text)
             self.assertEqual("iwd" in self.said(), takes)
 
     def test_network_manager(self):

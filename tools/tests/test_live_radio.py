@@ -112,27 +112,23 @@ class Reported(OnMachine):
 
     def setUp(self):
         super().setUp()
-        self.radios = os.path.join(self.folder, "ieee80211")
+        self.radios = self.path("ieee80211")
         os.makedirs(os.path.join(self.radios, "phy9", "device"))
         self.text, self.others, self.failing_with = SIMULATED, [], ""
         self.drive("mac80211_hwsim")
-        with open(os.path.join(self.radios, "phy9", "macaddress"), "w", encoding="ascii") as file:
-            file.write("02:00:00:00:00:00\n")
-        for where, name, value in (
-                (machine, "RADIOS", self.radios), (machine, "interfaces", lambda: self.others),
-                (changes, "RUN", self.folder), (other_programs, "PROCESSES", self.radios),
-                (machine, "country", lambda: "DE"), (radio_report, "this_kernel", lambda: (6, 12))):
-            patch = mock.patch.object(where, name, value)
-            patch.start()
-            self.addCleanup(patch.stop)
+        self.write(os.path.join(self.radios, "phy9", "macaddress"), "02:00:00:00:00:00\n")
+        self.patch(
+            (machine, "RADIOS", self.radios), (machine, "interfaces", lambda: self.others),
+            (changes, "RUN", self.folder), (other_programs, "PROCESSES", self.radios),
+            (machine, "country", lambda: "DE"), (radio_report, "this_kernel", lambda: (6, 12)))
 
     def drive(self, name):
         """The radio has this driver."""
         link = os.path.join(self.radios, "phy9", "device", "driver")
         if os.path.lexists(link):
             os.unlink(link)
-        os.makedirs(os.path.join(self.folder, name), exist_ok=True)
-        os.symlink(os.path.join(self.folder, name), link)
+        os.makedirs(self.path(name), exist_ok=True)
+        os.symlink(self.path(name), link)
 
     def run_command(self, *words):
         """A radio that says what the test wants, or takes no more interfaces."""
@@ -251,18 +247,14 @@ class Watched(OnMachine):
         self.phys = {"mon0": "phy9", "mon0n1": "phy9", "mon0n2": "phy9"}
         self.up = set(self.phys)
         self.waiting, self.status = [], []
-        for where, name, value in (
-                (Interface, "radio", property(lambda one: self.phys.get(one.name))),
-                (Interface, "exists", property(lambda one: one.name in self.phys)),
-                (Interface, "is_up", property(lambda one: one.name in self.up)),
-                (Interface, "is_monitor", property(lambda one: one.name.startswith("mon"))),
-                (machine, "interfaces", lambda: [Interface(name) for name in self.phys]),
-                (watching, "Links", lambda _: mock.Mock(changed=self.changed))):
-            patch = mock.patch.object(where, name, value)
-            patch.start()
-            self.addCleanup(patch.stop)
-        stack = ExitStack()
-        self.addCleanup(stack.close)
+        self.patch(
+            (Interface, "radio", property(lambda one: self.phys.get(one.name))),
+            (Interface, "exists", property(lambda one: one.name in self.phys)),
+            (Interface, "is_up", property(lambda one: one.name in self.up)),
+            (Interface, "is_monitor", property(lambda one: one.name.startswith("mon"))),
+            (machine, "interfaces", lambda: [Interface(name) for name in self.phys]),
+            (watching, "Links", lambda _: mock.Mock(changed=self.changed)))
+        stack = self.enterContext(ExitStack())
         setting = setting_up.SettingUp(self.WANTED, self.made, stack)
         self.plan = Plan(self.SETTINGS, (), "octets")
         self.bridge = mock.Mock(is_unsent=False, elsewhere=None)
@@ -417,7 +409,3 @@ class Watched(OnMachine):
         self.bridge.elsewhere = None
         self.assertEqual((self.look(), len(self.commands)), ("", len(self.ANEW)))
         self.assertEqual(self.status[-1], "2 networks are on channel 6")
-
-
-if __name__ == "__main__":
-    unittest.main()

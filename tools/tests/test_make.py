@@ -1,9 +1,8 @@
 """Tests of the Makefile: a word that is no target is refused before anything is begun."""
 import os
 import shutil
-import subprocess
 
-from common import ROOT, ToolTest
+from common import ROOT, ToolTest, run_to_end
 
 TRY = "#!/bin/sh\necho tried; cat\n"
 
@@ -14,17 +13,13 @@ class Words(ToolTest):
     def setUp(self):
         super().setUp()
         shutil.copy(os.path.join(ROOT, "Makefile"), self.folder)
-        os.mkdir(self.path(".ci"))
         for name, text in ((".ci/try", TRY), ("my.toml", "version = 2\n"), ("my.input", "my lines\n")):
-            with open(self.path(name), "w", encoding="ascii") as file:
-                file.write(text)
-        os.chmod(self.path(".ci/try"), 0o755)
+            self.write(name, text, 0o755)
 
     def made(self, *words):
         """The status of make, and what it says, as by hand: a make that runs this test hands on how it was called."""
         by_hand = {name: value for name, value in os.environ.items() if name not in ("MAKELEVEL", "MAKEFLAGS", "MFLAGS")}
-        done = subprocess.run(["make", *words], capture_output=True, text=True, check=False, cwd=self.folder,
-                              env=by_hand)
+        done = run_to_end(["make", *words], cwd=self.folder, env=by_hand)
         return done.returncode, done.stdout, done.stderr
 
     def test_files_are_no_targets(self):

@@ -7,25 +7,21 @@ import os
 import re
 import shutil
 import stat
-import subprocess
-import sys
 import tomllib
 import unittest
 from dataclasses import replace
 from unittest import mock
 
-from common import ROOT, ToolTest
+import reaching
+from common import ROOT, TOOLS, ToolTest, run_to_end, text_of
 from live import network_checks
 from live.checks import read_wires
 from live.faults import Fault
 from live.network_checks import (Behind, Case, Link, Network, Served, beside_config, check_named, links_of,
                                  named_elsewhere, read_networks, told_of)
 from mistakes import CONFIG
+from texts import read_text
 
-sys.path.append(os.path.join(os.path.dirname(os.path.dirname(os.path.realpath(__file__))), "guest"))
-import reaching  # noqa: E402
-
-TOOLS = os.path.join(ROOT, "tools")
 SHARED = os.path.join(ROOT, "share", "networks")
 GUESTS, OFFICE, DEVICES = (f"02:00:00:00:01:0{number}" for number in (1, 2, 3))
 NETWORKS = (Network(GUESTS, "guests", False), Network(OFFICE, "office", True), Network(DEVICES, "devices", False))
@@ -174,12 +170,6 @@ class Findings(ToolTest):
 class Reading(ToolTest):
     """What is read of the configuration, of files of wires, and of `ip`."""
 
-    def write(self, name, text):
-        """A file of the test's folder."""
-        with open(self.path(name), "w", encoding="utf-8") as file:
-            file.write(text)
-        return self.path(name)
-
     def test_networks(self):
         """BSSIDs in small letters; networks of version 1 relay."""
         path = self.write("a.toml", '[[network]]\nbssid = "02:00:00:00:AA:01"\nssid = "a"\n[[network]]\nbssid = '
@@ -254,18 +244,18 @@ class Reading(ToolTest):
         os.chmod(program, os.stat(program).st_mode | stat.S_IXUSR)
         config = self.write("phy0.toml", CONFIG)
         words = [os.path.join(TOOLS, "live"), "check-networks", config, "--program", program]
-        done = subprocess.run(words, capture_output=True, text=True, check=False)
+        done = run_to_end(words)
         self.assertEqual((done.returncode, done.stderr), (1, ""))
         self.assertIn(f"into {self.path('phy0.wires')}", done.stdout)
         self.write("phy0.wires", "02:00:00:00:00:01=nothing0\n02:00:00:00:00:02=nothing1\n")
         self.assertIn("nothing0: there is no such interface",
-                      subprocess.run(words, capture_output=True, text=True, check=False).stdout)
+                      run_to_end(words).stdout)
         self.write("phy0.toml", "bad")
-        done = subprocess.run(words, capture_output=True, text=True, check=False)
+        done = run_to_end(words)
         self.assertEqual((done.returncode, done.stdout), (1, ""))
         self.assertIn("fault C2", done.stderr)
         for wrong in ([], ["a", "b"], [config, "--wire", "x"]):
-            done = subprocess.run([*words[:2], *wrong], capture_output=True, text=True, check=False)
+            done = run_to_end([*words[:2], *wrong])
             self.assertEqual((done.returncode, done.stdout), (2, ""), wrong)
 
 
@@ -309,9 +299,8 @@ class Trying(unittest.TestCase):
 
     def test_page_has_the_same_table(self):
         """Each cell of docs/NETWORKS.md is what is tried."""
-        with open(os.path.join(ROOT, "docs", "NETWORKS.md"), encoding="utf-8") as file:
-            rows = [[cell.strip() for cell in line.strip("|").split("|")]
-                    for line in file.read().partition("| from / to ")[2].partition("\n\n")[0].split("\n")]
+        table = text_of("docs", "NETWORKS.md").partition("| from / to ")[2].partition("\n\n")[0]
+        rows = [[cell.strip() for cell in line.strip("|").split("|")] for line in table.split("\n")]
         names = rows[0]
         self.assertEqual(names, list(self.COLUMNS))
         for name, *cells in rows[2:]:
@@ -381,9 +370,9 @@ class Files(unittest.TestCase):
                 self.assertIn(parser["Network"]["Bridge"], self.made)
                 for name in parser["Match"]["Name"].split():
                     self.assertIn(name, self.made)
-        with open(os.path.join(SHARED, "50-trunk.network"), encoding="utf-8") as file:
-            self.assertEqual(set(re.findall(r"^VLAN=(.*)$", file.read(), re.MULTILINE)),
-                             {name for name in self.made if name.startswith("lan-")})
+        trunk = read_text(os.path.join(SHARED, "50-trunk.network"))
+        self.assertEqual(set(re.findall(r"^VLAN=(.*)$", trunk, re.MULTILINE)),
+                         {name for name in self.made if name.startswith("lan-")})
 
     def test_apart(self):
         """Where stations of a network are kept apart, the ports of its bridge are."""
@@ -393,10 +382,8 @@ class Files(unittest.TestCase):
 
     def test_page_names_them(self):
         """The page has each address and VLAN, and the firewall's names are those of the bridges."""
-        with open(os.path.join(ROOT, "docs", "NETWORKS.md"), encoding="utf-8") as file:
-            page = file.read()
-        with open(os.path.join(SHARED, "nftables.conf"), encoding="utf-8") as file:
-            rules = file.read()
+        page = text_of("docs", "NETWORKS.md")
+        rules = read_text(os.path.join(SHARED, "nftables.conf"))
         for name in ("guests", "office", "devices"):
             address = self.parsed[f"50-br-{name}.network"]["Network"]["Address"]
             self.assertIn(f"`br-{name}`, {address.partition('/')[0]}", page)
@@ -406,19 +393,17 @@ class Files(unittest.TestCase):
     @unittest.skipUnless(shutil.which("nft") and os.geteuid() == 0, "nft isn't there, or this isn't root")
     def test_rules_have_no_fault(self):
         """nft reads them, in a namespace of its own; nothing is loaded."""
-        done = subprocess.run(["unshare", "-n", "nft", "-c", "-f", os.path.join(SHARED, "nftables.conf")],
-                              capture_output=True, text=True, check=False)
+        done = run_to_end(["unshare", "-n", "nft", "-c", "-f", os.path.join(SHARED, "nftables.conf")])
         if "Operation not permitted" in done.stderr or "not supported" in done.stderr:
             self.skipTest(done.stderr.strip())
         self.assertEqual((done.returncode, done.stderr), (0, ""))
 
     def test_service_reads_them(self):
         """The environment has one line WORDS, with words of waltigon-live."""
-        with open(os.path.join(SHARED, "phy0.environment"), encoding="utf-8") as file:
-            lines = [line for line in file.read().splitlines() if line and not line.startswith("#")]
+        words = read_text(os.path.join(SHARED, "phy0.environment")).splitlines()
+        lines = [line for line in words if line and not line.startswith("#")]
         self.assertEqual(len(lines), 1)
         self.assertTrue(lines[0].startswith("WORDS="))
-        with open(os.path.join(SHARED, "phy0.toml"), "rb") as file:
-            bssids = [network["bssid"] for network in tomllib.load(file)["network"]]
+        bssids = [network["bssid"] for network in tomllib.loads(text_of("share/networks/phy0.toml"))["network"]]
         for bssid in re.findall(r"--share ([0-9a-f:]+)=", lines[0]):
             self.assertIn(bssid, bssids)

@@ -1,8 +1,7 @@
 """Tests of examples/octets_client.py: what it prints of a trace is what the program's report has."""
 import os
-import subprocess
 
-from common import CASES, PROGRAM, ROOT, ToolTest, needs_program, report_of
+from common import CASES, PROGRAM, ROOT, ToolTest, needs_program, report_of, run_to_end
 from frames import address_text
 from texts import SEPARATOR, read_text
 
@@ -16,12 +15,8 @@ class Client(ToolTest):
 
     def run_client(self, config, trace, program=PROGRAM):
         """Its status, and what it writes."""
-        for name, text in (("my.toml", config), ("my.trace", trace)):
-            with open(self.path(name), "w", encoding="ascii") as file:
-                file.write(text)
-        done = subprocess.run([CLIENT, self.path("my.toml"), self.path("my.trace"), program], capture_output=True,
-                              text=True,
-                              check=False, timeout=60)
+        paths = self.write("my.toml", config), self.write("my.trace", trace)
+        done = run_to_end([CLIENT, *paths, program], timeout=60)
         return done.returncode, done.stdout, done.stderr
 
     def texts_of(self, name):
@@ -74,9 +69,7 @@ class Client(ToolTest):
 
     def test_a_program_that_ends(self):
         """Where the program ends early the client says so, and doesn't wait for ever."""
-        with open(self.path("program"), "wb") as file:
-            file.write(b"#!/bin/sh\nprintf 'O\\0\\0\\0\\0\\0\\001\\0\\0'\nexit 7\n")
-        os.chmod(self.path("program"), 0o755)
-        status, _, stderr = self.run_client("", "T\nT\nT\n", self.path("program"))
+        program = self.write("program", b"#!/bin/sh\nprintf 'O\\0\\0\\0\\0\\0\\001\\0\\0'\nexit 7\n", 0o755)
+        status, _, stderr = self.run_client("", "T\nT\nT\n", program)
         self.assertEqual(status, 1)
         self.assertIn("the program has ended: status 7", stderr)

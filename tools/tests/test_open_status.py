@@ -1,18 +1,13 @@
 """Tests of tools/open-status, which lets a unit of systemd take requests for the page from elsewhere: what it asks of
 systemctl, for which a script stands."""
-import importlib.machinery
-import importlib.util
 import os
-import subprocess
 from unittest import mock
 
-from common import TOOLS, ToolTest
+from common import TOOLS, ToolTest, module_of, run_to_end
 
 PATH = os.path.join(TOOLS, "open-status")
 UNIT = "waltigon@phy0.service"
-loader = importlib.machinery.SourceFileLoader("open_status", PATH)
-open_status = importlib.util.module_from_spec(importlib.util.spec_from_loader("open_status", loader))
-loader.exec_module(open_status)
+open_status = module_of("open-status")
 
 
 class OpenStatus(ToolTest):
@@ -20,29 +15,24 @@ class OpenStatus(ToolTest):
 
     def setUp(self):
         super().setUp()
-        with open(self.path("systemctl"), "w", encoding="ascii") as file:
-            file.write(f'#!/bin/sh\nfor word; do echo "$word"; done >{self.folder}/asked\n'
-                       f'exit $(cat {self.folder}/ends)\n')
-        os.chmod(self.path("systemctl"), 0o755)
+        self.write("systemctl", f'#!/bin/sh\nfor word; do echo "$word"; done >{self.folder}/asked\n'
+                                f'exit $(cat {self.folder}/ends)\n', 0o755)
         self.ends(0)
 
     def ends(self, status):
         """With which status systemctl ends."""
-        with open(self.path("ends"), "w", encoding="ascii") as file:
-            file.write(f"{status}")
+        self.write("ends", f"{status}")
 
     def begin(self, *words):
         """What it asks for, and how it ends."""
         path = f"{self.folder}:{os.environ['PATH']}"
-        done = subprocess.run([PATH, UNIT, *words], capture_output=True, text=True, check=False,
-                              env={**os.environ, "PATH": path})
+        done = run_to_end([PATH, UNIT, *words], env={**os.environ, "PATH": path})
         return self.asked(), done.returncode, done.stdout + done.stderr
 
     def asked(self):
         """What systemctl was asked for."""
         try:
-            with open(self.path("asked"), encoding="utf-8") as file:
-                asked = file.read().splitlines()
+            asked = self.read("asked").splitlines()
         except FileNotFoundError:
             return None
         os.unlink(self.path("asked"))
@@ -70,8 +60,7 @@ class OpenStatus(ToolTest):
         with mock.patch.object(open_status, "CHANGED", changed), mock.patch("sys.argv", [PATH, *command]), \
                 mock.patch.dict(os.environ, {"PATH": f"{self.folder}:{os.environ['PATH']}"}):
             self.assertEqual((open_status.main(), self.asked()), (0, None))
-            with open(changed, "w", encoding="ascii"):
-                pass
+            self.write(changed)
             self.assertEqual(open_status.main(), 0)
         self.assertEqual(self.asked(), ["set-property", "--runtime", UNIT, "IPAddressAllow=",
                                         "IPAddressAllow=127.0.0.0/8 ::1/128"])

@@ -10,7 +10,7 @@ import sys
 import time
 import unittest
 
-from common import PROGRAM, ROOT
+from common import PROGRAM, ROOT, run_to_end
 from small import SECONDS, TOOLCHAIN, SmallRepository
 from version import VERSION
 
@@ -158,8 +158,7 @@ class ProvedAnew(SmallRepository):
     def test_without_a_toolchain(self):
         """Where there is none, that is said, and nothing is begun."""
         os.symlink(sys.executable, self.path("python3"))
-        ran = subprocess.run([self.path_of(".ci/build")], capture_output=True, text=True, check=False, cwd=self.top,
-                             env={**self.environment(), "PATH": self.folder})
+        ran = run_to_end([self.path_of(".ci/build")], cwd=self.top, env={**self.environment(), "PATH": self.folder})
         self.assertEqual(ran.returncode, 1)
         self.assertIn("the toolchain's command rt is not on the path", ran.stderr)
         self.assertEqual(self.proved(), [])
@@ -255,8 +254,7 @@ class Installed(SmallRepository):
             self.assertRegex(self.installed(name, "--version"),
                              rf"\Awaltigon {VERSION}\napctl of commit {first}, proved .*\nwith {TOOLCHAIN}\n"
                              rf"tools of commit {second}\n\Z", name)
-        with open(self.path("usr/share/man/man1/apctl.1"), encoding="utf-8") as page:
-            self.assertIn(f"\napctl of commit {first}, proved", page.read())
+        self.assertIn(f"\napctl of commit {first}, proved", self.read("usr/share/man/man1/apctl.1"))
 
     def test_installing_warns(self):
         """Where the program is an earlier one, installing says so, and the tools tell which it is."""
@@ -299,7 +297,7 @@ class EveryTool(unittest.TestCase):
         tools = [path for path in paths if os.path.isfile(path) and os.access(path, os.X_OK)]
         self.assertGreater(len(tools), 13)
         for path in tools:
-            done = subprocess.run([path, "--version"], capture_output=True, text=True, check=False)
+            done = run_to_end([path, "--version"])
             self.assertEqual((done.returncode, done.stderr), (0, ""), path)
             self.assertTrue(done.stdout.startswith(f"waltigon {VERSION}\napctl"), f"{path}: {done.stdout}")
             self.assertEqual("apctl isn't built" in done.stdout, not os.path.exists(PROGRAM), path)

@@ -1,9 +1,8 @@
 """Tests of tools whose standard output is full, is closed, or isn't read to its end: each says so in one line, or ends
 without a word where its reader has ended."""
 import os
-import subprocess
 
-from common import THREE, TOOLS, ToolTest
+from common import THREE, TOOLS, ToolTest, run_to_end
 
 INPUT, REPORT, AIR = (os.path.join(THREE, name) for name in ("input", "stdout", "air.pcapng"))
 CALLS = {"report-to-json": [REPORT], "picture": [INPUT, REPORT], "trace-from-capture": [AIR],
@@ -20,8 +19,7 @@ class Output(ToolTest):
 
     def run_to(self, where, name):
         """The status of a tool whose standard output the shell gives away, and the last line of what it says."""
-        done = subprocess.run(["bash", "-c", where, "bash", os.path.join(TOOLS, name), *CALLS[name]], cwd=self.folder,
-                              capture_output=True, text=True, check=False)
+        done = run_to_end(["bash", "-c", where, "bash", os.path.join(TOOLS, name), *CALLS[name]], cwd=self.folder)
         self.assertNotIn("Traceback", done.stderr)
         return done.returncode, (done.stderr.splitlines() or [""])[-1]
 

@@ -6,6 +6,7 @@ import re
 import xml.etree.ElementTree as tree
 import zlib
 from collections import Counter
+from pathlib import Path
 from typing import NamedTuple
 
 import configurations
@@ -159,18 +160,11 @@ class PictureTest(ToolTest):
         config, _, trace = input_of(THREE)[0].partition("\n---\n")
         lines = trace.split("\n")
         told = ["# restored: of the lines from here on the answers were not sent", *lines[:4], "# restored: up to here"]
-        with open(self.path("restored"), "w", encoding="ascii") as file:
-            file.write("\n".join([config, "---", *told, *lines[4:]]))
-        return self.path("restored")
+        return self.write("restored", "\n".join([config, "---", *told, *lines[4:]]))
 
     def long_run(self, count):
         """The files of a long run: its configuration and trace, and its report."""
-        text = f"{long_run.config()}---\n{long_run.trace(count)}"
-        report = run_program(program_input=text)
-        for name, written in (("long.input", text), ("long.report", report)):
-            with open(self.path(name), "w", encoding="ascii") as file:
-                file.write(written)
-        return self.path("long.input"), self.path("long.report")
+        return self.files_of_run(f"{long_run.config()}---\n{long_run.trace(count)}")
 
 
 class Picture(PictureTest):
@@ -378,8 +372,7 @@ class Picture(PictureTest):
         office, guest = "office".encode().hex(), "guest".encode().hex()
         for name, text in zip(("input", "report"), texts):
             text = text.replace('"office"', '"guest"').replace(f"0006{office}", f"0005{guest}")
-            with open(self.path(name), "w", encoding="ascii") as file:
-                file.write(text.replace(f"ssid {office}", f"ssid {guest}"))
+            self.write(name, text.replace(f"ssid {office}", f"ssid {guest}"))
         words = self.shapes(self.path("input"), self.path("report")).words()
         self.assertLessEqual({"guest 02:00:00:00:00:01", "guest 02:00:00:00:00:02",
                               "aid 1, also in guest 02:00:00:00:00:01"}, words)
@@ -395,8 +388,7 @@ class Picture(PictureTest):
             self.assertIn(old, texts[name])
             changed = {**texts, name: texts[name].replace(old, new, 1)}
             for other, text in changed.items():
-                with open(self.path(other), "w", encoding="ascii") as file:
-                    file.write(text)
+                self.write(other, text)
             if is_drawn:
                 [beacon] = self.shapes(self.path("input"), self.path("stdout")).of(what="beacon")
                 self.assertEqual(beacon.find(f"{SVG}text").text, "aid 2")
@@ -407,10 +399,8 @@ class Picture(PictureTest):
         """A configuration, a trace and a report in files of their own are drawn as the first two in one, wherever the
         options stand; a configuration alone is no trace."""
         config, trace = input_of(THREE)[0].split("---\n")
-        for name, text in (("my.toml", config), ("my.trace", trace)):
-            with open(self.path(name), "w", encoding="ascii") as file:
-                file.write(text)
-        my_config, my_trace, report = self.path("my.toml"), self.path("my.trace"), os.path.join(THREE, "stdout")
+        my_config, my_trace = self.write("my.toml", config), self.write("my.trace", trace)
+        report = os.path.join(THREE, "stdout")
         wanted = tool("picture", os.path.join(THREE, "input"), report)[1]
         self.assertEqual(tool("picture", my_config, my_trace, report), (0, wanted, ""))
         self.assertEqual(tool("picture", my_config, "--out", self.path("x.svg"), my_trace, report), (0, "", ""))
@@ -460,17 +450,11 @@ class Choices(PictureTest):
         self.assertEqual({group.get("data-network") for group in shapes.marks()}, {OFFICE.hex()})
         self.assertNotIn(PHONE, {group.get("data-row") for group in shapes.marks()})
 
+    @needs_program
     def test_quiet_stretches_are_folded(self):
         """Beacons without news and frames that aren't read are one stretch, which says how long it is."""
         config, trace = input_of(THREE)[0].split("---\n")
-        text = f"{config}---\n{trace}" + "T\n" * 50
-        for name, written in (("input", text), ("report", run_program(program_input=text) if os.path.exists(PROGRAM)
-                                                else None)):
-            if written is None:
-                self.skipTest("build/apctl isn't there (make apctl builds it)")
-            with open(self.path(name), "w", encoding="ascii") as file:
-                file.write(written)
-        shapes = self.shapes(self.path("input"), self.path("report"))
+        shapes = self.shapes(*self.files_of_run(f"{config}---\n{trace}" + "T\n" * 50))
         last = shapes.of(what="quiet")[-1]
         first, end = map(int, last.get("data-lines").split("-"))
         self.assertGreaterEqual(end - first, 45)
@@ -493,9 +477,8 @@ class Choices(PictureTest):
         text = read_text(os.path.join(folder, "input"))
         line = next(line for line in text.split("\n") if line.startswith("W ") and line.endswith(" 06"))
         told = ["# handed back: the lines from here on are units", line, "# handed back: up to here"]
-        with open(self.path("input"), "w", encoding="ascii") as file:
-            file.write(text.replace(line, "\n".join(told)))
-        shapes = self.shapes(self.path("input"), os.path.join(folder, "stdout"))
+        trace = self.write("input", text.replace(line, "\n".join(told)))
+        shapes = self.shapes(trace, os.path.join(folder, "stdout"))
         titles = [group.findtext("{*}title") for group in shapes.marks()]
         for words in ("a unit that went back to the program for the group is kept", "a unit from the wire for the group"):
             self.assertEqual(sum(words in title for title in titles), 1)
@@ -506,9 +489,7 @@ class Choices(PictureTest):
         words = self.of_three().words()
         self.assertLessEqual({"0.000", "0.102", "0.205", "0.410", "time, s"}, words)
         text = input_of(THREE)[0].replace("\nA ", "\n# frame 7, 12.345 s\nA ", 1)
-        with open(self.path("input"), "w", encoding="ascii") as file:
-            file.write(text)
-        words = self.shapes(self.path("input"), os.path.join(THREE, "stdout")).words()
+        words = self.shapes(self.write("input", text), os.path.join(THREE, "stdout")).words()
         self.assertLessEqual({"12.345", "time, s"}, words)
 
 
@@ -530,11 +511,8 @@ class Crowds(PictureTest):
             lines.append(heard("08010000", long_run.UNIT, bssid, station, other))
         text = long_run.config().replace("max_stations = 20\nmax_known = 40", "max_stations = 200\nmax_known = 400")
         text = f"{text}---\n" + "".join(f"{line}\n" for line in lines)
-        for name, written in (("input", text), ("report", run_program(program_input=text))):
-            with open(self.path(name), "w", encoding="ascii") as file:
-                file.write(written)
         first = str(len(lines) - len(others) + 1)
-        return self.shapes(self.path("input"), self.path("report"), "--from", first), others
+        return self.shapes(*self.files_of_run(text), "--from", first), others
 
     @needs_program
     def test_stations_that_act_have_rows(self):
@@ -623,22 +601,15 @@ class Overviews(PictureTest):
     def test_run_that_is_too_long_for_strips(self):
         """It has the overview alone, of all lines, and the tool says so before it draws; a part of it has strips."""
         text = long_run.config().split("[[network]]")
-        text = f"{text[0]}[[network]]{text[1]}---\n" + "T\n" * 50_001
-        report = run_program(program_input=text)
-        for name, written in (("long.input", text), ("long.report", report)):
-            with open(self.path(name), "w", encoding="ascii") as file:
-                file.write(written)
-        status, stdout, stderr = tool("picture", self.path("long.input"), self.path("long.report"), "--out",
-                                      self.path("x.svg"))
+        trace, report = self.files_of_run(f"{text[0]}[[network]]{text[1]}---\n" + "T\n" * 50_001)
+        status, stdout, stderr = tool("picture", trace, report, "--out", self.path("x.svg"))
         self.assertEqual((status, stdout), (0, ""))
         self.assertRegex(stderr, r"^\S*x.svg: the overview alone, since 50,001 lines .* room for 50,000: .*\n$")
         stretches = self.stretches(Shapes(read_text(self.path("x.svg"))))
         self.assertEqual(sum(counts["sent"]["beacons"] for found in stretches.values() for counts in found.values()),
                          50_001)
-        drawn = self.drawn(self.path("long.input"), self.path("long.report"), "--from", "50000")
-        self.assertIn('data-what="quiet"', read_text(drawn))
-        status, _, stderr = tool("picture", self.path("long.input"), self.path("long.input"), "--out",
-                                 self.path("x.svg"))
+        self.assertIn('data-what="quiet"', read_text(self.drawn(trace, report, "--from", "50000")))
+        status, _, stderr = tool("picture", trace, trace, "--out", self.path("x.svg"))
         self.assertEqual(status, 1)
         self.assertRegex(stderr, r"^\S*x.svg: the overview alone, .*\npicture: .*\n$", "it isn't told at once")
 
@@ -701,10 +672,7 @@ class Overviews(PictureTest):
             *(configurations.network(bssid, "a network of a long name 32 W", relay=True, aging=True, **long_run.SETTINGS)
               for bssid in bssids), version=2)
         text += "---\n" + f"T\n{heard('40000000', '0000 010402040b16', 'ffffffffffff')}\nT\n" * 500
-        for name, written in (("input", text), ("report", run_program(program_input=text))):
-            with open(self.path(name), "w", encoding="ascii") as file:
-                file.write(written)
-        return self.shapes(self.path("input"), self.path("report"), *words)
+        return self.shapes(*self.files_of_run(text), *words)
 
     @needs_program
     def test_links_lead_to_strips(self):
@@ -807,8 +775,7 @@ class Forms(PictureTest):
 
     def pages_of(self, path):
         """How many pages a PDF has. On Debian 13 the object that says so is in a packed stream of objects."""
-        with open(path, "rb") as file:
-            text = file.read()
+        text = Path(path).read_bytes()
         for packed in re.findall(rb"/ObjStm.*?>>\s*stream\r?\n(.*?)endstream", text, re.DOTALL):
             text += zlib.decompressobj().decompress(packed)
         return int(re.search(rb"/Count (\d+)", text)[1])
@@ -855,10 +822,7 @@ class Forms(PictureTest):
         text = read_text(os.path.join(folder, "input")).replace('"lab"', '"</script><b>"')
         report = read_text(os.path.join(folder, "stdout")).replace("ssid 6c6162", f"ssid {name.hex()}").replace(
             "00036c6162", f"00{len(name):02x}{name.hex()}")
-        for file_name, written in (("input", text), ("report", report)):
-            with open(self.path(file_name), "w", encoding="ascii") as file:
-                file.write(written)
-        page = read_text(self.drawn(self.path("input"), self.path("report"), name="x.html"))
+        page = read_text(self.drawn(self.write("input", text), self.write("report", report), name="x.html"))
         self.assertEqual(page.count("</script>"), 1)
         self.assertNotIn("<b>", page)
 
@@ -919,11 +883,9 @@ class Stories(ToolTest):
 
     def refused_with(self, name, text, says):
         """The tools refuse the report of an example with this input."""
-        with open(self.path("input"), "w", encoding="ascii") as file:
-            file.write(text)
-        report = os.path.join(CASES[name], "stdout")
-        self.refused("picture", self.path("input"), report, says=says)
-        self.refused("capture-from-run", self.path("input"), report, "--out", self.path("out"), says=says)
+        trace, report = self.write("input", text), os.path.join(CASES[name], "stdout")
+        self.refused("picture", trace, report, says=says)
+        self.refused("capture-from-run", trace, report, "--out", self.path("out"), says=says)
 
     def test_units_that_age_are_lost_in_their_interval(self):
         """Of units that are kept for too long the loss stands at the beacon interval that ends their time."""

@@ -1,10 +1,9 @@
 """Tests of the page that tools/picture writes, in a real browser."""
 import os
-import unittest
 
 import long_run
 from browser import Browser, needs_chromium
-from common import THREE, ToolTest, needs_program, run_program, tool
+from common import THREE, ToolTest, needs_program, tool
 
 TOLD = "document.getElementById('lines').innerText"
 
@@ -111,11 +110,8 @@ class Long(ToolTest):
     def test_overview_leads_to_the_strips(self):
         """A click on a stretch of the overview shows its strip, and there is a way back. What it counts is told of the
         stretch that is pointed at."""
-        text = f"{long_run.config()}---\n{long_run.trace(3000)}"
-        for name, written in (("input", text), ("report", run_program(program_input=text))):
-            with open(self.path(name), "w", encoding="ascii") as file:
-                file.write(written)
-        told = tool("picture", self.path("input"), self.path("report"), "--out", self.path("long.html"))
+        trace, report = self.files_of_run(f"{long_run.config()}---\n{long_run.trace(3000)}")
+        told = tool("picture", trace, report, "--out", self.path("long.html"))
         self.assertEqual(told, (0, "", ""))
         browser = Browser()
         self.addCleanup(browser.close)
@@ -137,7 +133,3 @@ class Long(ToolTest):
                 browser.value("document.querySelector('#told a').click(); 0")
                 browser.wait("document.getElementById('picture').scrollTop < 40")
         self.assertEqual(browser.faults, [])
-
-
-if __name__ == "__main__":
-    unittest.main()

@@ -4,10 +4,10 @@ import re
 import shutil
 import subprocess
 import sys
-import time
 import unittest
 
-from common import ROOT, ToolTest
+from common import ROOT, ToolTest, run_to_end, text_of, wait_until
+from texts import read_text
 
 SHARED = os.path.join(ROOT, "share", "networks")
 MACHINE, GUEST, OUTSIDE = (f"portal-{name}-{os.getpid()}" for name in ("machine", "guest", "outside"))
@@ -26,7 +26,7 @@ FETCH = "import sys, urllib.request; print(urllib.request.urlopen(sys.argv[1], t
 
 def run(*words):
     """Runs a command that has to end well, and answers what it says."""
-    done = subprocess.run(words, capture_output=True, text=True, check=False)
+    done = run_to_end(words)
     if done.returncode:
         raise AssertionError(f"{' '.join(words)}: {done.stderr}")
     return done.stdout
@@ -73,29 +73,21 @@ class Portal(ToolTest):
 
     def rules(self):
         """The rules, changed as the page says."""
-        with open(os.path.join(SHARED, "nftables.conf"), encoding="utf-8") as file:
-            text = file.read()
-        with open(os.path.join(ROOT, "docs", "NETWORKS.md"), encoding="utf-8") as file:
-            [more] = re.findall(r'^ *(iifname "br-guests" tcp dport 8080 .*)$', file.read(), re.M)
+        text = read_text(os.path.join(SHARED, "nftables.conf"))
+        [more] = re.findall(r'^ *(iifname "br-guests" tcp dport 8080 .*)$', text_of("docs", "NETWORKS.md"), re.M)
         last = 'iifname { "br-guests", "br-office", "br-devices" } drop'
         self.assertEqual(text.count(last), 1)
-        path = self.path("nftables.conf")
-        with open(path, "w", encoding="utf-8") as file:
-            file.write(text.replace(last, f"{more}\n{last}"))
-            file.write(f'include "{os.path.join(SHARED, "portal.nft")}"\n')
-        return path
+        return self.write("nftables.conf", text.replace(last, f"{more}\n{last}")
+                          + f'include "{os.path.join(SHARED, "portal.nft")}"\n')
 
     def fetched(self, url):
         """What a guest is shown, or None where nobody answers."""
-        done = subprocess.run(["ip", "netns", "exec", GUEST, sys.executable, "-c", FETCH, url], capture_output=True,
-                              text=True, check=False)
+        done = run_to_end(["ip", "netns", "exec", GUEST, sys.executable, "-c", FETCH, url])
         return done.stdout.strip() or None
 
     def wait_for(self, page, url):
         """Waits until a guest is shown this page."""
-        until = time.monotonic() + 30
-        while self.fetched(url) != page:
-            self.assertLess(time.monotonic(), until, url)
+        self.assertTrue(wait_until(lambda: self.fetched(url) == page, 30), url)
 
     def pings(self):
         """Whether a guest reaches the host outside."""
@@ -118,7 +110,3 @@ class Portal(ToolTest):
             self.assertTrue(self.pings())
             self.accepted("delete", GUEST_ADDRESS)
             self.accepted("delete", ACCEPTED)
-
-
-if __name__ == "__main__":
-    unittest.main()

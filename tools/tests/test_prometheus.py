@@ -3,10 +3,9 @@ Debian's promtool finds no fault where it is there. tools/dev/test-prometheus tr
 import os
 import re
 import shutil
-import subprocess
 import unittest
 
-from common import ROOT
+from common import ROOT, run_to_end, text_of
 from status.demo import demo_of
 from status.document import complete
 from status.metrics import metrics_of
@@ -19,12 +18,6 @@ ENDINGS = ("_bucket", "_sum", "_count")
 WHERE = "promtool isn't there: Debian's package prometheus has it"
 
 
-def text_of(*names):
-    """A file."""
-    with open(os.path.join(*names), encoding="utf-8") as file:
-        return file.read()
-
-
 def families():
     """The kind of each metric, by its name, where all of them are known."""
     told = document(network(1, b"guests", [station(1)], refusals={"1": 1}, quota=256,
@@ -35,7 +28,7 @@ def families():
 
 def rust(name, *path):
     """A file of the bridge's sources."""
-    return text_of(ROOT, "tools", "bridge", "src", *path, name)
+    return text_of("tools", "bridge", "src", *path, name)
 
 
 class Files(unittest.TestCase):
@@ -83,7 +76,7 @@ class Files(unittest.TestCase):
         for words, says in ((("check", "rules", RULES), "SUCCESS: 14 rules found"),
                             (("check", "config", "prometheus.yml"), "SUCCESS: 1 rule files found"),
                             (("test", "rules", CASES), "SUCCESS")):
-            done = subprocess.run(["promtool", *words], capture_output=True, text=True, check=False, cwd=FOLDER)
+            done = run_to_end(["promtool", *words], cwd=FOLDER)
             self.assertEqual(done.returncode, 0, done.stdout + done.stderr)
             self.assertIn(says, done.stdout)
 
@@ -92,10 +85,5 @@ class Files(unittest.TestCase):
         """Nor in those of the page that shows made-up networks, nor with stations of their own."""
         for each in (False, True):
             text = metrics_of(complete(demo_of(0.0, 100.0), 0), each)
-            done = subprocess.run(["promtool", "check", "metrics"], input=text, capture_output=True, text=True,
-                                  check=False)
+            done = run_to_end(["promtool", "check", "metrics"], input=text)
             self.assertEqual((done.returncode, done.stdout + done.stderr), (0, ""))
-
-
-if __name__ == "__main__":
-    unittest.main()

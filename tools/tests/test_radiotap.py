@@ -1,13 +1,9 @@
 """Tests of tools/guest/radiotap.py, by which the guest's cases read what a monitor interface shows."""
-import os
 import struct
-import sys
 import unittest
 
+import radiotap
 from frames import BROADCAST, address_of
-
-sys.path.append(os.path.join(os.path.dirname(os.path.dirname(os.path.realpath(__file__))), "guest"))
-import radiotap  # noqa: E402
 
 OURS, STATION = address_of("02:00:00:00:01:01"), address_of("02:aa:00:00:00:01")
 
@@ -59,7 +55,3 @@ class Headers(unittest.TestCase):
     def test_cut_header(self):
         """Fields that don't fit the header's length are not read."""
         self.assertEqual(radiotap.captured(with_radiotap(data(), present=0xFFFF, fields=bytes(2))).frame, data())
-
-
-if __name__ == "__main__":
-    unittest.main()

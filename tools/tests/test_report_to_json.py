@@ -3,7 +3,7 @@ import json
 import os
 import subprocess
 
-from common import CASES, PROGRAM, ToolTest, needs_program, tool, with_report
+from common import CASES, PROGRAM, ToolTest, needs_program, run_to_end, tool, with_report
 from texts import read_text
 
 
@@ -86,8 +86,7 @@ class Json(ToolTest):
         """Octets that are no text, and no standard input at all, are refused."""
         report = os.path.join(os.path.dirname(os.path.dirname(os.path.realpath(__file__))), "report-to-json")
         for words in ('"$0" - </dev/zero', '"$0" - <&-', 'printf "\\377\\n" | "$0" -'):
-            done = subprocess.run(["bash", "-c", words.replace("</dev/zero", "< <(head -c 99 /dev/zero)"), report],
-                                  capture_output=True, text=True, check=False)
+            done = run_to_end(["bash", "-c", words.replace("</dev/zero", "< <(head -c 99 /dev/zero)"), report])
             self.assertEqual((done.returncode, done.stdout, done.stderr.count("\n")), (1, "", 1), words)
 
     def test_refusals(self):
@@ -97,6 +96,5 @@ class Json(ToolTest):
         self.refused("report-to-json", os.path.join(three, "input"), says="can't be read")
         report = read_text(os.path.join(three, "stdout"))
         for cut in ("", report[:-1], report[:-4], report[:100]):
-            with open(self.path("cut"), "w", encoding="ascii") as file:
-                file.write(cut)
+            self.write("cut", cut)
             self.refused("report-to-json", self.path("cut"), says="report")

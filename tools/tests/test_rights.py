@@ -9,7 +9,7 @@ import subprocess
 import sys
 import unittest
 
-from common import PROGRAM, ROOT, TOOLS, ToolTest
+from common import PROGRAM, ROOT, TOOLS, ToolTest, run_to_end
 from live.machine import PACKAGES
 
 BRIDGE = os.path.join(ROOT, "build", "bridge", "release", "bridge")
@@ -44,7 +44,7 @@ class Confined(ToolTest):
         # whatever is left of it ends with it, so that nothing is waited for after the time is over
         words = ["unshare", "--net", "--mount", "--pid", "--fork", "--kill-child", "--mount-proc",
                  sys.executable, SCRIPT, BRIDGE, PROGRAM, folder, case]
-        done = subprocess.run(words, capture_output=True, text=True, check=False, timeout=120)
+        done = run_to_end(words, timeout=120)
         self.assertEqual(done.returncode, 0, done.stderr)
         found = json.loads(done.stdout)
         self.assertEqual((found["left"], found["made"]), ([], ["phy0.lock"]), found["log"])
@@ -93,7 +93,3 @@ class Confined(ToolTest):
         """One that makes a socket; all is taken down then."""
         found = self.attack("program-connects")
         self.assertEqual((found["outcome"], found["fault"]), ("killed by SIGSYS", "the program ended by itself"))
-
-
-if __name__ == "__main__":
-    unittest.main()

@@ -4,11 +4,10 @@ root, Debian's packages ansible and openssh-server, and the built program."""
 import json
 import os
 import shutil
-import subprocess
 import sys
 import unittest
 
-from common import PROGRAM, ROOT, TOOLS, ToolTest
+from common import PROGRAM, ROOT, TOOLS, ToolTest, run_to_end
 
 ANSIBLE = os.path.join(ROOT, "share", "ansible")
 SCRIPT = os.path.join(TOOLS, "tests", "site_role.py")
@@ -25,7 +24,7 @@ class SiteRole(ToolTest):
         words = ["ansible-playbook", "--syntax-check", "-i", os.path.join(ANSIBLE, "my-site.yml"),
                  os.path.join(ANSIBLE, "site.yml")]
         surroundings = {**os.environ, "ANSIBLE_NOCOLOR": "1", "ANSIBLE_LOCAL_TEMP": self.path("local")}
-        done = subprocess.run(words, capture_output=True, text=True, check=False, env=surroundings)
+        done = run_to_end(words, env=surroundings)
         self.assertEqual(done.returncode, 0, done.stdout + done.stderr)
         self.assertNotIn("WARNING", done.stderr)
 
@@ -34,8 +33,7 @@ class SiteRole(ToolTest):
     @unittest.skipUnless(os.path.exists(PROGRAM), "build/apctl isn't there (make apctl builds it)")
     def test_two_machines(self):
         """What each play does, and that a fault changes nothing."""
-        done = subprocess.run(["unshare", "--net", "--mount", sys.executable, SCRIPT, PROGRAM], capture_output=True,
-                              text=True, check=False, timeout=900)
+        done = run_to_end(["unshare", "--net", "--mount", sys.executable, SCRIPT, PROGRAM], timeout=900)
         self.assertEqual(done.returncode, 0, done.stderr)
         found = json.loads(done.stdout)
         self.first(found)
@@ -79,7 +77,3 @@ class SiteRole(ToolTest):
         self.assertNotEqual(broken["status"], 0)
         self.assertIn('ssid = "guests"', broken["ap1"]["files"]["toml"])
         self.assertEqual(broken["ap2"]["files"], before["ap2"])
-
-
-if __name__ == "__main__":
-    unittest.main()

@@ -1,37 +1,19 @@
 """Tests of what the cases of a site of two access points measure, and of how they tell it."""
 import contextlib
-import importlib.machinery
-import importlib.util
 import io
-import os
 import struct
-import sys
 import unittest
 
-from common import ToolTest
-
-GUEST = os.path.join(os.path.dirname(os.path.dirname(os.path.realpath(__file__))), "guest")
-sys.path.append(GUEST)
-import points  # noqa: E402
-import roaming  # noqa: E402
-from dozing import Came  # noqa: E402
-from frames import address_of  # noqa: E402
-from stations import Failed  # noqa: E402
+import points
+import roaming
+from common import ToolTest, module_of
+from dozing import Came
+from frames import address_of
+from stations import Failed
 
 MILLISECOND, SECOND = 10 ** 6, 10 ** 9
 STATION, OTHER = "02:00:00:00:02:00", "02:00:00:00:03:00"
-
-
-def load_cases():
-    """The program of the cases, which isn't named as a module."""
-    loader = importlib.machinery.SourceFileLoader("guest_site_cases", os.path.join(GUEST, "site-cases"))
-    module = importlib.util.module_from_spec(importlib.util.spec_from_loader("guest_site_cases", loader))
-    sys.modules[module.__name__] = module
-    loader.exec_module(module)
-    return module
-
-
-site_cases = load_cases()
+site_cases = module_of("guest", "site-cases")
 
 
 def frame(source, behind):
@@ -50,11 +32,10 @@ class Measured(ToolTest):
 
     def test_a_capture_has_times(self):
         """Of each packet, and a packet that was cut isn't lost for it."""
-        path = self.path("capture")
-        with open(path, "wb") as file:
-            file.write(bytes(24))
-            for seconds, microseconds, octets in ((3, 5, b"one"), (4, 999999, b"second")):
-                file.write(struct.pack("<IIII", seconds, microseconds, len(octets), len(octets)) + octets)
+        packets = ((3, 5, b"one"), (4, 999999, b"second"))
+        path = self.write("capture", bytes(24) + b"".join(
+            struct.pack("<IIII", seconds, microseconds, len(octets), len(octets)) + octets
+            for seconds, microseconds, octets in packets))
         wanted = [(3 * SECOND + 5000, b"one"), (4 * SECOND + 999999000, b"second")]
         self.assertEqual(roaming.timed_packets(path), wanted)
 
@@ -143,7 +124,3 @@ class Told(unittest.TestCase):
         told, cases = self.played(measure)
         self.assertTrue(told.startswith("FAILED: ours: it roams: it never joins ("), told)
         self.assertEqual((cases.passed, cases.failed), (0, 1))
-
-
-if __name__ == "__main__":
-    unittest.main()

@@ -15,7 +15,7 @@ import unittest
 from concurrent.futures import ThreadPoolExecutor
 from unittest import mock
 
-from common import TOOLS, ToolTest
+from common import TOOLS, ToolTest, run_to_end
 from status import asking, server
 from status.asking import status_of
 from status.document import NO_NAME, NOT_YET, Untold, complete, name_of
@@ -23,6 +23,7 @@ from status.metrics import Family, Kind, metrics_of
 from status.page import page_text
 from status.server import MOST_CONNECTIONS, MOST_HEAD, policy_of, serve
 from statuses import FakeBridge, document, line_of, network, only_known, station
+from texts import read_text
 
 MARKUP = b'</script><b onclick="x">&\\"'
 THREE = document(
@@ -223,8 +224,7 @@ class Metrics(unittest.TestCase):
 
     @unittest.skipUnless(shutil.which("promtool"), "promtool isn't there: Debian's package prometheus has it")
     def test_promtool_finds_nothing(self):
-        done = subprocess.run(["promtool", "check", "metrics"], input=self.text, capture_output=True, text=True,
-                              check=False)
+        done = run_to_end(["promtool", "check", "metrics"], input=self.text)
         self.assertEqual((done.returncode, done.stdout + done.stderr), (0, ""))
 
 
@@ -488,8 +488,7 @@ class Tool(ToolTest):
         self.addCleanup(bridge.listener.close)
         time.sleep(0.6)
         self.assertEqual(self.metrics(port), (200, metrics_of(complete(THREE, 0))))
-        with open(f"/proc/{started.pid}/status", encoding="utf-8") as file:
-            user = re.search(r"^Uid:\t(\d+)\t(\d+)\t(\d+)", file.read(), re.M)
+        user = re.search(r"^Uid:\t(\d+)\t(\d+)\t(\d+)", read_text(f"/proc/{started.pid}/status"), re.M)
         self.assertNotIn("0", user.groups(), "it goes on without root's rights")
         bridge.close()
         time.sleep(0.6)
@@ -555,7 +554,3 @@ class Page(unittest.TestCase):
         changed = policy_of(self.text.replace("refresh();\n</script>", "refresh(); \n</script>"))
         self.assertNotEqual(changed, policy_of(self.text))
         self.assertEqual(changed.partition("style-src")[2], policy_of(self.text).partition("style-src")[2])
-
-
-if __name__ == "__main__":
-    unittest.main()

@@ -9,7 +9,7 @@ import time
 import unittest
 from unittest import mock
 
-from common import TOOLS, ToolTest
+from common import TOOLS, ToolTest, run_to_end
 from status.endpoint import Endpoint, endpoint_of, name_of, source_of
 from status.server import Server
 from statuses import FakeBridge, document, line_of, network, station
@@ -156,10 +156,6 @@ class Addresses(ToolTest):
         for words, says in ((["0.0.0.0:80", "x"], "0.0.0.0 stands for all addresses"),
                             (["80", "x", "--host", "a b"], "a b is no name of a host"),
                             (["80", "x", "--from", "192.0.2.1/24"], "192.0.2.1/24 is neither an address nor a")):
-            done = subprocess.run([command[0], *words], capture_output=True, text=True, check=False)
+            done = run_to_end([command[0], *words])
             self.assertEqual(done.returncode, 2)
             self.assertIn(says, done.stderr)
-
-
-if __name__ == "__main__":
-    unittest.main()

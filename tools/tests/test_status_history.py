@@ -151,8 +151,7 @@ class NamesFile(ToolTest):
 
     def write(self, text):
         """Writes the file."""
-        with open(self.path("names"), "w", encoding="utf-8") as file:
-            file.write(text)
+        self.write("names", text)
         return self.path("names")
 
     def test_what_is_read(self):
@@ -187,7 +186,3 @@ class NamesFile(ToolTest):
         self.assertEqual(names.look(), {"02:aa:00:00:00:01": "another"})
         os.remove(self.path("names"))
         self.assertEqual(names.look(), {"02:aa:00:00:00:01": "another"})
-
-
-if __name__ == "__main__":
-    unittest.main()

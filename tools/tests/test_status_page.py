@@ -416,7 +416,3 @@ class Shown(unittest.TestCase):
         self.browser.open("about:blank")
         self.assertEqual(self.browser.value(f"fetch('{self.server.url}status.json').then(() => 'read', () => 'kept')"),
                          "kept")
-
-
-if __name__ == "__main__":
-    unittest.main()

@@ -7,7 +7,7 @@ import subprocess
 import sys
 import unittest
 
-from common import PROGRAM, TOOLS, ToolTest
+from common import PROGRAM, TOOLS, ToolTest, run_to_end
 from test_rights import BRIDGE, NEEDS_COMMANDS, can_try
 
 SCRIPT = os.path.join(TOOLS, "tests", "staying.py")
@@ -29,7 +29,7 @@ class Staying(ToolTest):
         """Each keeps its identifier and its mode, and none is told to leave but those whose network changed."""
         os.chmod(self.folder, 0o755)
         words = ["unshare", "--net", "--mount", sys.executable, SCRIPT, BRIDGE, PROGRAM, self.folder]
-        done = subprocess.run(words, capture_output=True, text=True, check=False, timeout=240)
+        done = run_to_end(words, timeout=240)
         self.assertEqual(done.returncode, 0, done.stderr)
         found = json.loads(done.stdout)
         log = found.pop("log")
@@ -46,15 +46,10 @@ class Staying(ToolTest):
     def look_at_records(self, log):
         """Of each program but the first the record has its marks, and `run` on it has the same stations."""
         for number in range(1, 6):
-            with open(self.path(f"record.{number}"), encoding="ascii") as file:
-                lines = file.read().splitlines()
+            lines = self.read(f"record.{number}").splitlines()
             marks = [line for line in lines if line.startswith("# restored")]
             self.assertEqual((len(marks), lines[0]), (2, marks[0]), log)
             tables = subprocess.run([PROGRAM, "run", self.path(f"config.{number}"), self.path(f"record.{number}")],
                                     capture_output=True, text=True, check=True).stdout
             self.assertIn("station 02:aa:00:00:00:03 associated aid 3 listen 5 active kept 0\n", tables)
             self.assertEqual("station 02:aa:00:00:00:04 associated aid 4 listen 5 doze kept 0\n" in tables, number < 5)
-
-
-if __name__ == "__main__":
-    unittest.main()

@@ -111,9 +111,7 @@ class Sample(ToolTest):
         """The program answers the sample's trace with the example's report."""
         status, trace, _ = tool("trace-from-capture", SAMPLE, *WIRES, "--config", self.path("my.toml"))
         self.assertEqual(status, 0)
-        with open(self.path("my.trace"), "w", encoding="ascii") as file:
-            file.write(trace)
-        report = run_program("run", self.path("my.toml"), self.path("my.trace"))
+        report = run_program("run", self.path("my.toml"), self.write("my.trace", trace))
         self.assertEqual(report, read_text(os.path.join(THREE, "stdout")))
 
     def test_each_header_gives_the_same_trace(self):
@@ -222,13 +220,9 @@ class Origins(ToolTest):
     def test_program_reads_the_remarks(self):
         """The program skips them, and the picture takes its times from them."""
         _, stdout, _ = tool("trace-from-capture", SAMPLE, *WIRES, "--config", self.path("my.toml"))
-        text = f"{read_text(self.path('my.toml'))}---\n{stdout}"
-        report = run_program(program_input=text)
-        self.assertEqual(report, read_text(os.path.join(THREE, "stdout")))
-        for name, written in (("input", text), ("report", report)):
-            with open(self.path(name), "w", encoding="ascii") as file:
-                file.write(written)
-        status, picture, stderr = tool("picture", self.path("input"), self.path("report"))
+        trace, report = self.files_of_run(f"{self.read('my.toml')}---\n{stdout}")
+        self.assertEqual(read_text(report), read_text(os.path.join(THREE, "stdout")))
+        status, picture, stderr = tool("picture", trace, report)
         self.assertEqual((status, stderr), (0, ""))
         self.assertIn("time, s", picture)
 
@@ -256,9 +250,7 @@ class Examples(ToolTest):
         config, _, trace = text.partition("\n---\n")
         before, behind = trace.split("\n")[:6], trace.split("\n")[6:]
         told = ["# restored: of the lines from here on the answers were not sent", *before, "# restored: up to here", *behind]
-        marked = self.path("input")
-        with open(marked, "w", encoding="utf-8") as file:
-            file.write(f"{config}\n---\n" + "\n".join(told))
+        marked = self.write("input", f"{config}\n---\n" + "\n".join(told))
         count = len(read_trace("\n".join(before)))
         wanted = [line for line in lines[count:] if not is_left_out(line)]
         self.assertGreater(count, 2)
@@ -271,13 +263,12 @@ class Examples(ToolTest):
         """A record marks it: the captures of wires don't have it."""
         text, lines = input_of(THREE)
         config, _, trace = text.partition("\n---\n")
-        marked, told = self.path("input"), []
+        told = []
         for line in trace.split("\n"):
             is_wired = line.startswith("W ")
             told += ["# handed back: the lines from here on are units"] * is_wired + [line]
             told += ["# handed back: up to here"] * is_wired
-        with open(marked, "w", encoding="utf-8") as file:
-            file.write(f"{config}\n---\n" + "\n".join(told))
+        marked = self.write("input", f"{config}\n---\n" + "\n".join(told))
         self.assertGreater(sum(line.kind == "W" for line in lines), 1)
         wanted = [line for line in lines if not is_left_out(line) and line.kind != "W"]
         self.assertEqual(essence(self.there_and_back(THREE, text, marked)), essence(wanted))
@@ -350,10 +341,9 @@ class Beacons(ToolTest):
         """One of seventeen networks is named with their number, however few of them beacon."""
         text = "version = 2\nchannel = 6\ninterval = 100\nqueue = 64\n"
         text += "".join(f'[[network]]\nbssid = "{bssid}"\n' for bssid in named(17)[1::2])
-        with open(self.path("many.toml"), "w", encoding="ascii") as file:
-            file.write(text)
+        many = self.write("many.toml", text)
         write_pcap(self.path("air"), PLAIN_80211, list(enumerate(beacons_of(3))))
-        self.refused("trace-from-capture", self.path("air"), "--networks-of", self.path("many.toml"),
+        self.refused("trace-from-capture", self.path("air"), "--networks-of", many,
                      says="many.toml has 17 networks, and an access point has at most 16")
 
     def test_names_that_need_care(self):

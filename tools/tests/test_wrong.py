@@ -2,10 +2,9 @@
 found, and each body is tried."""
 import os
 import shutil
-import subprocess
 from unittest import mock
 
-from common import ROOT, ToolTest
+from common import ROOT, ToolTest, run_to_end
 
 BODY = "[[{}]]\nfile = 'src/lib.rt'\nold = '{}'\nnew = '{}'\n"
 SOURCE = "fn run() {\n    walk(1);\n    walk(2);\n}\n"
@@ -48,12 +47,11 @@ class SmallCrate(ToolTest):
     def write(self, name, text):
         """Writes a file of the repository."""
         os.makedirs(os.path.dirname(self.path(name)), exist_ok=True)
-        with open(self.path(name), "w", encoding="utf-8") as file:
-            file.write(text)
+        self.write(name, text)
 
     def said(self, script="check"):
         """The status of a script, and its lines."""
-        done = subprocess.run([self.path(f"wrong/{script}")], capture_output=True, text=True, check=False)
+        done = run_to_end([self.path(f"wrong/{script}")])
         self.assertEqual(done.stderr, "")
         return done.returncode, done.stdout.splitlines()
 
