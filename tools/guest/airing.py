@@ -6,7 +6,7 @@ import subprocess
 from dataclasses import dataclass
 
 from stage import Net, Start, new_folder
-from stations import Failed, Host, Station, run, wait_for
+from stations import Failed, Host, Program, Station, run, write
 
 READY, DONE = "ready", "ok"
 BEFORE_ALL = ("chrt", "--fifo", "50")
@@ -22,7 +22,7 @@ driver=nl80211
 ctrl_interface={folder}/control
 ssid={ssid}
 hw_mode=g
-channel=6
+channel={channel}
 beacon_int=100
 dtim_period={dtim}
 auth_algs=1
@@ -184,7 +184,7 @@ class Own:
         return self.start.agrees_with_run()
 
 
-class Hostapd:
+class Hostapd(Program):
     """Debian's hostapd with the kernel's own access point, bridged to the same wire."""
 
     name = "hostapd"
@@ -195,16 +195,15 @@ class Hostapd:
         self.power_save, self.other = power_save, other
         self.phy, self.bssid, self.ssid, self.host = phy, bssid, ssid, host
         self.config, self.log = os.path.join(self.folder, "config"), os.path.join(self.folder, "log")
-        self.process: subprocess.Popen | None = None
 
     def begin(self) -> None:
         """Begins it."""
-        with open(self.config, "w", encoding="utf-8") as file:
-            file.write(HOSTAPD_TEXT.format(interface=AP, bridge=BRIDGE, folder=self.folder, ssid=self.ssid,
-                                           dtim=self.power_save.dtim))
-            if self.other:
-                file.write(MORE_HOSTAPD_TEXT.format(interface=OTHER_AP, bridge=OTHER_BRIDGE, ssid=self.other.ssid,
-                                                    bssid=self.other.bssid))
+        text = HOSTAPD_TEXT.format(interface=AP, bridge=BRIDGE, folder=self.folder, ssid=self.ssid, channel=6,
+                                   dtim=self.power_save.dtim)
+        if self.other:
+            text += MORE_HOSTAPD_TEXT.format(interface=OTHER_AP, bridge=OTHER_BRIDGE, ssid=self.other.ssid,
+                                             bssid=self.other.bssid)
+        write(self.config, text)
         run("iw", "phy", self.phy, "interface", "add", AP, "type", "managed", "addr", self.bssid)
         for bridge, port in self.wires():
             run("ip", "link", "add", bridge, "type", "bridge")
@@ -220,11 +219,8 @@ class Hostapd:
 
     def begin_process(self) -> None:
         """Begins hostapd alone; all else is there."""
-        with open(self.log, "wb") as log:
-            self.process = subprocess.Popen(["hostapd", self.config], stdin=subprocess.DEVNULL, stdout=log, stderr=log)
-        wait_for("hostapd begins", 30, lambda: "AP-ENABLED" in self.told() or self.process.poll() is not None, 0.02)
-        if self.process.poll() is not None:
-            raise Failed(f"hostapd didn't begin: {self.told()}")
+        self.start_process(["hostapd", self.config])
+        self.wait_until_begun("hostapd", "AP-ENABLED", 30, 0.02)
 
     def begin_again(self) -> None:
         """It is killed, and begun again at once."""
@@ -235,11 +231,6 @@ class Hostapd:
     def reload(self) -> None:
         """It reads its configuration again."""
         self.process.send_signal(signal.SIGHUP)
-
-    def told(self) -> str:
-        """What it has told so far."""
-        with open(self.log, encoding="utf-8") as file:
-            return file.read()
 
     def station(self, address: str) -> str:
         """What the kernel says of a station, or nothing."""
@@ -260,9 +251,7 @@ def live_with(folder: str, live: str, bridge: str | None) -> str:
     if bridge is None:
         return live
     path = os.path.join(folder, "live")
-    with open(path, "w", encoding="utf-8") as file:
-        file.write(f'#!/bin/sh\nexec {live} "$@" --bridge {os.path.realpath(bridge)}\n')
-    os.chmod(path, 0o755)
+    write(path, f'#!/bin/sh\nexec {live} "$@" --bridge {os.path.realpath(bridge)}\n', 0o755)
     return path
 
 

@@ -8,6 +8,7 @@ from dataclasses import dataclass
 
 from frames import ASSOCIATION_RESPONSE, Frame, address_of
 from radiotap import captured
+from stations import read
 
 # Before a frame that is sent by a monitor interface: a radiotap header without fields.
 NO_FIELDS = bytes([0, 0, 8, 0, 0, 0, 0, 0])
@@ -99,6 +100,5 @@ class Crowd:
 
 def memory_of(process: int) -> tuple[float, float]:
     """How many MB of memory a process had at most, and how many of addresses."""
-    with open(f"/proc/{process}/status", encoding="ascii") as file:
-        fields = dict(line.split(":", 1) for line in file)
+    fields = dict(line.split(":", 1) for line in read(f"/proc/{process}/status").splitlines())
     return tuple(int(fields[name].split()[0]) / KIB for name in ("VmHWM", "VmPeak"))

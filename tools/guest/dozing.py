@@ -7,9 +7,10 @@ from dataclasses import dataclass, field
 
 from airing import Air, Hostapd, Other, Own, PowerSave, live_with
 from made_up import ALL_RATES, Habit, MadeUp, play
-from sharing import Flow, know_each_other, start_stamped
+from sharing import Flow, start_stamped
 from stage import HANDED_BACK_FROM, HANDED_BACK_TO, Observer
-from stations import Failed, Host, Radio, Station, load_radios, run, unload_radios, wait_for
+from stations import (Failed, Host, Radio, Station, know_each_other, load_radios, run, unload_radios, wait_for,
+                      wait_until)
 
 HERE = os.path.dirname(os.path.realpath(__file__))
 LIVE = os.path.join(os.path.dirname(HERE), "live")
@@ -107,11 +108,6 @@ class Figures:
 def intervals(number: int) -> float:
     """So many beacon intervals in milliseconds."""
     return number * INTERVAL * MICROSECONDS_OF_TIME_UNIT / 1000
-
-
-def wait_until(moment: float) -> None:
-    """Waits until this moment of the monotonic clock, or not at all where it has been."""
-    time.sleep(max(0.0, moment - time.monotonic()))
 
 
 class Receiving:
@@ -213,8 +209,7 @@ class Stage:
             added.append(station)
             network = (OTHER_BSSID, OTHER_SSID) if to_other else (BSSID, SSID)
             station.join(*network, listen_interval, rates)
-            host.run("ip", "neighbour", "replace", station.address, "lladdr", station.hardware, "dev", host.interface,
-                     "nud", "permanent")
+            host.know(station.address, station.hardware)
         self.of_other += added if to_other else []
         return added
 

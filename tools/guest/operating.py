@@ -15,8 +15,8 @@ import time
 from frames import BROADCAST, DATA, DEAUTHENTICATION, DISASSOCIATION, NULL, Frame, address_of
 from parts import IN_REACH, OUT_OF_REACH, Part, join, set_reach
 from radiotap import captured
-from stage import COMPILED, Net, Start
-from stations import Failed, Station, load_radios, run, unload_radios, wait_for
+from stage import COMPILED, READY, Net, Start
+from stations import Failed, Station, load_radios, read, run, unload_radios, wait_for, write
 
 HERE = os.path.dirname(os.path.realpath(__file__))
 TOP = os.path.dirname(os.path.dirname(HERE))
@@ -303,8 +303,7 @@ class Reload(Part):
 
     def write_wires(self, networks: tuple[Net, ...]) -> None:
         """The wires stand in a file, which is read again too."""
-        with open(self.wires, "w", encoding="ascii") as file:
-            file.writelines(f"{net.bssid}={net.port}  # {net.ssid}\n" for net in networks)
+        write(self.wires, "".join(f"{net.bssid}={net.port}  # {net.ssid}\n" for net in networks))
 
     def set_up(self) -> None:
         """Each has a host of its own."""
@@ -319,15 +318,12 @@ class Reload(Part):
 
     def fault(self) -> str:
         """It is told by its name, and all goes on."""
-        with open(self.start.config, encoding="utf-8") as file:
-            text = file.read()
+        text = read(self.start.config)
         pings = [station.ping(host.address, 12) for station, host in zip(self.stations, self.hosts)]
-        with open(self.start.config, "w", encoding="utf-8") as file:
-            file.write(text.replace("dtim = 2", "dtim = 0"))
+        write(self.start.config, text.replace("dtim = 2", "dtim = 0"))
         self.start.reload("fault C11 network 1")
         self.start.has_told("all stays as it is")
-        with open(self.start.config, "w", encoding="utf-8") as file:
-            file.write(text)
+        write(self.start.config, text)
         for ping in pings:
             ping.whole()
         return "36 of 36 pings came back"
@@ -349,7 +345,7 @@ class Reload(Part):
         anew = time.monotonic() - begun
 
         def answered() -> bool:
-            return all(b" bytes from " in read(log)[size:] for log, size in zip(logs, sizes))
+            return all(" bytes from " in read(log)[size:] for log, size in zip(logs, sizes))
         wait_for("the others' pings", RELOAD_SECONDS, answered, 0.1)
         seconds = time.monotonic() - begun
         for station, net in zip(self.stations, changed[:2]):
@@ -386,12 +382,11 @@ class ByHand:
 
     def run(self) -> str:
         """A station joins and pings the host; what was recorded is what `run` takes."""
-        with open(os.path.join(TOP, "docs", "OPERATING.md"), encoding="utf-8") as file:
-            section = file.read().partition(self.SECTION)[2].partition(self.NEXT)[0]
+        page = read(os.path.join(TOP, "docs", "OPERATING.md"))
+        section = page.partition(self.SECTION)[2].partition(self.NEXT)[0]
         config, wires, serving, joining = self.BLOCK.findall(section)
         self.check_out()
-        with open(os.path.join(self.folder, "my.toml"), "w", encoding="utf-8") as file:
-            file.write(config)
+        write(os.path.join(self.folder, "my.toml"), config)
         loading, _, wires = wires.partition("\n")
         if loading != "sudo modprobe mac80211_hwsim radios=2":
             raise Failed(f"the first command is {loading}")
@@ -403,9 +398,9 @@ class ByHand:
             with open(log, "wb") as file:
                 process = subprocess.Popen(self.words(serving, names), cwd=self.folder, stdin=subprocess.DEVNULL,
                                            stdout=file, stderr=file, start_new_session=True)
-            wait_for("the access point", 30, lambda: b"networks are on channel" in read(log) or process.poll() is not None)
+            wait_for("the access point", 30, lambda: READY in read(log) or process.poll() is not None)
             if process.poll() is not None:
-                raise Failed(read(log).decode())
+                raise Failed(read(log))
             told = self.shell(joining, names)
             os.killpg(process.pid, signal.SIGINT)
             process.wait(60)
@@ -416,7 +411,7 @@ class ByHand:
                 subprocess.run(["ip", "netns", "del", name], capture_output=True, check=False)
             unload_radios()
         if "Connected to 02:00:00:00:01:01" not in told or "4 packets transmitted, 4 received" not in told:
-            raise Failed(f"{told} {read(log).decode()}")
+            raise Failed(f"{told} {read(log)}")
         return "4 of 4 pings came back"
 
     def check_out(self) -> None:
@@ -443,7 +438,3 @@ class ByHand:
         return done.stdout
 
 
-def read(path: str) -> bytes:
-    """The octets of a file."""
-    with open(path, "rb") as file:
-        return file.read()

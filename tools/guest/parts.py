@@ -1,6 +1,6 @@
 """Parts of the test of real stations: cases over one start of the bridge. None depends on how another ended."""
 from stage import Start
-from stations import Host, Station
+from stations import Host, Station, write
 
 IN_REACH, OUT_OF_REACH = "1", "2"
 
@@ -13,8 +13,7 @@ def join(station: Station, host: Host, number: int, ssid: str, bssid: str | None
 
 def set_reach(station: Station, group: str) -> None:
     """Puts a simulated radio where the others hear it, or where they don't."""
-    with open(f"/sys/kernel/debug/ieee80211/{station.phy}/hwsim/group", "w", encoding="ascii") as file:
-        file.write(group)
+    write(f"/sys/kernel/debug/ieee80211/{station.phy}/hwsim/group", group)
 
 
 class Part:

@@ -2,29 +2,14 @@
 serve the same wires, one after the other. Of one kind several may serve a site, each with a number and a radio."""
 import os
 import signal
-import subprocess
 from dataclasses import dataclass
 
-from airing import MORE_HOSTAPD_TEXT, RATES
+from airing import HOSTAPD_TEXT, MORE_HOSTAPD_TEXT, RATES
 from stage import BY, NETWORK_TEXT, RADIO_TEXT, READY, TIMEOUT
-from stations import Failed, run, wait_for
+from stations import Program, run, write
 
 SECONDS_TO_END = 60
 CHANNEL = 6
-HOSTAPD_TEXT = """interface={interface}
-driver=nl80211
-ctrl_interface={folder}/control
-bridge={bridge}
-ssid={ssid}
-hw_mode=g
-channel={channel}
-beacon_int=100
-dtim_period=1
-auth_algs=1
-wmm_enabled=0
-basic_rates=10 20
-supported_rates=10 20 55 110 60 90 120 180 240 360 480 540
-"""
 
 
 @dataclass(frozen=True)
@@ -35,7 +20,7 @@ class Served:
     port: str
 
 
-class Point:
+class Point(Program):
     """An access point, of which a process is the main part."""
 
     name = ""
@@ -48,7 +33,6 @@ class Point:
         self.folder = os.path.join(folder, f"{self.name}{number or ''}")
         os.makedirs(self.folder, exist_ok=True)
         self.config, self.log = (os.path.join(self.folder, file) for file in ("config", "log"))
-        self.process: subprocess.Popen | None = None
 
     def bssid(self, place: int) -> str:
         """The address of the network at this place."""
@@ -56,21 +40,8 @@ class Point:
 
     def start(self, words: list[str], says: str) -> None:
         """Starts the process, and waits until it says that it has begun."""
-        with open(self.log, "ab") as log:
-            log.truncate(0)
-            self.process = subprocess.Popen(words, stdin=subprocess.DEVNULL, stdout=log, stderr=log)
-        wait_for(f"{self.name} begins", TIMEOUT, lambda: says in self.told() or not self.is_running(), 0.1)
-        if not self.is_running():
-            raise Failed(f"{self.name} didn't begin: {self.told()}")
-
-    def is_running(self) -> bool:
-        """Whether it has begun and not ended."""
-        return self.process is not None and self.process.poll() is None
-
-    def told(self) -> str:
-        """What it has told since it began."""
-        with open(self.log, encoding="utf-8") as file:
-            return file.read()
+        self.start_process(words)
+        self.wait_until_begun(self.name, says, TIMEOUT, 0.1)
 
     def end(self) -> None:
         """Ends the process, where it hasn't ended by itself."""
@@ -95,12 +66,12 @@ class Own(Point):
     def begin(self, networks: list[Served], more: tuple[str, ...] = ()) -> None:
         """Begins it with these networks, and with more words of tools/live."""
         words = [*self.words, *more]
-        with open(self.config, "w", encoding="utf-8") as file:
-            file.write(RADIO_TEXT.format(version=1).replace(f"channel = {CHANNEL}\n", f"channel = {self.channel}\n"))
-            for place, network in enumerate(networks):
-                bssid = self.bssid(place)
-                file.write(NETWORK_TEXT.format(bssid=bssid, ssid=network.ssid, rates=RATES, dtim=1, more=""))
-                words += ["--wire", f"{bssid}={network.port}"]
+        text = RADIO_TEXT.format(version=1).replace(f"channel = {CHANNEL}\n", f"channel = {self.channel}\n")
+        for place, network in enumerate(networks):
+            bssid = self.bssid(place)
+            text += NETWORK_TEXT.format(bssid=bssid, ssid=network.ssid, rates=RATES, dtim=1, more="")
+            words += ["--wire", f"{bssid}={network.port}"]
+        write(self.config, text)
         self.start(words, READY)
 
 
@@ -119,12 +90,13 @@ class Hostapd(Point):
         assert not more
         run("iw", "phy", self.phy, "interface", "add", self.interface, "type", "managed", "addr", self.bssid(0))
         self.bridges = [f"br{self.number}-{place}" for place, _ in enumerate(networks)]
-        with open(self.config, "w", encoding="utf-8") as file:
-            for place, (network, bridge) in enumerate(zip(networks, self.bridges)):
-                text = MORE_HOSTAPD_TEXT if place else HOSTAPD_TEXT
-                file.write(text.format(interface=self.interface_of(place), folder=self.folder, bridge=bridge,
-                                       ssid=network.ssid, bssid=self.bssid(place), channel=self.channel))
-                self.join_wire(bridge, network.port)
+        config = ""
+        for place, (network, bridge) in enumerate(zip(networks, self.bridges)):
+            text = MORE_HOSTAPD_TEXT if place else HOSTAPD_TEXT
+            config += text.format(interface=self.interface_of(place), folder=self.folder, bridge=bridge, dtim=1,
+                                  ssid=network.ssid, bssid=self.bssid(place), channel=self.channel)
+            self.join_wire(bridge, network.port)
+        write(self.config, config)
         self.start(["hostapd", self.config], "AP-ENABLED")
 
     def interface_of(self, place: int) -> str:

@@ -7,7 +7,7 @@ import signal
 import subprocess
 from collections import Counter
 
-from stations import Failed
+from stations import Failed, read, write
 
 # Samples a second: no step of them falls together with what begins each millisecond, or each beacon interval.
 A_SECOND = 1997
@@ -50,14 +50,13 @@ class Samples:
 
     def __init__(self, path: str, report: str) -> None:
         self.path, self.report = path, report
-        with open(MOST_TIME, "w", encoding="ascii") as file:
-            file.write("0")
-        (read, asks), (answered, writes) = os.pipe(), os.pipe()
-        self.ends = read, asks, answered, writes
+        write(MOST_TIME, "0")
+        (asked, asks), (answered, writes) = os.pipe(), os.pipe()
+        self.ends = asked, asks, answered, writes
         words = ["perf", "record", "-q", "-a", "-e", "cpu-clock", "-F", str(A_SECOND), "-m", BUFFER, "-o", path,
-                 "--delay", "-1", "--control", f"fd:{read},{writes}"]
+                 "--delay", "-1", "--control", f"fd:{asked},{writes}"]
         self.process = subprocess.Popen(words, stdin=subprocess.DEVNULL, stdout=subprocess.DEVNULL,
-                                        stderr=subprocess.PIPE, pass_fds=(read, writes))
+                                        stderr=subprocess.PIPE, pass_fds=(asked, writes))
         # It takes them from its answer on; before, it looks at which processes there are.
         os.write(asks, b"enable\n")
         if not select.select([answered], [], [], SECONDS_TO_BEGIN)[0]:
@@ -74,10 +73,8 @@ class Samples:
         done = subprocess.run(words, capture_output=True, text=True, stdin=subprocess.DEVNULL, check=False)
         if done.returncode != 0:
             raise Failed(f"perf: {told} {done.stderr}")
-        with open(self.report, "w", encoding="utf-8") as file:
-            file.write(done.stdout)
-        with open(SYMBOLS, encoding="ascii") as file:
-            return by_process(done.stdout, modules_of(file.read()))
+        write(self.report, done.stdout)
+        return by_process(done.stdout, modules_of(read(SYMBOLS)))
 
 
 def modules_of(symbols: str) -> dict[str, str]:

@@ -7,15 +7,16 @@ import subprocess
 import time
 from dataclasses import dataclass, field
 
-from dozing import Came, Receiving, wait_until
+from dozing import Came, Receiving
 from frames import address_of
 from live.asking import ask
 from live.faults import Fault
 from parts import IN_REACH, OUT_OF_REACH, set_reach
 from points import Hostapd, Own, Point, Served
-from sharing import Flow, know_each_other
-from stage import PCAP_HEADER, PCAP_RECORD
-from stations import Failed, Host, Station, load_radios, run, unload_radios, wait_for
+from sharing import Flow
+from stage import PCAP_HEADER, timed_packets
+from stations import (Failed, Host, Station, know_each_other, load_radios, run, unload_radios, wait_for,
+                      wait_until)
 
 SSIDS = ("guest", "office", "devices")
 GUEST = 0
@@ -59,19 +60,6 @@ class Watch:
         self.process.wait()
         ahead = time.time_ns() - time.monotonic_ns()
         return [(moment - ahead, frame) for moment, frame in timed_packets(self.path)]
-
-
-def timed_packets(path: str) -> list[tuple[int, bytes]]:
-    """The packets of a capture, each with its time in nanoseconds."""
-    with open(path, "rb") as file:
-        octets = file.read()
-    found, place = [], PCAP_HEADER
-    while place + PCAP_RECORD.size <= len(octets):
-        seconds, microseconds, length, _ = PCAP_RECORD.unpack_from(octets, place)
-        place += PCAP_RECORD.size
-        found.append((seconds * 10 ** 9 + microseconds * 1000, octets[place:place + length]))
-        place += length
-    return found
 
 
 def is_update(frame: bytes) -> bool:

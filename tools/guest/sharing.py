@@ -12,8 +12,8 @@ from airing import Air
 from frames import Frame, address_of
 from points import Point, Served
 from radiotap import captured
-from stage import PCAP_HEADER, PCAP_RECORD, Observer
-from stations import Failed, Host, Station, load_radios, run, unload_radios, wait_for
+from stage import PCAP_HEADER, Observer, timed_packets
+from stations import Failed, Host, Station, know_each_other, load_radios, run, unload_radios, wait_for
 
 HERE = os.path.dirname(os.path.realpath(__file__))
 FREQUENCY, PORT = 2437, 9000
@@ -120,17 +120,8 @@ class Heard:
         time.sleep(0.2)
         self.process.terminate()
         self.process.wait()
-        with open(self.path, "rb") as file:
-            octets = file.read()
-        found, place = [], PCAP_HEADER
-        while place + PCAP_RECORD.size <= len(octets):
-            seconds, microseconds, length, _ = PCAP_RECORD.unpack_from(octets, place)
-            place += PCAP_RECORD.size
-            packet = captured(octets[place:place + length])
-            place += length
-            if packet:
-                found.append((seconds + microseconds / 1e6, Frame(packet.frame)))
-        return found
+        heard = ((moment, captured(packet)) for moment, packet in timed_packets(self.path))
+        return [(moment / 1e9, Frame(packet.frame)) for moment, packet in heard if packet]
 
 
 class Beacons:
@@ -239,9 +230,3 @@ class Stage:
             party.host.end_all()
 
 
-def know_each_other(station: Station, host: Host) -> None:
-    """Each knows the other's address, as long as its interface is up: a request for one is a broadcast, which is sent
-    once and may be lost."""
-    for part, other in ((station, host), (host, station)):
-        part.run("ip", "neighbour", "replace", other.address, "lladdr", other.hardware_address(), "dev", part.interface,
-                 "nud", "permanent")

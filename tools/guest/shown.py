@@ -13,7 +13,7 @@ from operating import ask
 from parts import IN_REACH, OUT_OF_REACH, Part, join, set_reach
 from radiotap import captured
 from stage import Net
-from stations import Failed, Station, wait_for
+from stations import Failed, Station, read, wait_for, write
 
 HERE = os.path.dirname(os.path.realpath(__file__))
 STATUS_PROGRAM = os.path.join(os.path.dirname(HERE), "status")
@@ -122,8 +122,7 @@ class Page(Part):
         if [line[3] for line in lines] != [f"127.0.0.1:{PORT}"]:
             raise Failed(listening)
         pid = re.search(r"pid=(\d+)", lines[0][-1])
-        with open(f"/proc/{pid[1]}/status", encoding="ascii") as file:
-            users = re.search(r"^Uid:\s+(.*)$", file.read(), re.MULTILINE)[1].split()
+        users = re.search(r"^Uid:\s+(.*)$", read(f"/proc/{pid[1]}/status"), re.MULTILINE)[1].split()
         own, asked = pwd.getpwnam("waltigon-status"), os.stat(f"/run/waltigon/{self.cases.phy}.sock")
         if users != [str(own.pw_uid)] * 4 or (asked.st_gid, asked.st_mode & 0o777) != (own.pw_gid, 0o660):
             raise Failed(f"it runs as {users}, and the socket is {asked.st_gid}'s, {asked.st_mode:o}")
@@ -225,8 +224,7 @@ class Page(Part):
             if json.loads(fetch("/status.json", OWN_PORT).text)["networks"][0]["bssid"] != GUESTS:
                 raise Failed("the page by hand tells of another network")
             if os.path.isdir("/outcome"):
-                with open("/outcome/status.json", "w", encoding="utf-8") as file:
-                    json.dump(self.document(), file)
+                write("/outcome/status.json", json.dumps(self.document()))
             self.start.end()
             told = wait_for("it says so", 10, lambda: untold(OWN_PORT))
         finally:

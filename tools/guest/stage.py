@@ -16,7 +16,7 @@ from dataclasses import dataclass, field
 from frames import (BEACON, DATA, DEAUTHENTICATION, DISASSOCIATION, MANAGEMENT, NULL, PROBE_RESPONSE, Frame,
                     address_of, address_text, is_group, number)
 from radiotap import captured
-from stations import Failed, Radio, run, wait_for
+from stations import Failed, Program, Radio, read, run, wait_for, write
 
 PCAP_HEADER, PCAP_RECORD = 24, struct.Struct("<IIII")
 RADIO_TEXT = "version = {version}\nchannel = 6\ninterval = 100\nqueue = 64\n"
@@ -133,17 +133,23 @@ def read_report(text: str) -> dict[str, Section]:
     return sections
 
 
-def read_pcap(path: str) -> list[bytes]:
-    """The packets of a capture that tcpdump wrote on this machine."""
+def timed_packets(path: str) -> list[tuple[int, bytes]]:
+    """The packets of a capture that tcpdump wrote on this machine, each with its time in nanoseconds."""
     with open(path, "rb") as file:
         octets = file.read()
-    packets, place = [], PCAP_HEADER
+    found, place = [], PCAP_HEADER
     while place + PCAP_RECORD.size <= len(octets):
-        _, _, length, _ = PCAP_RECORD.unpack_from(octets, place)
+        seconds, microseconds, length, _ = PCAP_RECORD.unpack_from(octets, place)
         place += PCAP_RECORD.size
-        packets.append(octets[place:place + length])
+        found.append((seconds * 10 ** 9 + microseconds * 1000, octets[place:place + length]))
         place += length
-    return packets
+    return found
+
+
+def seconds_idle() -> float:
+    """How long the guest's processor has had nothing to do, as the kernel measures it."""
+    with open("/proc/stat", encoding="ascii") as file:
+        return sum(map(int, file.readline().split()[4:6])) / os.sysconf("SC_CLK_TCK")
 
 
 def stamped_by_radio(release: str) -> tuple[int, ...]:
@@ -255,16 +261,15 @@ class Tcpdump:
 
     def packets_so_far(self) -> list[bytes]:
         """What it captured so far."""
-        return read_pcap(self.path)
+        return [packet for _, packet in timed_packets(self.path)]
 
     def packets(self) -> list[bytes]:
         """Ends it, and gives what it captured."""
         self.end()
-        with open(self.path + ".log", encoding="utf-8") as file:
-            dropped = re.search(r"(\d+) packets? dropped by kernel", file.read())
+        dropped = re.search(r"(\d+) packets? dropped by kernel", read(self.path + ".log"))
         if dropped and dropped.group(1) != "0":
             raise NotSeen(f"{self.path}: {dropped.group(0)}")
-        return read_pcap(self.path)
+        return self.packets_so_far()
 
 
 class Observer:
@@ -277,7 +282,7 @@ class Observer:
         run("iw", "dev", "obs0", "set", "freq", str(frequency))
 
 
-class Start:
+class Start(Program):
     """One start of the bridge. At most one runs: another that begins takes down what a failed case has left running."""
 
     running: "Start | None" = None
@@ -296,21 +301,14 @@ class Start:
             os.path.join(self.folder, file) for file in ("config", "record", "answers", "log", "keeping"))
         self.version = version
         self.write_config()
-        with open(keeping, "w", encoding="utf-8") as file:
-            file.write(KEEPING.format(program=program, answers=self.answers))
-        os.chmod(keeping, 0o755)
+        write(keeping, KEEPING.format(program=program, answers=self.answers), 0o755)
         self.keeping = keeping
         self.observed: Tcpdump | None = None
-        self.process: subprocess.Popen | None = None
         self.was_killed = False
 
     def anew(self) -> "Start":
         """Another start as this one was made, with files of its own."""
         return Start(*self.words)
-
-    def is_running(self) -> bool:
-        """Whether it has begun and not ended."""
-        return self.process is not None and self.process.poll() is None
 
     def take_down(self) -> None:
         """Ends what runs of it, however."""
@@ -330,13 +328,12 @@ class Start:
 
     def write_config(self) -> None:
         """Writes the configuration of the networks."""
-        with open(self.config, "w", encoding="utf-8") as file:
-            file.write(RADIO_TEXT.format(version=self.version))
-            for net in self.networks:
-                text = NETWORK_TEXT.format(bssid=net.bssid, ssid=net.ssid, rates=net.rates, dtim=net.dtim,
-                                           more=net.more)
-                text = text.replace("quota = 200\n", f"quota = {net.quota}\n")
-                file.write(text.replace("max_known = 128\n", f"max_known = {net.max_known}\n"))
+        config = RADIO_TEXT.format(version=self.version)
+        for net in self.networks:
+            text = NETWORK_TEXT.format(bssid=net.bssid, ssid=net.ssid, rates=net.rates, dtim=net.dtim, more=net.more)
+            text = text.replace("quota = 200\n", f"quota = {net.quota}\n")
+            config += text.replace("max_known = 128\n", f"max_known = {net.max_known}\n")
+        write(self.config, config)
 
     def begin(self) -> None:
         """Starts the bridge, with the radio that hears beside it."""
@@ -349,22 +346,14 @@ class Start:
                  "--as-root", *BY, *self.more]
         for net in self.networks if "--wires" not in self.more else ():
             words += ["--wire", f"{net.bssid}={net.port}"]
-        with open(self.log, "wb") as log:
-            self.process = subprocess.Popen(words, stdin=subprocess.DEVNULL, stdout=log, stderr=log)
-        wait_for(f"the bridge of {self.name} begins", TIMEOUT, lambda: READY in self.told() or self.process.poll())
-        if self.process.poll() is not None:
-            raise Failed(f"the bridge of {self.name} didn't begin: {self.told()}")
+        self.start_process(words)
+        self.wait_until_begun(f"the bridge of {self.name}", READY, TIMEOUT)
 
     def reload(self, says: str) -> None:
         """Has the configuration read again, and waits until this is told."""
         before = len(self.told())
         self.process.send_signal(signal.SIGHUP)
         wait_for(f"'{says}' is told", TIMEOUT, lambda: says in self.told()[before:], 0.05)
-
-    def told(self) -> str:
-        """What the bridge has told so far."""
-        with open(self.log, encoding="utf-8") as file:
-            return file.read()
 
     def answered(self) -> str:
         """What the program has written so far."""
@@ -373,8 +362,7 @@ class Start:
 
     def recorded(self) -> list[str]:
         """The lines that the program was given so far, but for the last moments."""
-        with open(self.record, encoding="ascii") as file:
-            return file.read().splitlines()
+        return read(self.record).splitlines()
 
     def tables(self) -> dict[str, list[str]]:
         """The networks' tables of now, by their BSSIDs."""
@@ -424,8 +412,7 @@ class Start:
     def rerun(self, lines: list[str]) -> dict[str, Section]:
         """What `run` reports of these lines."""
         trace = os.path.join(self.folder, "trace")
-        with open(trace, "w", encoding="ascii") as file:
-            file.writelines(f"{line}\n" for line in lines)
+        write(trace, "".join(f"{line}\n" for line in lines))
         return read_report(run(self.program, "run", self.config, trace))
 
     def change_to(self, networks: tuple[Net, ...]) -> "Start":

@@ -33,6 +33,25 @@ def run(*words: str) -> str:
     return done.stdout
 
 
+def read(path: str) -> str:
+    """The text of a file."""
+    with open(path, encoding="utf-8", errors="replace") as file:
+        return file.read()
+
+
+def write(path: str, text: str, mode: int | None = None) -> None:
+    """Writes a file."""
+    with open(path, "w", encoding="utf-8") as file:
+        file.write(text)
+    if mode is not None:
+        os.chmod(path, mode)
+
+
+def wait_until(moment: float) -> None:
+    """Waits until this moment of the monotonic clock, or not at all where it has been."""
+    time.sleep(max(0.0, moment - time.monotonic()))
+
+
 def wait_for(what: str, seconds: float, asked, every: float = 0.3):
     """Asks until the answer is true, and gives it; Failed after so many seconds."""
     until = time.monotonic() + seconds
@@ -43,6 +62,33 @@ def wait_for(what: str, seconds: float, asked, every: float = 0.3):
         if time.monotonic() > until:
             raise Failed(f"{what}: not within {seconds:.0f} seconds")
         time.sleep(every)
+
+
+class Program:
+    """A program that runs beside, and writes into a log."""
+
+    log = ""
+    process: subprocess.Popen | None = None
+
+    def start_process(self, words: list[str]) -> None:
+        """Starts it, with a log that is empty."""
+        with open(self.log, "ab") as log:
+            log.truncate(0)
+            self.process = subprocess.Popen(words, stdin=subprocess.DEVNULL, stdout=log, stderr=log)
+
+    def wait_until_begun(self, what: str, says: str, seconds: float = 30, every: float = 0.3) -> None:
+        """Waits until it says that it has begun; Failed where it ends before."""
+        wait_for(f"{what} begins", seconds, lambda: says in self.told() or not self.is_running(), every)
+        if not self.is_running():
+            raise Failed(f"{what} didn't begin: {self.told()}")
+
+    def is_running(self) -> bool:
+        """Whether it has begun and not ended."""
+        return self.process is not None and self.process.poll() is None
+
+    def told(self) -> str:
+        """What it has told since it began."""
+        return read(self.log)
 
 
 @dataclass(frozen=True)
@@ -130,6 +176,10 @@ class Namespace:
             return match and match.group(1)
         return wait_for(f"{self.name}: IPv6 address", 30, found)
 
+    def know(self, address: str, hardware: str) -> None:
+        """It knows the address of 48 bits of another, as long as its interface is up, and doesn't ask for it."""
+        self.run("ip", "neighbour", "replace", address, "lladdr", hardware, "dev", self.interface, "nud", "permanent")
+
     def forget_neighbours(self) -> None:
         """Forgets the others' addresses, so that they are asked for."""
         run("ip", "-n", self.name, "neighbour", "flush", "dev", self.interface)
@@ -215,9 +265,8 @@ class Station(Namespace):
         """Begins to look for a network, of any or of this BSSID; what it did before has ended."""
         self.stop()
         path = os.path.join(self.folder, "config")
-        with open(path, "w", encoding="utf-8") as file:
-            file.write(STATION_CONFIG.format(folder=os.path.join(self.folder, "control"), ssid=ssid,
-                                             frequency=self.frequency, more=f"    bssid={bssid}\n" if bssid else ""))
+        write(path, STATION_CONFIG.format(folder=os.path.join(self.folder, "control"), ssid=ssid,
+                                          frequency=self.frequency, more=f"    bssid={bssid}\n" if bssid else ""))
         self.give_address()
         self.supplicant = self.start("wpa_supplicant", "-D", "nl80211", "-i", self.interface, "-c", path, "-f",
                                      os.path.join(self.folder, "log"))
@@ -256,3 +305,11 @@ class Station(Namespace):
             network = self.network()
             return network if bssid is None or network == bssid else None
         return wait_for(f"{self.name} joins {bssid or 'a network'}", seconds, found)
+
+
+def know_each_other(*parts: Namespace) -> None:
+    """Each knows the others' addresses: a request for one is a broadcast, which is sent once and may be lost."""
+    for part in parts:
+        for other in parts:
+            if other is not part:
+                part.know(other.address, other.hardware_address())

@@ -12,7 +12,7 @@ from dataclasses import replace
 from airing import Hostapd
 from parts import Part, join
 from stage import RESTORED_FROM, RESTORED_TO, COMPILED, Net, Start, process_of, processes_of, read_answers
-from stations import Failed, Station, run, wait_for
+from stations import Failed, Station, read, run, wait_for, write
 
 HERE = os.path.dirname(os.path.realpath(__file__))
 
@@ -26,7 +26,7 @@ MOST_MISSING_OF_BRIDGE = 100  # two seconds, for a killed bridge
 KILLS, SEED = 10, 89
 AGE_SECONDS = 60
 SUM_OF_NOTHING, SUM_FACTOR, SUM_MASK = 0xcbf29ce484222325, 0x100000001b3, (1 << 64) - 1
-SEQUENCE = re.compile(rb"icmp_seq=(\d+) ttl")
+SEQUENCE = re.compile(r"icmp_seq=(\d+) ttl")
 
 
 class Flow:
@@ -39,8 +39,7 @@ class Flow:
 
     def answered(self) -> list[int]:
         """The numbers of the pings that came back so far."""
-        with open(self.log, "rb") as file:
-            return [int(number) for number in SEQUENCE.findall(file.read())]
+        return [int(number) for number in SEQUENCE.findall(read(self.log))]
 
     def goes_on(self, after: int) -> bool:
         """Whether pings came back that are later than this one."""
@@ -318,10 +317,7 @@ class Stays(Part):
     def set_most(self, stations: int) -> None:
         """The first network has so many stations at most."""
         self.start.write_config()
-        with open(self.start.config, encoding="utf-8") as file:
-            text = file.read().replace("max_stations = 64", f"max_stations = {stations}", 1)
-        with open(self.start.config, "w", encoding="utf-8") as file:
-            file.write(text)
+        write(self.start.config, read(self.start.config).replace("max_stations = 64", f"max_stations = {stations}", 1))
 
     def records(self) -> str:
         """What was swallowed is in it too, between its marks. Of a program that was killed the last answers may lack."""
@@ -428,11 +424,7 @@ class Stays(Part):
 
     def connected(self) -> int:
         """How often the stations' own programs told so far that they joined."""
-        found = 0
-        for station in self.stations:
-            with open(os.path.join(station.folder, "log"), encoding="utf-8", errors="replace") as file:
-                found += file.read().count("CTRL-EVENT-CONNECTED")
-        return found
+        return sum(read(os.path.join(station.folder, "log")).count("CTRL-EVENT-CONNECTED") for station in self.stations)
 
 
 def only_process_of(executable: str) -> int:

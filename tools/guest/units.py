@@ -5,8 +5,8 @@ import json
 import os
 
 from runner import Runner
-from stage import BY, processes_of
-from stations import Failed, Host, Station, load_radios, run, unload_radios
+from stage import BY
+from stations import Host, Station, load_radios, run, unload_radios, write
 
 FREQUENCY = 2437
 SETTINGS = "/etc/waltigon"
@@ -26,11 +26,6 @@ class ServiceCases(Runner):
         for part in (self.host, self.station):
             part.create()
         return radios[0].phy
-
-    def write(self, path: str, text: str) -> None:
-        """Writes a file."""
-        with open(path, "w", encoding="utf-8") as file:
-            file.write(text)
 
     def take_down(self) -> None:
         """Takes station, host and radios away."""
@@ -65,14 +60,6 @@ def words_of(*words: str) -> str:
     return f"WORDS={' '.join((*BY, *words))}\n"
 
 
-def the_one(executable: str) -> int:
-    """The process that runs this file."""
-    found = processes_of(executable)
-    if len(found) != 1:
-        raise Failed(f"{executable} runs {len(found)} times")
-    return found[0]
-
-
 def main_of(kind, description: str) -> int:
     """Runs the cases that the words choose, and answers 1 where one failed."""
     parser = argparse.ArgumentParser(description=description, formatter_class=argparse.RawDescriptionHelpFormatter)
@@ -83,6 +70,6 @@ def main_of(kind, description: str) -> int:
     cases = kind(asked.words)
     cases.set_up()
     cases.run()
-    cases.write("/outcome/journal", run("journalctl", "-u", cases.unit, "--no-pager", "-o", "short-monotonic"))
+    write("/outcome/journal", run("journalctl", "-u", cases.unit, "--no-pager", "-o", "short-monotonic"))
     cases.take_down()
     return cases.end()
