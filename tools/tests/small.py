@@ -132,6 +132,12 @@ class SmallRepository(ToolTest):
         status, said = self.run_there(".ci/build")
         self.assertEqual(status, 0, said)
 
+    def fails_to_build(self):
+        """Builds it, which has to fail: what is said."""
+        status, said = self.run_there(".ci/build")
+        self.assertEqual(status, 1)
+        return said
+
     def install(self):
         """Installs below a prefix of its own: what is said."""
         status, said = self.run_there("share/install", self.path("usr"))

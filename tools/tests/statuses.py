@@ -1,8 +1,12 @@
-"""Status documents for tests, and a bridge that only has its socket."""
+"""Status documents for tests, a bridge that only has its socket, and requests to a page's server."""
+import contextlib
+import http.client
 import json
 import os
 import socket
 import threading
+
+from common import wait_until
 
 
 def station(number, **other):
@@ -37,6 +41,13 @@ def document(*networks, **other):
             "beacons": {"sent": 1234, "late_ms_mean": 0.412, "late_ms_worst": 7.9, "missed": 0, "late_seconds": 0.508,
                         "late_up_to_ms": [[1, 1200], [10, 1234], [200, 1234]]},
             "drops": {}, "left_out": {}, "networks": list(networks), **other}
+
+
+def whole_document():
+    """A status document in which all is known that may be."""
+    return document(network(1, b"guests", [station(1)], refusals={"1": 1}, quota=256,
+                            air={**network(1, b"")["air"], "unsent": {"late": 1}}),
+                    drops={"x": 1}, left_out={"x": 1}, record={"octets": 1, "fault": None})
 
 
 def busy(networks, seconds):
@@ -81,6 +92,30 @@ class FakeBridge:
         os.unlink(self.path)
         self.listener.shutdown(socket.SHUT_RDWR)
         self.listener.close()
+
+
+def free_port(address="127.0.0.1"):
+    """A port that is free."""
+    with socket.create_server((address, 0)) as free:
+        return free.getsockname()[1]
+
+
+def answer_of(port, path="/metrics", address="127.0.0.1", method="GET", host=None):
+    """What a server answers to a request, which names this host: the status, the headers, and the text."""
+    connection = http.client.HTTPConnection(address, port, timeout=20)
+    with contextlib.closing(connection):
+        connection.request(method, path, headers={"Host": host} if host else {})
+        answer = connection.getresponse()
+        return answer.status, answer.headers, answer.read().decode()
+
+
+def answer_once_it_listens(port, **words):
+    """The same, once the server listens."""
+    def answer():
+        with contextlib.suppress(ConnectionRefusedError):
+            return answer_of(port, **words)
+        return None
+    return wait_until(answer, 30)
 
 
 def line_of(told):

@@ -8,7 +8,7 @@ from status.demo import demo_of
 from status.document import complete
 from status.history import NETWORK_SERIES, STATION_SERIES
 from status.metrics import metrics_of
-from statuses import document, network, station
+from statuses import document, network, station, whole_document
 
 
 def members(value):
@@ -55,8 +55,5 @@ class JsonPage(unittest.TestCase):
         self.named(kinds | own | written - {"began", "next", "dropped", "events"})  # of the bridge's answer alone
 
     def test_metrics(self):
-        made = document(network(1, b"guests", [station(1)], refusals={"1": 1}, quota=256,
-                                air={**network(1, b"")["air"], "unsent": {"late": 1}}),
-                        drops={"x": 1}, left_out={"x": 1}, record={"octets": 1, "fault": None})
-        told = set(re.findall(r"^# TYPE (\w+)", metrics_of(complete(made, 0), of_each_station=True), re.M))
+        told = set(re.findall(r"^# TYPE (\w+)", metrics_of(complete(whole_document(), 0), of_each_station=True), re.M))
         self.assertEqual(told, set(re.findall(r"`(waltigon_\w+)`", self.page)))

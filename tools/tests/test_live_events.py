@@ -49,6 +49,12 @@ class Following(ToolTest):
                            "next": found[self.most]["number"] if len(found) > self.most else max(numbers, default=0) + 1,
                            "dropped": max(dropped, default=None), "events": found[:self.most]}).encode() + b"\n"
 
+    def followed(self):
+        """One that follows the bridge from now on."""
+        follower = Follower("phy0", None)
+        list(follower.begin())
+        return follower
+
     def names(self, told):
         """The numbers of the bridge's events, and the names of the others."""
         return [one.get("number", one["event"]) for one in told]
@@ -85,22 +91,19 @@ class Following(ToolTest):
             told = list(Follower("phy0", moment).begin())
             self.assertEqual(self.names(told), ["following", *wanted], since)
         self.assertEqual(told[1]["until"], event(3, 30)["time"])
-        follower = Follower("phy0", None)
-        list(follower.begin())
+        follower = self.followed()
         self.dropped.append(event(5, 50))
         self.events.append(event(6, 60))
         self.assertEqual(self.names(follower.look()), ["missing", 6])
 
     def test_another_bridge_is_followed_from_its_first_event(self):
-        follower = Follower("phy0", None)
-        list(follower.begin())
+        follower = self.followed()
         self.began, self.events = BEGAN + 100, [event(1, 101)]
         self.assertEqual(self.names(follower.look()), ["restarted", 1])
         self.assertEqual(self.names(follower.look()), [])
 
     def test_that_none_answers_is_told_once_until_one_does(self):
-        follower = Follower("phy0", None)
-        list(follower.begin())
+        follower = self.followed()
         self.bridge.close()
         self.assertEqual(self.names(follower.look()), ["unreachable"])
         self.assertEqual(self.names(follower.look()), [])

@@ -68,34 +68,32 @@ class Origin(SmallRepository):
 class ProvedAnew(SmallRepository):
     """What .ci/build proves of what was proved before."""
 
+    def builds(self, *proved, by=None):
+        """Builds it, for which these crates alone are proved."""
+        self.build()
+        self.assertEqual(self.proved(), list(proved), by)
+
     def test_what_has_not_changed_is_not_proved_again(self):
         """A crate is proved where its files have changed, or those of one that it stands on, and else not."""
-        self.build()
-        self.assertEqual(self.proved(), ["low", "apctl"])
-        self.build()
-        self.assertEqual(self.proved(), [])
+        self.builds("low", "apctl")
+        self.builds()
         self.write("crates/other/src/lib.rt", "two\n")
-        self.build()
-        self.assertEqual(self.proved(), [])
+        self.builds()
         self.write("crates/apctl/src/main.rt", "#!/bin/bash\necho second\n")
-        self.build()
-        self.assertEqual(self.proved(), ["apctl"])
+        self.builds("apctl")
         self.assertEqual(self.built(), "second")
         self.write("crates/low/proofs/new.antt", "two\n")
-        self.build()
-        self.assertEqual(self.proved(), ["low", "apctl"])
+        self.builds("low", "apctl")
 
     def test_what_was_broken_off_is_proved_again(self):
         """What a failed run left is not taken for proved, nor what another toolchain proved."""
         self.state("fails", True)
-        self.assertEqual(self.run_there(".ci/build")[0], 1)
+        self.fails_to_build()
         self.state("fails", False)
         self.proved()
-        self.build()
-        self.assertEqual(self.proved(), ["low", "apctl"])
+        self.builds("low", "apctl")
         self.write("KIT-ID", "another\n")
-        self.build()
-        self.assertEqual(self.proved(), ["low", "apctl"])
+        self.builds("low", "apctl")
 
     def test_wrong_body_below_a_newer_library(self):
         """A body that has turned wrong below is found, though its library is newer than the text: what is kept is told
@@ -106,8 +104,7 @@ class ProvedAnew(SmallRepository):
         self.write("crates/low/src/lib.rt", "wrong\n")
         os.utime(source, (0, 0))
         self.state("fails", True)
-        status, said = self.run_there(".ci/build")
-        self.assertEqual(status, 1)
+        said = self.fails_to_build()
         self.assertIn("low: not proved", said)
         self.assertEqual(self.proved(), ["low"])
         self.assertIn("is an earlier program", self.run_there(".ci/origin", "check")[1])
@@ -119,8 +116,7 @@ class ProvedAnew(SmallRepository):
             self.build()
             self.proved()
             self.write(f"crates/low/out/rlib/stated/low.rlib/{name}", "another\n")
-            self.build()
-            self.assertEqual(self.proved(), ["low"], name)
+            self.builds("low", by=name)
 
     def test_sum_of_the_logic_is_told(self):
         """One line says whether it is the one by which all was proved, whatever the toolchain is called."""
@@ -150,8 +146,7 @@ class ProvedAnew(SmallRepository):
     def test_without_a_verdict(self):
         """A prover that ends well and gives no verdict has proved nothing."""
         self.state("says_nothing", True)
-        status, said = self.run_there(".ci/build")
-        self.assertEqual(status, 1)
+        said = self.fails_to_build()
         self.assertIn("low: not proved", said)
         self.assertIsNone(self.built())
 
@@ -174,8 +169,7 @@ class EarlierProgram(SmallRepository):
         self.write("KIT-ID", "another\n")
         self.state("fails", True)
         earlier = f"build/apctl is an earlier program, of commit {commit}: the last build did not end well"
-        status, said = self.run_there(".ci/build")
-        self.assertEqual(status, 1)
+        said = self.fails_to_build()
         self.assertIn("low: not proved\nnot proved: a goal", said)
         self.assertIn(earlier, said)
         self.assertEqual(self.built(), "first")

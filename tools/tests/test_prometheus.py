@@ -9,7 +9,7 @@ from common import ROOT, run_to_end, text_of
 from status.demo import demo_of
 from status.document import complete
 from status.metrics import metrics_of
-from statuses import document, network, station
+from statuses import whole_document
 
 FOLDER = os.path.join(ROOT, "share", "prometheus")
 RULES, CASES = "waltigon.rules.yml", "waltigon.rules.test.yml"
@@ -20,10 +20,8 @@ WHERE = "promtool isn't there: Debian's package prometheus has it"
 
 def families():
     """The kind of each metric, by its name, where all of them are known."""
-    told = document(network(1, b"guests", [station(1)], refusals={"1": 1}, quota=256,
-                            air={**network(1, b"")["air"], "unsent": {"late": 1}}),
-                    drops={"x": 1}, left_out={"x": 1}, record={"octets": 1, "fault": None})
-    return dict(re.findall(r"^# TYPE (\w+) (\w+)", metrics_of(complete(told, 0), of_each_station=True), re.M))
+    told = metrics_of(complete(whole_document(), 0), of_each_station=True)
+    return dict(re.findall(r"^# TYPE (\w+) (\w+)", told, re.M))
 
 
 def rust(name, *path):

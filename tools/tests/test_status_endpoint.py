@@ -1,27 +1,16 @@
 """Tests of where the status page is served: the words that name an address and a port, the hosts that a request may name,
 and tools/status at an address of its own."""
-import contextlib
 import http.client
 import os
 import socket
 import subprocess
-import time
 import unittest
 from unittest import mock
 
-from common import TOOLS, ToolTest, run_to_end
+from common import TOOLS, ToolTest, tool
 from status.endpoint import Endpoint, endpoint_of, name_of, source_of
 from status.server import Server
-from statuses import FakeBridge, document, line_of, network, station
-
-
-def answer_of(address, port, host):
-    """The status and the text of the answer to a request that names this host."""
-    connection = http.client.HTTPConnection(address, port, timeout=20)
-    with contextlib.closing(connection):
-        connection.request("GET", "/metrics", headers={"Host": host})
-        answer = connection.getresponse()
-        return answer.status, answer.read().decode()
+from statuses import FakeBridge, answer_of, answer_once_it_listens, document, free_port, line_of, network, station
 
 
 class Words(unittest.TestCase):
@@ -86,9 +75,7 @@ class Words(unittest.TestCase):
         self.assertRegex(Endpoint(9617, "192.0.2.7").fault(), "there is no page until this machine has this address")
         with socket.create_server(("127.0.0.1", 0)) as taken:
             self.assertRegex(Endpoint(taken.getsockname()[1]).fault(), "there is no page until this port is free")
-        with socket.create_server(("127.0.0.1", 0)) as free:
-            port = free.getsockname()[1]
-        self.assertIsNone(Endpoint(port).fault())
+        self.assertIsNone(Endpoint(free_port()).fault())
 
 
 class Addresses(ToolTest):
@@ -107,48 +94,40 @@ class Addresses(ToolTest):
         port = server.server_address[1]
         self.assertEqual(server.url, f"http://127.0.0.2:{port}/")
         for host in (f"127.0.0.2:{port}", "ap1.example.net", "localhost"):
-            self.assertEqual(answer_of("127.0.0.2", port, host)[0], 200, host)
-        status, text = answer_of("127.0.0.2", port, "127.0.0.1")
+            self.assertEqual(answer_of(port, address="127.0.0.2", host=host)[0], 200, host)
+        status, _, text = answer_of(port, address="127.0.0.2", host="127.0.0.1")
         self.assertEqual((status, text), (421, "421 ask for 127.0.0.2 or localhost or ap1.example.net\n"))
         with self.assertRaises(ConnectionRefusedError):
-            answer_of("127.0.0.1", port, "127.0.0.2")
+            answer_of(port, host="127.0.0.2")
 
     def test_who_may_not_ask_is_told_nothing(self):
         """The connection is closed before a request is read."""
         server = self.serve("127.0.0.2", sources=("192.0.2.10/32",))
         port = server.server_address[1]
-        self.assertEqual(answer_of("127.0.0.2", port, "127.0.0.2")[0], 200, "this machine may")
+        self.assertEqual(answer_of(port, address="127.0.0.2", host="127.0.0.2")[0], 200, "this machine may")
         with mock.patch.object(Endpoint, "serves", lambda _, client: client != "127.0.0.1"):
             with self.assertRaises((ConnectionResetError, http.client.RemoteDisconnected)):
-                answer_of("127.0.0.2", port, "127.0.0.2")
+                answer_of(port, address="127.0.0.2", host="127.0.0.2")
 
     @unittest.skipUnless(os.path.exists("/proc/net/if_inet6"), "this machine has no IPv6")
     def test_an_address_of_ipv6(self):
         server = self.serve("::1")
         port = server.server_address[1]
         self.assertEqual(server.url, f"http://[::1]:{port}/")
-        self.assertEqual([answer_of("::1", port, host)[0] for host in (f"[::1]:{port}", "localhost", "127.0.0.1")],
-                         [200, 200, 421])
+        hosts = (f"[::1]:{port}", "localhost", "127.0.0.1")
+        self.assertEqual([answer_of(port, address="::1", host=host)[0] for host in hosts], [200, 200, 421])
 
     def test_the_command(self):
         """It takes an address, names and whether stations have metrics, and refuses what isn't one."""
         bridge = FakeBridge(self.path("x.sock"), lambda _: line_of(document(network(1, b"guests", [station(1)]))))
         self.addCleanup(bridge.close)
         os.chmod(self.folder, 0o755)
-        with socket.create_server(("127.0.0.2", 0)) as free:
-            port = free.getsockname()[1]
+        port = free_port("127.0.0.2")
         command = [os.path.join(TOOLS, "status"), f"127.0.0.2:{port}", self.path("x.sock")]
         started = subprocess.Popen([*command, "--host", "AP1.example", "--from", "192.0.2.0/24", "--station-metrics"])
         self.addCleanup(started.wait)
         self.addCleanup(started.kill)
-        until = time.monotonic() + 20
-        while True:
-            try:
-                status, text = answer_of("127.0.0.2", port, "ap1.example")
-                break
-            except ConnectionRefusedError:
-                self.assertLess(time.monotonic(), until)
-                time.sleep(0.05)
+        status, _, text = answer_once_it_listens(port, address="127.0.0.2", host="ap1.example")
         self.assertEqual(status, 200)
         self.assertIn('waltigon_station_bytes_total{bssid="02:00:00:00:01:01",station="02:aa:00:00:00:01"', text)
         self.refused("status", f"192.0.2.7:{port}", self.path("x.sock"),
@@ -156,6 +135,6 @@ class Addresses(ToolTest):
         for words, says in ((["0.0.0.0:80", "x"], "0.0.0.0 stands for all addresses"),
                             (["80", "x", "--host", "a b"], "a b is no name of a host"),
                             (["80", "x", "--from", "192.0.2.1/24"], "192.0.2.1/24 is neither an address nor a")):
-            done = run_to_end([command[0], *words])
-            self.assertEqual(done.returncode, 2)
-            self.assertIn(says, done.stderr)
+            status, _, told = tool("status", *words)
+            self.assertEqual(status, 2)
+            self.assertIn(says, told)

@@ -6,7 +6,7 @@ import unittest
 import urllib.error
 import urllib.request
 
-from common import ToolTest
+from common import ToolTest, wait_until
 from live.checks import check_station_names
 from live.faults import Fault
 from status.document import Untold, complete
@@ -126,10 +126,7 @@ class Served(unittest.TestCase):
 
     def wait(self, is_so):
         """Waits until what is served is so."""
-        until = time.monotonic() + 20
-        while not is_so(self.get()):
-            self.assertLess(time.monotonic(), until, self.get())
-            time.sleep(0.05)
+        self.assertTrue(wait_until(lambda: is_so(self.get())), self.get())
 
     def test_points_are_added_while_the_access_point_answers_and_while_it_does_not(self):
         self.wait(lambda told: len(told["seconds"]) > 3 and told["networks"][0]["stations"][-1] == 1)
@@ -149,14 +146,9 @@ class Served(unittest.TestCase):
 class NamesFile(ToolTest):
     """The file of names."""
 
-    def write(self, text):
-        """Writes the file."""
-        self.write("names", text)
-        return self.path("names")
-
     def test_what_is_read(self):
-        path = self.write("# stations\n\n02:AA:00:00:00:01\tprinter in the hall  # of the office\n"
-                          " 02:aa:00:00:00:02   Küche\n")
+        path = self.write("names", "# stations\n\n02:AA:00:00:00:01\tprinter in the hall  # of the office\n"
+                                   " 02:aa:00:00:00:02   Küche\n")
         names = Names(path).look()
         self.assertEqual(names, {"02:aa:00:00:00:01": "printer in the hall", "02:aa:00:00:00:02": "Küche"})
         made = complete(document(network(1, b"guests", [station(1), station(3)])), 0, names)
@@ -166,23 +158,23 @@ class NamesFile(ToolTest):
         for line in ("02:aa:00:00:00:01", "02:aa:00:00:00 x", "printer 02:aa:00:00:00:01", "02-aa-00-00-00-01 x",
                      f"02:aa:00:00:00:01 {'x' * 65}", "02:aa:00:00:00:01 a\x07b"):
             with self.subTest(line=line), self.assertRaisesRegex(ValueError, r"names: line 2: not an address and a name"):
-                Names(self.write(f"02:aa:00:00:00:09 x\n{line}\n"))
+                Names(self.write("names", f"02:aa:00:00:00:09 x\n{line}\n"))
         with self.assertRaises(FileNotFoundError):
             Names(self.path("none"))
 
     def test_an_access_point_tells_of_a_fault_before_it_sets_anything_up(self):
         check_station_names(None)
-        check_station_names(self.write("02:aa:00:00:00:01 one\n"))
+        check_station_names(self.write("names", "02:aa:00:00:00:01 one\n"))
         with self.assertRaisesRegex(Fault, "--names: .*names: line 1: not an address"):
-            check_station_names(self.write("one 02:aa:00:00:00:01\n"))
+            check_station_names(self.write("names", "one 02:aa:00:00:00:01\n"))
         with self.assertRaisesRegex(Fault, "--names: .*No such file"):
             check_station_names(self.path("none"))
 
     def test_a_changed_file_is_read_again_unless_it_has_a_fault(self):
-        names = Names(self.write("02:aa:00:00:00:01 one\n"))
-        self.write("02:aa:00:00:00:01 another\n")
+        names = Names(self.write("names", "02:aa:00:00:00:01 one\n"))
+        self.write("names", "02:aa:00:00:00:01 another\n")
         self.assertEqual(names.look(), {"02:aa:00:00:00:01": "another"})
-        self.write("x\n")
+        self.write("names", "x\n")
         self.assertEqual(names.look(), {"02:aa:00:00:00:01": "another"})
         os.remove(self.path("names"))
         self.assertEqual(names.look(), {"02:aa:00:00:00:01": "another"})

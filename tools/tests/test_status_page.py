@@ -1,11 +1,10 @@
 """Tests of the status page in a real browser, as a telephone and a desk show it. Where STATUS_PICTURES names a folder,
 its pictures are put there."""
 import os
-import tempfile
 import time
-import unittest
 
 from browser import Browser, needs_chromium
+from common import ToolTest
 from status.demo import demo_of
 from status.document import Untold, complete
 from status.names import Names
@@ -101,7 +100,7 @@ def year(networks, stations):
 
 
 @needs_chromium
-class Shown(unittest.TestCase):
+class Shown(ToolTest):
     """The page."""
 
     @classmethod
@@ -110,6 +109,7 @@ class Shown(unittest.TestCase):
         cls.addClassCleanup(cls.browser.close)
 
     def setUp(self):
+        super().setUp()
         self.told = twenty()
         self.server = self.serve(0)
         self.browser.size(*DESK)
@@ -127,10 +127,12 @@ class Shown(unittest.TestCase):
             raise self.told
         return self.told
 
-    def open(self):
-        """Opens the page, and waits until something is told."""
+    def open(self, told=None):
+        """Opens the page of what is told from now on, and answers its text once something is told."""
+        self.told = told or self.told
         self.browser.open(self.server.url)
         self.browser.wait("document.getElementById('touch')?.textContent.startsWith('in touch')")
+        return self.browser.value(TEXT)
 
     def look(self, name):
         """On a telephone and on a desk the page isn't wider than the window, in light and in dark."""
@@ -139,6 +141,16 @@ class Shown(unittest.TestCase):
                 self.browser.size(*size, is_dark)
                 self.assertFalse(self.browser.value(IS_WIDER), f"{name} is wider than a {kind}")
                 self.keep(f"{name}_{kind}{'_dark' * is_dark}")
+
+    def fit(self, widths, name=None):
+        """In windows of these widths, in light and in dark, no text leaves its box; the pictures are kept by a name."""
+        for width in widths:
+            for is_dark in (False, True):
+                self.browser.size(width, 900, is_dark)
+                self.assertEqual(self.browser.value(OVERFLOWS), [], f"{width} pixels")
+                self.assertFalse(self.browser.value(IS_WIDER), f"{width} pixels")
+                if name:
+                    self.keep(f"{name}_{width}{'_dark' * is_dark}")
 
     def keep(self, name):
         """Keeps a picture, where they are wanted."""
@@ -163,21 +175,15 @@ class Shown(unittest.TestCase):
 
     def test_no_text_leaves_its_box_after_a_year(self):
         """In windows of 360 to 2,560 pixels, in light and in dark, no text covers another or leaves its box."""
-        self.told = year(16, 9)
-        self.open()
+        self.open(year(16, 9))
         self.browser.value("document.querySelectorAll('details').forEach(node => { node.open = true })")
-        for width in WIDTHS:
-            for is_dark in (False, True):
-                self.browser.size(width, 900, is_dark)
-                self.assertEqual(self.browser.value(OVERFLOWS), [], f"{width} pixels")
-                self.assertFalse(self.browser.value(IS_WIDER), f"{width} pixels")
+        self.fit(WIDTHS)
         self.look("year")
 
     def test_many_stations_are_found_and_sorted(self):
         """Of 2,007 stations in each of 16 networks one is found by a part of its address, and the first ones come first
         in the order that is asked for."""
-        self.told = year(16, 2007)
-        self.open()
+        self.open(year(16, 2007))
         last = self.told["networks"][15]["stations"][2006]["address"]
         addresses = "[...document.querySelectorAll('#networks table:not(.only) td.address')].map(it => it.textContent)"
         self.assertEqual(len(self.browser.value(addresses)), 16 * 100)
@@ -208,8 +214,7 @@ class Shown(unittest.TestCase):
     def test_made_up_networks_move(self):
         """What `tools/status --demo` shows is a document as of an access point, and another one a moment later."""
         self.assertNotEqual(demo_of(0.0, 10.0), demo_of(0.0, 12.0))
-        self.told = demo_of(0.0, 10.0)
-        self.open()
+        self.open(demo_of(0.0, 10.0))
         for is_dark in (False, True):
             self.browser.size(*DESK, is_dark)
             self.assertEqual(self.browser.value(OVERFLOWS), [])
@@ -239,20 +244,14 @@ class Shown(unittest.TestCase):
         moments = [busy(16, 1000 + 5 * place) for place in range(121)]
         moments[60] = moments[61] = None
         self.remember(moments)
-        self.told = busy(16, 1600)
-        self.open()
+        self.open(busy(16, 1600))
         self.browser.wait("document.querySelectorAll('.graph .line')[79]?.getAttribute('d')")
         found = self.graphs("#networks section:nth-child(2)")
         self.assertEqual([text for text, _ in found],
                          ["share of the air|4.0 %|at most 4.0 %", "to stations|16.0 kb/s|at most 16.0 kb/s",
                           "from stations|3.2 kb/s|at most 3.2 kb/s", "stations|2|at most 2", "lost|0.4/s|at most 0.4/s"])
         self.assertEqual([count for _, count in found], [2] * 5)
-        for width in (390, 1280, 2560):
-            for is_dark in (False, True):
-                self.browser.size(width, 900, is_dark)
-                self.assertEqual(self.browser.value(OVERFLOWS), [], f"{width} pixels")
-                self.assertFalse(self.browser.value(IS_WIDER), f"{width} pixels")
-                self.keep(f"sixteen_{width}{'_dark' * is_dark}")
+        self.fit((390, 1280, 2560), "sixteen")
         self.browser.value("document.querySelector('td.address button').click()")
         self.browser.wait("document.querySelector('td.opened .line')?.getAttribute('d')")
         self.assertEqual([text for text, _ in self.graphs("td.opened")],
@@ -264,10 +263,9 @@ class Shown(unittest.TestCase):
 
     def test_rates_of_now_stand_beside_counts(self):
         """By two answers: how fast counts grow, and how much of the air is used. It is unused only where nobody sends."""
-        self.told = busy(2, 100)
-        self.open()
-        self.assertNotIn("air\nunused", self.browser.value(TEXT))
-        self.assertIn("share of the air not known yet", self.browser.value(TEXT))
+        text = self.open(busy(2, 100))
+        self.assertNotIn("air\nunused", text)
+        self.assertIn("share of the air not known yet", text)
         self.told = busy(2, 110)
         self.browser.wait(f"{TEXT}.includes('% used')")
         text = self.browser.value(TEXT)
@@ -283,17 +281,13 @@ class Shown(unittest.TestCase):
 
     def test_names_that_the_operator_gave(self):
         """They stand below the addresses, as text, and stations are found by them."""
-        path = os.path.join(self.enterContext(tempfile.TemporaryDirectory()), "names")
-        with open(path, "w", encoding="utf-8") as file:
-            file.write("02:aa:00:00:00:01 Küche <b>printer</b>\n")
-        self.server.status.names = Names(path)
+        self.server.status.names = Names(self.write("names", "02:aa:00:00:00:01 Küche <b>printer</b>\n"))
         self.open()
         cell = "document.querySelector('td.address').innerText"
         self.assertEqual(self.browser.value(cell), "02:aa:00:00:00:01\nKüche <b>printer</b>")
         self.choose("search", "küche")
         self.assertEqual(self.browser.value("document.querySelectorAll('td.address').length"), 1)
-        with open(path, "w", encoding="utf-8") as file:
-            file.write("02:aa:00:00:00:01 scanner\n")
+        self.write("names", "02:aa:00:00:00:01 scanner\n")
         self.browser.wait("document.querySelectorAll('td.address').length === 0")
         self.choose("search", "")
         self.browser.wait(f"{cell}.endsWith('scanner')")
@@ -388,26 +382,20 @@ class Shown(unittest.TestCase):
 
     def test_stations_that_are_not_listed_are_counted(self):
         crowded = network(1, b"guests", map(station, range(1, 1001)), known=3000, associated=2007, dozing=7)
-        self.told = document(crowded, network(2, b"office", [station(1, dozes=True)]))
-        self.open()
-        text = self.browser.value(TEXT)
+        text = self.open(document(crowded, network(2, b"office", [station(1, dozes=True)])))
         self.assertIn("2,008 (8 doze)", text)
         self.assertIn("993 stations that only authenticated", text)
         self.assertIn("and 2,500 stations more", text)
 
     def test_who_holds_most_of_a_quota(self):
         holder = {"address": "02:aa:00:00:00:01", "kept": 450, "listen": 65535}
-        self.told = document(network(1, b"guests", [station(1)], quota=500, holder=holder),
-                             network(2, b"office", [station(2)], quota=1000, holder=holder))
-        self.open()
-        text = self.browser.value(TEXT)
+        text = self.open(document(network(1, b"guests", [station(1)], quota=500, holder=holder),
+                                  network(2, b"office", [station(2)], quota=1000, holder=holder)))
         self.assertIn("1 unit kept, 450 of the quota of 500 for 02:aa:00:00:00:01", text)
         self.assertEqual(text.count("of the quota"), 1)
 
     def test_ten_thousand_strangers_are_counted(self):
-        self.told = document(network(1, b"guests", [station(1), *map(only_known, range(2, 1001))], known=10001))
-        self.open()
-        text = self.browser.value(TEXT)
+        text = self.open(document(network(1, b"guests", [station(1), *map(only_known, range(2, 1001))], known=10001)))
         self.assertIn("10,000 stations that only authenticated", text)
         self.assertIn("and 9,500 stations more", text)
         self.browser.wait("document.querySelectorAll('.only tbody tr').length === 500")

@@ -37,7 +37,6 @@ PLAIN, JSON, HTML = "text/plain; charset=utf-8", "application/json", "text/html;
 FIXED_HEADERS = {"Connection": "close", "Cache-Control": "no-store", "X-Content-Type-Options": "nosniff",
                  "Referrer-Policy": "no-referrer", "Cross-Origin-Resource-Policy": "same-origin"}
 
-
 Request = socket.socket | tuple[bytes, socket.socket]  # what `socketserver` calls a request: here a connection
 
 
