@@ -15,8 +15,7 @@ from parts import IN_REACH, OUT_OF_REACH, set_reach
 from points import Hostapd, Own, Point, Served
 from sharing import Flow
 from stage import PCAP_HEADER, timed_packets
-from stations import (Failed, Host, Station, know_each_other, load_radios, run, unload_radios, wait_for,
-                      wait_until)
+from stations import (Failed, Host, Station, know_each_other, load_radios, run, unload_radios, wait_for, wait_until)
 
 SSIDS = ("guest", "office", "devices")
 GUEST = 0

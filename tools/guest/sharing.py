@@ -174,8 +174,7 @@ class Stage:
     def set_up(self) -> None:
         """Loads the radios, lets the air carry, and makes stations and hosts."""
         radios = load_radios(RADIOS)
-        self.air = Air(self.air_program, RADIOS, self.seed, OBSERVER, os.path.join(self.folder, "air"),
-                       is_first=True)
+        self.air = Air(self.air_program, RADIOS, self.seed, OBSERVER, os.path.join(self.folder, "air"), is_first=True)
         self.phy = radios[AP_RADIO].phy
         run("iw", "dev", radios[AP_RADIO].interface, "del")
         Observer(radios[OBSERVER], FREQUENCY)
