@@ -13,7 +13,7 @@ import threading
 import time
 
 from frames import BROADCAST, DATA, DEAUTHENTICATION, DISASSOCIATION, NULL, Frame, address_of
-from parts import IN_REACH, OUT_OF_REACH, Part, join, set_reach
+from parts import IN_REACH, OUT_OF_REACH, Part, join_all, set_reach
 from radiotap import captured
 from stage import COMPILED, READY, Net, Start
 from stations import Failed, Station, load_radios, read, run, unload_radios, wait_for, write
@@ -79,10 +79,9 @@ class Silence(Part):
     def set_up(self) -> None:
         """One of them will doze."""
         self.start.begin()
-        for number, station in enumerate((self.gone, self.silent, self.dozing), FIRST_SILENT):
-            join(station, self.host, number, "guests", GUESTS)
-        for station in (self.gone, self.silent, self.dozing):
-            station.joined()
+        three = self.gone, self.silent, self.dozing
+        join_all(((station, self.host, "guests", GUESTS) for station in three), FIRST_SILENT)
+        for station in three:
             station.ping(self.host.address, 4).whole()
             self.start.has_told(f"{station.hardware_address()} joins {GUESTS}: association identifier ")
 
@@ -202,8 +201,7 @@ class Flood(Part):
     def set_up(self) -> None:
         """It stays through the flood."""
         self.start.begin()
-        join(self.joined, self.host, FIRST_FLOOD, "guests", GUESTS)
-        self.joined.joined(60, GUESTS)
+        join_all([(self.joined, self.host, "guests", GUESTS)], FIRST_FLOOD)
         self.joined.ping(self.host.address, 4).whole()
 
     def flood(self) -> str:
@@ -221,8 +219,7 @@ class Flood(Part):
         if not refused or seconds > ROOM_SECONDS:
             raise Failed(f"{refused} were refused by the end of the flood, and a newcomer for {seconds:.1f} seconds "
                          "after it")
-        join(self.newcomer, self.host, FIRST_FLOOD + 1, "guests", GUESTS)
-        self.newcomer.joined(60, GUESTS)
+        join_all([(self.newcomer, self.host, "guests", GUESTS)], FIRST_FLOOD + 1)
         for station in (self.joined, self.newcomer):
             station.ping(self.host.address, 4).whole()
         if self.start.told().count(f"{self.joined.hardware_address()} joins") != 1:
@@ -310,10 +307,9 @@ class Reload(Part):
         self.before = None
         self.write_wires(self.three)
         self.start.begin()
-        for number, (station, host, net) in enumerate(zip(self.stations, self.hosts, self.three), FIRST_RELOADED):
-            join(station, host, number, net.ssid, net.bssid)
-        for station, host, net in zip(self.stations, self.hosts, self.three):
-            station.joined(bssid=net.bssid)
+        members = list(zip(self.stations, self.hosts, self.three))
+        join_all(((station, host, net.ssid, net.bssid) for station, host, net in members), FIRST_RELOADED)
+        for station, host, _ in members:
             station.ping(host.address, 4).whole()
 
     def fault(self) -> str:
@@ -353,8 +349,7 @@ class Reload(Part):
         if self.stations[2].network() == DEVICES:
             raise Failed("a station still is in the network that isn't there any more")
         self.stations[2].stop()
-        join(self.stations[2], self.hosts[2], FIRST_RELOADED + 2, "lab", LAB)
-        self.stations[2].joined(bssid=LAB)
+        join_all([(self.stations[2], self.hosts[2], "lab", LAB)], FIRST_RELOADED + 2)
         self.stations[2].ping(self.hosts[2].address, 4).whole()
         address = run("cat", "/sys/class/net/mon0n3/address").strip()
         if address != LAB:

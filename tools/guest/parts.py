@@ -1,4 +1,6 @@
 """Parts of the test of real stations: cases over one start of the bridge. None depends on how another ended."""
+from collections.abc import Iterable
+
 from stage import Start
 from stations import Host, Station, write
 
@@ -9,6 +11,16 @@ def join(station: Station, host: Host, number: int, ssid: str, bssid: str | None
     """A station begins to look for a network, with an address beside that host's."""
     station.address = f"{host.address.rpartition('.')[0]}.{number}"
     station.begin(ssid, bssid)
+
+
+def join_all(members: Iterable[tuple[Station, Host, str, str]], first: int, seconds: float = 60) -> None:
+    """Stations join networks, each given with its host, and the network's name and BSSID; the addresses are from this
+    number on."""
+    joining = list(members)
+    for number, (station, host, ssid, bssid) in enumerate(joining, first):
+        join(station, host, number, ssid, bssid)
+    for station, _, _, bssid in joining:
+        station.joined(seconds, bssid)
 
 
 def set_reach(station: Station, group: str) -> None:

@@ -10,7 +10,7 @@ from dataclasses import dataclass
 
 from frames import DATA, NULL, Frame, address_of
 from operating import ask
-from parts import IN_REACH, OUT_OF_REACH, Part, join, set_reach
+from parts import IN_REACH, OUT_OF_REACH, Part, join_all, set_reach
 from radiotap import captured
 from stage import Net
 from stations import Failed, Station, read, wait_for, write
@@ -102,11 +102,10 @@ class Page(Part):
     def set_up(self) -> str:
         """They join, and ping their hosts, each another number of times."""
         self.start.begin()
-        for number, station in enumerate(self.stations):
-            net = self.nets[self.places[station.name]]
-            join(station, self.host_of(station), FIRST + number, net.ssid, net.bssid)
+        nets = [self.nets[self.places[station.name]] for station in self.stations]
+        join_all(((station, self.host_of(station), net.ssid, net.bssid)
+                  for station, net in zip(self.stations, nets)), FIRST)
         for number, station in enumerate(self.stations, 1):
-            station.joined(bssid=self.nets[self.places[station.name]].bssid)
             station.ping(self.host_of(station).address, 5 * number, 0.1, 100 * number).whole()
         return "5, 10 and 15 pings came back"
 

@@ -10,7 +10,7 @@ from contextlib import suppress
 from dataclasses import replace
 
 from airing import Hostapd
-from parts import Part, join
+from parts import Part, join_all
 from stage import RESTORED_FROM, RESTORED_TO, COMPILED, Net, Start, process_of, processes_of, read_answers
 from stations import Failed, Station, read, run, wait_for, write
 
@@ -120,10 +120,8 @@ class Stays(Part):
         self.generations = 0
         self.start.begin()
         shutil.copy(self.start.config, f"{self.start.config}.0")
-        for number, (station, place) in enumerate(self.members(), FIRST_STAYING):
-            join(station, self.host_of(place), number, self.three[place].ssid, self.three[place].bssid)
-        for station, place in self.members():
-            station.joined(180, self.three[place].bssid)
+        join_all(((station, self.host_of(place), self.three[place].ssid, self.three[place].bssid)
+                  for station, place in self.members()), FIRST_STAYING, 180)
         before = None
         for station, place in self.members():
             every, before = OTHERS_EVERY if place == before else EVERY, place
@@ -398,10 +396,7 @@ class Stays(Part):
         point = Hostapd(self.start.folder, self.cases.phy, GUESTS, "guests", host)
         point.begin()
         try:
-            for number, station in enumerate(self.stations, FIRST_STAYING):
-                join(station, host, number, "guests", GUESTS)
-            for station in self.stations:
-                station.joined(180, GUESTS)
+            join_all(((station, host, "guests", GUESTS) for station in self.stations), FIRST_STAYING, 180)
             for number, station in enumerate(self.stations):
                 log = os.path.join(point.folder, f"ping-{station.name}")
                 self.flows.append(Flow(station, host.address, EVERY if number < len(OF_NETWORKS) else OTHERS_EVERY, log))

@@ -248,8 +248,7 @@ class Reading(ToolTest):
         self.assertEqual((done.returncode, done.stderr), (1, ""))
         self.assertIn(f"into {self.path('phy0.wires')}", done.stdout)
         self.write("phy0.wires", "02:00:00:00:00:01=nothing0\n02:00:00:00:00:02=nothing1\n")
-        self.assertIn("nothing0: there is no such interface",
-                      run_to_end(words).stdout)
+        self.assertIn("nothing0: there is no such interface", run_to_end(words).stdout)
         self.write("phy0.toml", "bad")
         done = run_to_end(words)
         self.assertEqual((done.returncode, done.stdout), (1, ""))
