@@ -14,7 +14,7 @@ import subprocess
 import sys
 import threading
 import time
-from contextlib import suppress
+from contextlib import ExitStack, suppress
 from unittest import mock
 
 TOOLS = os.path.dirname(os.path.dirname(os.path.realpath(__file__)))
@@ -27,7 +27,7 @@ from live.checks import Plan, Wanted  # noqa: E402
 from live.faults import Fault  # noqa: E402
 from live.setting_up import SettingUp, WirePart  # noqa: E402
 from live.settings import read_settings  # noqa: E402
-from stations import run, wait_for  # noqa: E402
+from stations import read, run, wait_for, write  # noqa: E402
 from status.endpoint import Endpoint  # noqa: E402
 
 OURS = address_of("02:00:00:00:01:01")
@@ -104,8 +104,8 @@ def have_call(process, number, *arguments, text=""):
 
 def status_of(process):
     """What the kernel says of a process."""
-    with open(f"/proc/{process}/status", encoding="ascii") as file:
-        return dict(line.rstrip("\n").split(":\t", 1) for line in file if ":\t" in line)
+    lines = read(f"/proc/{process}/status").splitlines()
+    return dict(line.split(":\t", 1) for line in lines if ":\t" in line)
 
 
 def process_of(executable):
@@ -148,15 +148,11 @@ def look(parts):
 def wire_goes(folder):
     """The wire is deleted and made again, and its host's frame comes by it."""
     run("ip", "link", "del", "wire1")
-    path = os.path.join(folder, "log")
-
-    def told(text):
-        with open(path, encoding="utf-8") as file:
-            return text in file.read()
-    wait_for("the end of the wire", SECONDS, lambda: told("has ended"))
+    log = os.path.join(folder, "log")
+    wait_for("the end of the wire", SECONDS, lambda: "has ended" in read(log))
     time.sleep(1.5)
     make_wire()
-    wait_for("the wire", SECONDS, lambda: told("wire1: there, the wire of"))
+    wait_for("the wire", SECONDS, lambda: "wire1: there, the wire of" in read(log))
     return "there again"
 
 
@@ -189,12 +185,9 @@ CASES = {
 def set_up(folder):
     """The users, the radio and the wire."""
     for path, more in (("/etc/passwd", USERS), ("/etc/group", GROUPS)):
-        with open(path, encoding="utf-8") as file:
-            lines = [line for line in file if not line.startswith("waltigon")]
+        lines = [line for line in read(path).splitlines(True) if not line.startswith("waltigon")]
         own = os.path.join(folder, os.path.basename(path))
-        with open(own, "w", encoding="utf-8") as file:
-            file.write("".join(lines) + more)
-        os.chmod(own, 0o644)
+        write(own, "".join(lines) + more, 0o644)
         run("mount", "--bind", own, path)
     run("mount", "-t", "sysfs", "sysfs", "/sys")
     run("ip", "link", "set", "lo", "up")
@@ -205,9 +198,7 @@ def set_up(folder):
     reflect("air0")
     make_wire()
     run("ip", "link", "set", "wire1", "up")
-    with open(os.path.join(folder, "radio.toml"), "w", encoding="utf-8") as file:
-        file.write(ONE_NETWORK)
-    os.chmod(os.path.join(folder, "radio.toml"), 0o644)
+    write(os.path.join(folder, "radio.toml"), ONE_NETWORK, 0o644)
 
 
 class NoRadio(SettingUp):
@@ -219,8 +210,9 @@ class NoRadio(SettingUp):
 
 def attack(bridge, program, folder, case, found, ended):
     """Waits until frames go, does what the case says, and ends all where nothing has ended it."""
+    log = os.path.join(folder, "log")
     try:
-        wait_for("the bridge", SECONDS, lambda: ended.is_set() or "networks are on channel" in read(folder, "log"))
+        wait_for("the bridge", SECONDS, lambda: ended.is_set() or "networks are on channel" in read(log))
         if ended.is_set():
             return
         parts = {"bridge": process_of(bridge), "program": process_of(program)}
@@ -232,10 +224,23 @@ def attack(bridge, program, folder, case, found, ended):
         os.kill(os.getpid(), signal.SIGINT)
 
 
-def read(folder, name):
-    """A file's text."""
-    with open(os.path.join(folder, name), encoding="utf-8") as file:
-        return file.read()
+def serve(bridge, program, folder, thread, status=None, patches=()):
+    """Serves by the configuration of a folder, with a log there, while a thread does what a case says: the fault that
+    ended it, or None. Signals are handled by this thread, as ever."""
+    config, wires = os.path.join(folder, "radio.toml"), ((OURS, "wire1"),)
+    record, plan = os.path.join(folder, "record"), Plan(read_settings(config), wires)
+    wanted = Wanted(config, program, bridge, "phy0", "mon0", wires, record, None, status=status)
+    os.dup2(os.open(os.path.join(folder, "log"), os.O_WRONLY | os.O_CREAT | os.O_APPEND, 0o644), 2)
+    thread.start()
+    with ExitStack() as stack:
+        for where, name, value in ((changes, "RUN", os.path.join(folder, "run")), (serving, "SettingUp", NoRadio),
+                                   (serving, "check", lambda *_: plan), (serving, "MOST_MEMORY", MEMORY), *patches):
+            stack.enter_context(mock.patch.object(where, name, value))
+        try:
+            serving.serve(wanted)
+        except Fault as fault:
+            return str(fault)
+    return None
 
 
 def main():
@@ -246,27 +251,13 @@ def main():
         return
     bridge, program, folder, case = sys.argv[1:]
     set_up(folder)
-    config, found = os.path.join(folder, "radio.toml"), {}
-    wires = ((OURS, "wire1"),)
-    wanted = Wanted(config, program, bridge, "phy0", "mon0", wires, os.path.join(folder, "record"), None, status=Endpoint(9617))
-    plan = Plan(read_settings(config), wires)
-    log = os.open(os.path.join(folder, "log"), os.O_WRONLY | os.O_CREAT | os.O_APPEND, 0o644)
-    os.dup2(log, 2)
-    # The attacker is another thread: signals are handled by this one, as ever.
-    ended = threading.Event()
+    found, ended = {}, threading.Event()
     attacker = threading.Thread(target=attack, args=(bridge, program, folder, case, found, ended))
-    attacker.start()
-    with (mock.patch.object(changes, "RUN", os.path.join(folder, "run")), mock.patch.object(serving, "SettingUp", NoRadio),
-          mock.patch.object(serving, "check", lambda *_: plan), mock.patch.object(serving, "MOST_MEMORY", MEMORY)):
-        try:
-            serving.serve(wanted)
-            found["fault"] = None
-        except Fault as fault:
-            found["fault"] = str(fault)
-        ended.set()
+    found["fault"] = serve(bridge, program, folder, attacker, Endpoint(9617))
+    ended.set()
     attacker.join()
     found |= {"left": [name for name, path in (("bridge", bridge), ("program", program)) if process_of(path)],
-              "log": read(folder, "log"), "made": os.listdir(os.path.join(folder, "run")),
+              "log": read(os.path.join(folder, "log")), "made": os.listdir(os.path.join(folder, "run")),
               "record": oct(os.stat(os.path.join(folder, "record")).st_mode & 0o777)}
     print(json.dumps(found))
 

@@ -7,6 +7,7 @@ import shutil
 import subprocess
 import sys
 import time
+from pathlib import Path
 
 TOP = os.path.dirname(os.path.dirname(os.path.dirname(os.path.realpath(__file__))))
 ROLE = os.path.join(TOP, "share", "ansible")
@@ -99,8 +100,7 @@ def read(path):
     """What a file has, or nothing."""
     if not os.path.exists(path):
         return ""
-    with open(path, encoding="utf-8") as file:
-        return file.read()
+    return Path(path).read_text(encoding="utf-8")
 
 
 def play(changes=(), more=()):

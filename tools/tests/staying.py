@@ -12,7 +12,6 @@ import socket
 import sys
 import threading
 import time
-from unittest import mock
 
 HERE = os.path.dirname(os.path.realpath(__file__))
 TOOLS = os.path.dirname(HERE)
@@ -20,20 +19,19 @@ sys.path[:0] = [HERE, os.path.join(TOOLS, "lib"), os.path.join(TOOLS, "guest")]
 sys.dont_write_bytecode = True
 import confined  # noqa: E402
 from configurations import LAB, configuration, network  # noqa: E402
-from confined import OURS, SECONDS, NoRadio, process_of, read  # noqa: E402
+from confined import OURS, SECONDS, process_of, serve  # noqa: E402
 from frames import address_of, address_text  # noqa: E402
-from live import asking, changes, serving  # noqa: E402
-from live.checks import Plan, Wanted  # noqa: E402
-from live.faults import Fault  # noqa: E402
+from live import asking, serving  # noqa: E402
+from live.checks import Plan  # noqa: E402
 from live.settings import read_settings  # noqa: E402
-from stations import wait_for  # noqa: E402
+from stations import read, wait_for, write  # noqa: E402
 
 OTHER = address_of("02:00:00:00:01:02")
 TWO_NETWORKS = configuration(LAB, network("02:00:00:00:01:02", "other"))
 NO_FIELDS = bytes([0, 0, 8, 0, 0, 0, 0, 0])
 STATIONS = [address_of(f"02:aa:00:00:00:0{number}") for number in range(1, 6)]
 RATES = bytes.fromhex("010482840b16")
-DEAUTHENTICATION, DATA_TO_STATION = b"\xc0", b"\x08\x02"
+DEAUTHENTICATION = b"\xc0"
 
 
 class Air:
@@ -83,13 +81,13 @@ class Case:
 
     def __init__(self, bridge, program, folder):
         self.bridge, self.program, self.folder = bridge, program, folder
+        self.log = os.path.join(folder, "log")
         self.air = Air()
         self.outcome = {}
 
     def serves(self, times):
         """Waits until so many programs in all have served."""
-        wait_for(f"program {times}", SECONDS, lambda: read(self.folder, "log").count("networks are on channel") >= times,
-                 0.05)
+        wait_for(f"program {times}", SECONDS, lambda: read(self.log).count("networks are on channel") >= times, 0.05)
 
     def note(self, name):
         """Notes what is so now."""
@@ -99,8 +97,7 @@ class Case:
 
     def write_config(self, old="", new=""):
         """Writes the configuration with a change."""
-        with open(os.path.join(self.folder, "radio.toml"), "w", encoding="utf-8") as file:
-            file.write(TWO_NETWORKS.replace(old, new) if old else TWO_NETWORKS)
+        write(os.path.join(self.folder, "radio.toml"), TWO_NETWORKS.replace(old, new) if old else TWO_NETWORKS)
 
     def run(self):
         """All of it."""
@@ -145,22 +142,14 @@ def main():
     case = Case(bridge, program, folder)
     case.write_config()
     config = os.path.join(folder, "radio.toml")
-    wires = ((OURS, "wire1"),)
-    wanted = Wanted(config, program, bridge, "phy0", "mon0", wires, os.path.join(folder, "record"), None)
-    plan = Plan(read_settings(config), wires)
-    log = os.open(os.path.join(folder, "log"), os.O_WRONLY | os.O_CREAT | os.O_APPEND, 0o644)
-    os.dup2(log, 2)
     thread = threading.Thread(target=case.run, daemon=True)
-    thread.start()
-    with (mock.patch.object(changes, "RUN", os.path.join(folder, "run")), mock.patch.object(serving, "SettingUp", NoRadio),
-          mock.patch.object(serving, "check", lambda *_: plan), mock.patch.object(serving, "MOST_MEMORY", confined.MEMORY),
-          mock.patch.object(serving, "check_again", lambda *_: Plan(read_settings(config), wires))):
-        try:
-            serving.serve(wanted)
-            thread.join()
-        except Fault as fault:
-            case.outcome["fault"] = str(fault)
-    print(json.dumps(case.outcome | {"log": read(folder, "log"), "made": os.listdir(os.path.join(folder, "run"))}))
+    again = serving, "check_again", lambda *_: Plan(read_settings(config), ((OURS, "wire1"),))
+    fault = serve(bridge, program, folder, thread, patches=[again])
+    if fault is None:
+        thread.join()
+    else:
+        case.outcome["fault"] = fault
+    print(json.dumps(case.outcome | {"log": read(case.log), "made": os.listdir(os.path.join(folder, "run"))}))
 
 
 if __name__ == "__main__":
