@@ -10,10 +10,11 @@ from collections.abc import Callable
 from dataclasses import dataclass, field
 
 from frames import (ASSOCIATION_REQUEST, ASSOCIATION_RESPONSE, AUTHENTICATION, BEACON, BEACON_FIXED_LEN, DATA,
-                    DEAUTHENTICATION, DISASSOCIATION, EXTENDED_SUPPORTED_RATES, MANAGEMENT, SSID, SUPPORTED_RATES, TIM,
-                    Frame, address_of, elements, first_of, is_group, number, tim_bits)
+                    DEAUTHENTICATION, DISASSOCIATION, MANAGEMENT, TIM, Frame, address_of, elements, first_of, is_group,
+                    number, tim_bits)
 from radiotap import captured
 from stations import Failed, Radio, run
+from writing import elements_of
 
 EVERY_PROTOCOL = 3  # linux/if_ether.h: ETH_P_ALL
 # From Linux's asm-generic/socket.h; Python has no name for it.
@@ -38,11 +39,6 @@ IP = struct.Struct(">BBHHHBBH4s4s")
 UDP = struct.Struct(">HHHH")
 STAMP_LEN, VERSION_AND_LENGTH, DATAGRAM, HOPS = 8, 0x45, 17, 64
 NEVER = float("inf")
-
-
-def element(identifier: int, octets: bytes) -> bytes:
-    """An element of a management frame."""
-    return bytes([identifier, len(octets)]) + octets
 
 
 def check_sum(octets: bytes) -> int:
@@ -268,9 +264,7 @@ class MadeUp:
         self.rate = max(octet & 0x7F for octet in rates)
         authentication = struct.pack("<HHH", OPEN, FIRST_OF_OPEN, 0)
         self.ask(AUTHENTICATION, authentication, AUTHENTICATION)
-        named = element(SSID, ssid.encode()) + element(SUPPORTED_RATES, rates[:8])
-        named += element(EXTENDED_SUPPORTED_RATES, rates[8:]) if rates[8:] else b""
-        request = struct.pack("<HH", CAPABILITY, listen_interval) + named
+        request = struct.pack("<HH", CAPABILITY, listen_interval) + elements_of(ssid.encode(), rates)
         body = self.ask(ASSOCIATION_REQUEST, request, ASSOCIATION_RESPONSE).body
         status = number(body[2:4])
         if status:

@@ -10,11 +10,11 @@ from dataclasses import dataclass
 
 from airing import Air
 from frames import ASSOCIATION_REQUEST, ASSOCIATION_RESPONSE, AUTHENTICATION, Frame, address_of, number
-from made_up import (ALL_RATES, CAPABILITY, DATA_CONTROL, EVERY_PROTOCOL, EXTENDED_SUPPORTED_RATES, FASTEST,
-                     FIRST_OF_OPEN, HEADER, LLC, LONGEST_PACKET, OPEN, PRESENT, RETRIES, SLOWEST, SSID, SUPPORTED_RATES,
-                     TO_NETWORK, element, let_through)
+from made_up import (ALL_RATES, CAPABILITY, DATA_CONTROL, EVERY_PROTOCOL, FASTEST, FIRST_OF_OPEN, HEADER, LLC,
+                     LONGEST_PACKET, OPEN, PRESENT, RETRIES, SLOWEST, TO_NETWORK, let_through)
 from radiotap import captured
 from stations import Failed
+from writing import elements_of
 
 NEWCOMERS, ENOUGH = 20, 19
 TO_JOIN, TO_ASK_AGAIN, BEFORE_THE_FIRST, BETWEEN = 1.0, 0.2, 1.0, 0.1
@@ -80,8 +80,7 @@ class Newcomer:
         """Joins; after how many seconds it was in, or None where it wasn't in time."""
         begun = time.monotonic()
         until = begun + TO_JOIN
-        named = element(SSID, ssid.encode()) + element(SUPPORTED_RATES, ALL_RATES[:8])
-        request = struct.pack("<HH", CAPABILITY, 1) + named + element(EXTENDED_SUPPORTED_RATES, ALL_RATES[8:])
+        request = struct.pack("<HH", CAPABILITY, 1) + elements_of(ssid.encode(), ALL_RATES)
         try:
             is_in = self.is_accepted(AUTHENTICATION, ASKS_TO_AUTHENTICATE, AUTHENTICATION, 4, until) \
                 and self.is_accepted(ASSOCIATION_REQUEST, request, ASSOCIATION_RESPONSE, 2, until)

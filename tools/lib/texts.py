@@ -100,13 +100,16 @@ def read_text(path):
         return file.read()
 
 
-def read_trace(text):
-    """The lines of a trace, or of the trace of a text that has a configuration and a line `---` before it."""
+def trace_of(text):
+    """A text's lines, or those of the trace where it has a configuration and a line `---` before it."""
     lines = text.split("\n")
-    if SEPARATOR in lines:
-        lines = lines[lines.index(SEPARATOR) + 1:]
+    return lines[lines.index(SEPARATOR) + 1:] if SEPARATOR in lines else lines
+
+
+def read_trace(text):
+    """The lines of a trace, as `trace_of` finds them."""
     found = []
-    for number, line in enumerate(lines, 1):
+    for number, line in enumerate(trace_of(text), 1):
         line = line.removesuffix("\r").rstrip(" ")
         if line and not line.startswith("#"):
             found.append(trace_line(number, line))
@@ -115,9 +118,7 @@ def read_trace(text):
 
 def lines_in(text):
     """How many lines of a trace there are, without reading them."""
-    lines = text.split("\n")
-    first = lines.index(SEPARATOR) + 1 if SEPARATOR in lines else 0
-    return sum(line[:1] in ("A", "W", "T") for line in lines[first:])
+    return sum(line[:1] in ("A", "W", "T") for line in trace_of(text))
 
 
 def read_restored(text):
@@ -133,11 +134,8 @@ def read_handed_back(text):
 
 def lines_between(text, mark, end):
     """The numbers of the lines of a trace between a remark that begins so and one that ends it."""
-    lines = text.split("\n")
-    if SEPARATOR in lines:
-        lines = lines[lines.index(SEPARATOR) + 1:]
     found, is_between = set(), False
-    for number, line in enumerate(lines, 1):
+    for number, line in enumerate(trace_of(text), 1):
         if line.startswith(mark):
             is_between = not line.startswith(end)
         elif is_between:
@@ -147,11 +145,8 @@ def lines_between(text, mark, end):
 
 def read_origins(text):
     """Of the lines of a trace that tell it by a remark before them where they came from, by the line's number."""
-    lines = text.split("\n")
-    if SEPARATOR in lines:
-        lines = lines[lines.index(SEPARATOR) + 1:]
     found = {}
-    for number, line in enumerate(lines, 2):
+    for number, line in enumerate(trace_of(text), 2):
         match = ORIGIN.fullmatch(line)
         if match:
             found[number] = Origin(int(match["frame"]) if match["frame"] else None, float(match["seconds"]))

@@ -30,10 +30,11 @@ class Family:
     help: str
     samples: list[tuple[str, dict[str, str], float]] = field(default_factory=list)
 
-    def add(self, number: float | None, scale: float = 1, **labels: str) -> None:
+    def add(self, number: float | None, scale: float = 1, **labels: str) -> "Family":
         """Adds a sample, where its number is known."""
         if number is not None:
             self.samples.append(("", labels, number * scale))
+        return self
 
     def add_buckets(self, bounds: Iterable[tuple[float, int]], number: int, total: float) -> None:
         """Adds what a histogram has: how many were at most each bound, how many there were, and their sum."""
@@ -76,40 +77,39 @@ def gauge(name: str, text: str) -> Family:
 
 def of_all(document: dict) -> Iterator[Family]:
     """What is told of the access point as a whole."""
-    info = gauge("info", "1; the version that runs, the radio, its channel and how it is used are its labels.")
-    info.add(1, version=document["version"], phy=document["phy"], channel=str(document["channel"]),
-             by=document.get("by") or "")
-    since = gauge("uptime_seconds", "How long ago the program began, at the start or by a reload.")
-    since.add(document["since"])
-    yield from (info, since, *of_radio(document.get("radio")))
-    beacons = document["beacons"]
-    sent = counter("beacons_sent", "Beacons that were sent.")
-    sent.add(beacons["sent"])
-    missed = counter("beacon_intervals_missed", "Beacon intervals that never began, since the machine was busy.")
-    missed.add(beacons["missed"])
-    mean = gauge("beacon_lateness_mean_seconds", "How late beacon intervals began, on average.")
-    mean.add(beacons["late_ms_mean"], PER_MILLISECOND)
-    worst = gauge("beacon_lateness_worst_seconds", "How late the latest beacon interval began.")
-    worst.add(beacons["late_ms_worst"], PER_MILLISECOND)
-    yield from (sent, missed, mean, worst)
-    if "late_up_to_ms" in beacons:
-        late = Family("waltigon_beacon_lateness_seconds", Kind.HISTOGRAM, "How late beacons were given to the radio.")
-        bounds = [(milliseconds * PER_MILLISECOND, number) for milliseconds, number in beacons["late_up_to_ms"]]
-        late.add_buckets(bounds, beacons["sent"], beacons["late_seconds"])
-        yield late
+    yield gauge("info", "1; the version that runs, the radio, its channel and how it is used are its labels.").add(
+        1, version=document["version"], phy=document["phy"], channel=str(document["channel"]),
+        by=document.get("by") or "")
+    yield gauge("uptime_seconds", "How long ago the program began, at the start or by a reload.").add(document["since"])
+    yield from of_radio(document.get("radio"))
+    yield from of_beacons(document["beacons"])
     record = document.get("record")
     if record is not None:
-        octets = gauge("record_bytes", "Octets of the file that the lines are recorded in.")
-        octets.add(record["octets"])
-        records = gauge("recording", "1 while lines are recorded, 0 once the recording has stopped.")
-        records.add(int(record["fault"] is None))
-        yield from (octets, records)
+        yield gauge("record_bytes", "Octets of the file that the lines are recorded in.").add(record["octets"])
+        yield gauge("recording", "1 while lines are recorded, 0 once the recording has stopped.").add(
+            int(record["fault"] is None))
     for name, key, text in (("frames_dropped", "drops", "Frames that the bridge dropped, by the reason."),
                             ("frames_left_out", "left_out", "Frames that no network has to hear, by the reason.")):
         family = counter(name, text)
         for reason, number in document.get(key, {}).items():
             family.add(number, reason=reason)
         yield family
+
+
+def of_beacons(beacons: dict) -> Iterator[Family]:
+    """How many beacons there were, and how late."""
+    yield counter("beacons_sent", "Beacons that were sent.").add(beacons["sent"])
+    yield counter("beacon_intervals_missed", "Beacon intervals that never began, since the machine was busy.").add(
+        beacons["missed"])
+    yield gauge("beacon_lateness_mean_seconds", "How late beacon intervals began, on average.").add(
+        beacons["late_ms_mean"], PER_MILLISECOND)
+    yield gauge("beacon_lateness_worst_seconds", "How late the latest beacon interval began.").add(
+        beacons["late_ms_worst"], PER_MILLISECOND)
+    if "late_up_to_ms" in beacons:
+        late = Family("waltigon_beacon_lateness_seconds", Kind.HISTOGRAM, "How late beacons were given to the radio.")
+        bounds = [(milliseconds * PER_MILLISECOND, number) for milliseconds, number in beacons["late_up_to_ms"]]
+        late.add_buckets(bounds, beacons["sent"], beacons["late_seconds"])
+        yield late
 
 
 def of_radio(radio: dict | None) -> Iterator[Family]:
