@@ -5,6 +5,7 @@ import statistics
 import time
 from dataclasses import dataclass, field
 
+from paths import LIVE
 from airing import Air, Hostapd, Other, Own, PowerSave, live_with
 from made_up import ALL_RATES, Habit, MadeUp, play
 from sharing import Flow, start_stamped
@@ -12,8 +13,6 @@ from stage import HANDED_BACK_FROM, HANDED_BACK_TO, Observer
 from stations import (Failed, Host, Radio, Station, know_each_other, load_radios, run, unload_radios, wait_for,
                       wait_until)
 
-HERE = os.path.dirname(os.path.realpath(__file__))
-LIVE = os.path.join(os.path.dirname(HERE), "live")
 BSSID, SSID, FREQUENCY, PORT, UNCOUNTED = "02:00:00:00:01:01", "doze", 2437, 9000, 9001
 # Another network: hostapd wants each bit of the first address in that of the others.
 OTHER_BSSID, OTHER_SSID = "02:00:00:00:01:03", "beside"

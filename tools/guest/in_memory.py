@@ -5,7 +5,8 @@ import shutil
 import subprocess
 import sys
 
-from stage import COMPILED, TOP
+from paths import TOP
+from stage import COMPILED
 
 IN_MEMORY = "/tmp/in-memory"
 # What is run once before, so that it is read.

@@ -12,15 +12,13 @@ import subprocess
 import threading
 import time
 
+from paths import LIVE, TOP
 from frames import BROADCAST, DATA, DEAUTHENTICATION, DISASSOCIATION, NULL, Frame, address_of
 from parts import IN_REACH, OUT_OF_REACH, Part, join_all, set_reach
 from radiotap import captured
 from stage import COMPILED, READY, Net, Start
 from stations import Failed, Station, load_radios, read, run, unload_radios, wait_for, write
 
-HERE = os.path.dirname(os.path.realpath(__file__))
-TOP = os.path.dirname(os.path.dirname(HERE))
-LIVE = os.path.join(os.path.dirname(HERE), "live")
 GUESTS, OFFICE, DEVICES, LAB = (f"02:00:00:00:01:0{number}" for number in (1, 2, 3, 5))
 TEST_COMMAND = bytes([0, 0, 0xf3])  # IEEE Std 802.2, 5.4.1.2
 IDLE = 8  # seconds of silence after which stations are asked

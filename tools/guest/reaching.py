@@ -6,9 +6,10 @@ import re
 import subprocess
 from dataclasses import dataclass, field
 
+from paths import HERE
 from stations import Failed, Namespace, Station, run
 
-REACH = os.path.join(os.path.dirname(os.path.realpath(__file__)), "reach")
+REACH = os.path.join(HERE, "reach")
 GUESTS, OFFICE, DEVICES, SERVER, INTERNET, NEAR, MACHINE = (
     "guests", "office", "devices", "server", "Internet", "near", "machine")
 ALL = frozenset((GUESTS, OFFICE, DEVICES, SERVER, INTERNET, NEAR, MACHINE))

@@ -8,6 +8,7 @@ import subprocess
 import time
 from dataclasses import dataclass, field
 
+from paths import HERE
 from airing import Air
 from frames import Frame, address_of
 from points import Point, Served
@@ -15,7 +16,6 @@ from radiotap import captured
 from stage import PCAP_HEADER, Observer, timed_packets
 from stations import Failed, Host, Station, know_each_other, load_radios, run, unload_radios, wait_for
 
-HERE = os.path.dirname(os.path.realpath(__file__))
 FREQUENCY, PORT = 2437, 9000
 # The radios' numbers: the access point, one that hears all and sends as a stranger, then a station of each network.
 AP_RADIO, OBSERVER, FIRST = range(3)

@@ -8,6 +8,7 @@ import urllib.error
 import urllib.request
 from dataclasses import dataclass
 
+from paths import TOOLS
 from frames import DATA, NULL, Frame, address_of
 from operating import ask
 from parts import IN_REACH, OUT_OF_REACH, Part, join_all, set_reach
@@ -15,8 +16,7 @@ from radiotap import captured
 from stage import Net
 from stations import Failed, Station, read, wait_for, write
 
-HERE = os.path.dirname(os.path.realpath(__file__))
-STATUS_PROGRAM = os.path.join(os.path.dirname(HERE), "status")
+STATUS_PROGRAM = os.path.join(TOOLS, "status")
 GUESTS, OFFICE = (f"02:00:00:00:01:0{number}" for number in (1, 2))
 PORT, OWN_PORT = 9617, 9618
 FIRST = 101  # the last octet of the first station's address

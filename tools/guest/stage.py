@@ -13,6 +13,7 @@ from collections.abc import Callable
 from contextlib import suppress
 from dataclasses import dataclass, field
 
+from paths import TOP
 from frames import (BEACON, DATA, DEAUTHENTICATION, DISASSOCIATION, MANAGEMENT, NULL, PROBE_RESPONSE, Frame,
                     address_of, address_text, is_group, number)
 from radiotap import captured
@@ -48,7 +49,6 @@ READY, TIMEOUT = "networks are on channel", 30
 BY = ("--by", os.environ["BY"]) if "BY" in os.environ else ()
 LONGEST_PACKET = "4096"
 SECONDS_TO_END = 60
-TOP = os.path.dirname(os.path.dirname(os.path.dirname(os.path.realpath(__file__))))
 COMPILED = os.path.join(TOP, "build", "bridge", "release", "bridge")
 RECORD_HEADER = struct.Struct("<c6sH")  # of a record of octets: its kind, a BSSID, how many octets follow
 KINDS = {b"A": "air", b"W": "wire"}

@@ -9,12 +9,11 @@ import time
 from contextlib import suppress
 from dataclasses import replace
 
+from paths import HERE
 from airing import Hostapd
 from parts import Part, join_all
 from stage import RESTORED_FROM, RESTORED_TO, COMPILED, Net, Start, process_of, processes_of, read_answers
 from stations import Failed, Station, read, run, wait_for, write
-
-HERE = os.path.dirname(os.path.realpath(__file__))
 
 GUESTS, OFFICE, DEVICES = (f"02:00:00:00:01:0{number}" for number in (1, 2, 3))
 FIRST_STAYING = 121
