@@ -6,7 +6,7 @@ import subprocess
 from dataclasses import dataclass
 
 from stage import Net, Start, new_folder
-from stations import Failed, Host, Program, Station, run, write
+from stations import Failed, Host, Program, Station, join_bridge, run, write
 
 READY, DONE = "ready", "ok"
 BEFORE_ALL = ("chrt", "--fifo", "50")
@@ -207,10 +207,7 @@ class Hostapd(Program):
         run("iw", "phy", self.phy, "interface", "add", AP, "type", "managed", "addr", self.bssid)
         for bridge, port in self.wires():
             run("ip", "link", "add", bridge, "type", "bridge")
-            for name in (port, bridge):
-                run("ip", "link", "set", name, "addrgenmode", "none")
-            run("ip", "link", "set", port, "master", bridge, "up")
-            run("ip", "link", "set", bridge, "up")
+            join_bridge(bridge, port)
         self.begin_process()
 
     def wires(self) -> list[tuple[str, str]]:

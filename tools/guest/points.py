@@ -6,7 +6,7 @@ from dataclasses import dataclass
 
 from airing import HOSTAPD_TEXT, MORE_HOSTAPD_TEXT, RATES
 from stage import BY, NETWORK_TEXT, RADIO_TEXT, READY, TIMEOUT
-from stations import Program, run, write
+from stations import Program, join_bridge, run, write
 
 SECONDS_TO_END = 60
 CHANNEL = 6
@@ -95,21 +95,14 @@ class Hostapd(Point):
             text = MORE_HOSTAPD_TEXT if place else HOSTAPD_TEXT
             config += text.format(interface=self.interface_of(place), folder=self.folder, bridge=bridge, dtim=1,
                                   ssid=network.ssid, bssid=self.bssid(place), channel=self.channel)
-            self.join_wire(bridge, network.port)
+            run("ip", "link", "add", bridge, "type", "bridge")
+            join_bridge(bridge, network.port)
         write(self.config, config)
         self.start(["hostapd", self.config], "AP-ENABLED")
 
     def interface_of(self, place: int) -> str:
         """The interface of the network at this place."""
         return f"{self.interface}_{place}" if place else self.interface
-
-    def join_wire(self, bridge: str, port: str) -> None:
-        """Makes a bridge of the kernel, with a wire in it."""
-        run("ip", "link", "add", bridge, "type", "bridge")
-        for name in (port, bridge):
-            run("ip", "link", "set", name, "addrgenmode", "none")
-        run("ip", "link", "set", port, "master", bridge, "up")
-        run("ip", "link", "set", bridge, "up")
 
     def end(self) -> None:
         """Ends it, and takes down what it needed."""

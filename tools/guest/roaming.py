@@ -15,7 +15,8 @@ from parts import IN_REACH, OUT_OF_REACH, set_reach
 from points import Hostapd, Own, Point, Served
 from sharing import Flow
 from stage import PCAP_HEADER, timed_packets
-from stations import (Failed, Host, Station, know_each_other, load_radios, run, unload_radios, wait_for, wait_until)
+from stations import (Failed, Host, Station, join_bridge, know_each_other, load_radios, run, unload_radios, wait_for,
+                      wait_until)
 
 SSIDS = ("guest", "office", "devices")
 GUEST = 0
@@ -120,26 +121,17 @@ class Site:
             for number in (HERE, THERE):
                 run("ip", "link", "add", wire(number, net), "type", "veth", "peer", "name", port(number, net))
                 run("ip", "link", "set", wire(number, net), "addrgenmode", "none")
-            self.join_bridge(net, host.port, *(port(number, net) for number in (HERE, THERE)))
+            join_bridge(f"site{net}", host.port, *(port(number, net) for number in (HERE, THERE)))
         run("ip", "link", "add", STRANGER, "type", "veth", "peer", "name", "lan-stranger")
         run("ip", "link", "set", STRANGER, "addrgenmode", "none")
         run("ip", "link", "set", STRANGER, "up")
-        self.join_bridge(GUEST, "lan-stranger")
+        join_bridge(f"site{GUEST}", "lan-stranger")
         self.stations = [Station(f"sta{place}", radio.interface, f"10.0.{self.net_of(place)}.{10 + place}", radio.phy,
                                  FREQUENCIES) for place, radio in enumerate(radios[2:])]
         for station in self.stations:
             station.create()
             # It says nothing of its own: neither who has its address, nor which groups it hears.
             station.run("sh", "-c", "echo 1 >/proc/sys/net/ipv6/conf/all/disable_ipv6")
-
-    @staticmethod
-    def join_bridge(net: int, *ports: str) -> None:
-        """Puts ports into the bridge of a network."""
-        for name in (*ports, f"site{net}"):
-            run("ip", "link", "set", name, "addrgenmode", "none")
-        for name in ports:
-            run("ip", "link", "set", name, "master", f"site{net}", "up")
-        run("ip", "link", "set", f"site{net}", "up")
 
     def take_down(self) -> None:
         """Takes all of that away."""

@@ -307,6 +307,15 @@ class Station(Namespace):
         return wait_for(f"{self.name} joins {bssid or 'a network'}", seconds, found)
 
 
+def join_bridge(bridge: str, *ports: str) -> None:
+    """Puts ports into a bridge of the kernel. Neither it nor they say anything of their own."""
+    for name in (*ports, bridge):
+        run("ip", "link", "set", name, "addrgenmode", "none")
+    for name in ports:
+        run("ip", "link", "set", name, "master", bridge, "up")
+    run("ip", "link", "set", bridge, "up")
+
+
 def know_each_other(*parts: Namespace) -> None:
     """Each knows the others' addresses: a request for one is a broadcast, which is sent once and may be lost."""
     for part in parts:
