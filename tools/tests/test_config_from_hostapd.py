@@ -3,7 +3,7 @@ import os
 import subprocess
 import tomllib
 
-from common import PROGRAM, TOOLS, ToolTest, needs_program, tool
+from common import TOOLS, ToolTest, needs_program, run_program, tool
 from texts import read_text
 
 FILE = """# three networks
@@ -187,5 +187,4 @@ class FromHostapd(ToolTest):
         most = LEAST + "".join(f"bss=b{n}\nssid=n{n}\n" for n in range(15))
         for text, networks in ((FILE, 3), (LEAST, 1), (most, 16)):
             path = self.write("made.toml", converted(text)[1])
-            done = subprocess.run([PROGRAM, "check", path], capture_output=True, text=True, check=True)
-            self.assertEqual(done.stdout, f"ok {networks}\n")
+            self.assertEqual(run_program("check", path), f"ok {networks}\n")

@@ -1,5 +1,6 @@
 """Tests of share/install, the pages of man, completion and the sample configuration: what is installed works and is
 taken away again, and no file of others is touched."""
+import filecmp
 import glob
 import os
 import pty
@@ -13,6 +14,7 @@ import unittest
 
 from common import CASES, PROGRAM, ROOT, TOOLS, ToolTest, needs_program, run_to_end, text_of
 from small import SmallRepository
+from texts import read_text
 
 SECONDS = 60
 BELL = "\a"
@@ -64,10 +66,7 @@ class Install(ToolTest):
     @needs_program
     def test_nothing_is_left(self):
         """What was installed is taken away, a file that somebody put beside it is not; a second time changes nothing."""
-        os.makedirs(os.path.join(self.prefix, "bin"))
-        other = os.path.join(self.prefix, "bin", "other")
-        with open(other, "w", encoding="ascii"):
-            pass
+        self.write(os.path.join(self.prefix, "bin", "other"))
         for _ in range(2):
             self.assertEqual(self.run_install(self.prefix)[0], 0)
         self.assertEqual(self.run_install("--uninstall", self.prefix), (0, ""))
@@ -80,7 +79,6 @@ class Install(ToolTest):
     @needs_program
     def test_others_files_stay(self):
         """Where a file of that name is there, nothing is installed."""
-        os.makedirs(os.path.join(self.prefix, "bin"))
         self.write(os.path.join(self.prefix, "bin", "apctl"), "other")
         status, said = self.run_install(self.prefix)
         self.assertEqual(status, 1)
@@ -111,7 +109,7 @@ class WhatIsInstalled(SmallRepository):
 
     def read(self, name):
         """An installed text."""
-        return self.read(f"usr/{name}")
+        return super().read(f"usr/{name}")
 
     def test_missing_bridge_is_told(self):
         """Installing says so where none is built, and the command says where to build it; once built, it is there."""
@@ -166,9 +164,8 @@ class WhatIsInstalled(SmallRepository):
         self.assertGreater(len(named), len(shown))
         for name in named:
             for file in os.listdir(os.path.join(ROOT, name)):
-                with open(os.path.join(ROOT, name, file), "rb") as ours, \
-                        open(self.path(f"usr/{documents}/{name}/{file}"), "rb") as theirs:
-                    self.assertEqual(ours.read(), theirs.read(), f"{name}/{file}")
+                ours, theirs = os.path.join(ROOT, name, file), self.path(f"usr/{documents}/{name}/{file}")
+                self.assertTrue(filecmp.cmp(ours, theirs, shallow=False), f"{name}/{file}")
         for name in ("bench", "wrong", "crates"):
             self.assertFalse(os.path.exists(self.path(f"usr/{documents}/{name}")), name)
 
@@ -177,10 +174,9 @@ class WhatIsInstalled(SmallRepository):
         self.install()
         shown = 0
         for path in glob.glob(self.path("usr/share/doc/waltigon/**/*.md"), recursive=True):
-            with open(path, encoding="utf-8") as file:
-                for name in re.findall(r"!\[[^\]]*\]\(([^)]*)\)", file.read()):
-                    self.assertTrue(os.path.exists(os.path.join(os.path.dirname(path), name)), f"{path}: {name}")
-                    shown += 1
+            for name in re.findall(r"!\[[^\]]*\]\(([^)]*)\)", read_text(path)):
+                self.assertTrue(os.path.exists(os.path.join(os.path.dirname(path), name)), f"{path}: {name}")
+                shown += 1
         self.assertGreater(shown, 3)
 
     def test_examples_are_installed(self):
@@ -192,9 +188,8 @@ class WhatIsInstalled(SmallRepository):
             paths = [path for path in glob.glob(os.path.join(folder, "**"), recursive=True) if os.path.isfile(path)]
             self.assertGreaterEqual(len(paths), least)
             for path in paths:
-                with open(path, encoding="utf-8") as file:
-                    installed = f"share/doc/waltigon/examples/{name}/{os.path.relpath(path, folder)}"
-                    self.assertEqual(self.read(installed), file.read())
+                installed = f"share/doc/waltigon/examples/{name}/{os.path.relpath(path, folder)}"
+                self.assertEqual(self.read(installed), read_text(path))
 
     def test_package_is_refused_at_once(self):
         """Where no program is built, or nothing tells of what, packing says so before it builds anything."""
@@ -228,8 +223,8 @@ class WhatIsInstalled(SmallRepository):
         before = re.search(r'\nExecStartPre=-\+"(.*)" %n \$WORDS\n', unit)[1]
         self.assertEqual(before, self.path("usr/lib/waltigon/tools/open-status"))
         self.assertTrue(os.access(before, os.X_OK))
-        with open(os.path.join(TOOLS, "systemd", "waltigon@.service"), encoding="utf-8") as file:
-            self.assertEqual(unit.replace(f"{self.path('usr')}/", "/usr/local/"), file.read())
+        self.assertEqual(unit.replace(f"{self.path('usr')}/", "/usr/local/"),
+                         text_of("tools", "systemd", "waltigon@.service"))
 
 
 class WithoutPackages(ToolTest):
@@ -285,9 +280,7 @@ class Pages(ToolTest):
 
     def test_each_option_is_named(self):
         """Each option of a tool stands in its page, and in no page one that it doesn't have; completion has the same."""
-        completions = {}
-        for name in ("waltigon.bash", "_waltigon"):
-            completions[name] = text_of("share", "completions", name)
+        completions = {name: text_of("share", "completions", name) for name in ("waltigon.bash", "_waltigon")}
         for command, name in COMMANDS.items():
             helped = subprocess.run([os.path.join(TOOLS, name), "--help"], capture_output=True, text=True, check=True)
             options = set(OPTION.findall(helped.stdout))
@@ -340,6 +333,11 @@ class Terminal:
 class CompletionOfTools(ToolTest):
     """Completion of the tools' words in bash, as the function answers it that bash calls."""
 
+    def setUp(self):
+        super().setUp()
+        for name in ("my.toml", "a.trace"):
+            self.write(name)
+
     def completed(self, *words):
         """What is offered for the last word."""
         script = 'cd "$1" && . "$2" && shift 2 && COMP_WORDS=("$@") && COMP_CWORD=$(($# - 1)) && _waltigon "$1" && ' \
@@ -351,16 +349,12 @@ class CompletionOfTools(ToolTest):
 
     def test_options_and_files_are_offered(self):
         """Options where a word begins so, else files, and first the commands of tools that have some."""
-        for name in ("my.toml", "a.trace"):
-            with open(self.path(name), "w", encoding="ascii"):
-                pass
         self.assertEqual(self.completed("waltigon-report-to-json", "--w"), ["--without-frames"])
         self.assertEqual(self.completed("waltigon-explain", "--"), ["--program", "--said", "--lines", "--help",
                                                                     "--version"])
         self.assertEqual(sorted(self.completed("waltigon-picture", "")), ["a.trace", "my.toml"])
         self.assertEqual(sorted(self.completed("waltigon-live", "")),
-                         ["a.trace", "check-networks", "check-radio", "events", "kick", "my.toml", "reload",
-                          "status"])
+                         ["a.trace", "check-networks", "check-radio", "events", "kick", "my.toml", "reload", "status"])
         self.assertEqual(self.completed("waltigon-live", "ki"), ["kick"])
         self.assertEqual(sorted(self.completed("waltigon-explain", "my.toml", "")), ["a.trace", "my.toml"])
         self.assertEqual(self.completed("waltigon-trace-from-capture", "--fcs", "a"), ["auto"])
@@ -372,9 +366,6 @@ class CompletionOfTools(ToolTest):
 
     def test_words_without_files_are_offered_none(self):
         """Behind `kick`, `reload`, `status` and `events` no file is offered, and the options are theirs."""
-        for name in ("my.toml", "a.trace"):
-            with open(self.path(name), "w", encoding="ascii"):
-                pass
         radios = sorted(os.listdir("/sys/class/ieee80211")) if os.path.isdir("/sys/class/ieee80211") else []
         self.assertEqual(sorted(self.completed("waltigon-live", "check-radio", "")), radios)
         self.assertEqual(self.completed("waltigon-live", "check-radio", "--"), ["--by", "--help", "--version"])
@@ -404,8 +395,7 @@ class Completion(ToolTest):
     def test_words_and_files_are_offered(self):
         """Its commands; a configuration for each, traces where there may be some, and nothing behind them."""
         for name in ("my.toml", "other.toml", "a.trace", "b.trace"):
-            with open(self.path(name), "w", encoding="ascii"):
-                pass
+            self.write(name)
         self.completed("apctl ", "check", "run", "play", "live", "answer lines as they come")
         self.completed("apctl pl", "apctl play ")
         for word in ("check", "run", "play", "live"):
@@ -420,8 +410,7 @@ class Completion(ToolTest):
     def test_words_of_tools_are_offered(self):
         """Options of each tool, and files and commands where there may be some."""
         for name in ("my.toml", "a.trace"):
-            with open(self.path(name), "w", encoding="ascii"):
-                pass
+            self.write(name)
         self.completed("waltigon-report-to-json --w", "waltigon-report-to-json --without-frames")
         self.completed("waltigon-live ", "kick", "reload", "status", "events", "check-networks", "check-radio",
                        "my.toml")

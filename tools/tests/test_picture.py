@@ -20,6 +20,7 @@ from drawing.overview import stretches_of
 from story import stories
 from texts import Line, Origin, read_config, read_report, read_text, read_trace
 
+INPUT, REPORT = os.path.join(THREE, "input"), os.path.join(THREE, "stdout")
 STORED = os.path.join(ROOT, "docs", "three_networks.svg")
 SVG = "{http://www.w3.org/2000/svg}"
 PHONE, LAPTOP, PRINTER, SENSOR = (f"02aa0000000{number}" for number in (1, 2, 3, 4))
@@ -400,31 +401,29 @@ class Picture(PictureTest):
         options stand; a configuration alone is no trace."""
         config, trace = input_of(THREE)[0].split("---\n")
         my_config, my_trace = self.write("my.toml", config), self.write("my.trace", trace)
-        report = os.path.join(THREE, "stdout")
-        wanted = tool("picture", os.path.join(THREE, "input"), report)[1]
-        self.assertEqual(tool("picture", my_config, my_trace, report), (0, wanted, ""))
-        self.assertEqual(tool("picture", my_config, "--out", self.path("x.svg"), my_trace, report), (0, "", ""))
+        wanted = tool("picture", INPUT, REPORT)[1]
+        self.assertEqual(tool("picture", my_config, my_trace, REPORT), (0, wanted, ""))
+        self.assertEqual(tool("picture", my_config, "--out", self.path("x.svg"), my_trace, REPORT), (0, "", ""))
         self.assertEqual(read_text(self.path("x.svg")), wanted)
-        self.refused("picture", my_config, report,
+        self.refused("picture", my_config, REPORT,
                      says=f"is a configuration, and no trace: say `picture {my_config} TRACE REPORT`")
-        for both in ((my_config, os.path.join(THREE, "input")), (os.path.join(THREE, "input"), my_trace)):
-            self.refused("picture", *both, report, says="one of them has a line ---")
-        self.refused("picture", my_config.replace("toml", "none"), my_trace, report, says="No such file")
+        for both in ((my_config, INPUT), (INPUT, my_trace)):
+            self.refused("picture", *both, REPORT, says="one of them has a line ---")
+        self.refused("picture", my_config.replace("toml", "none"), my_trace, REPORT, says="No such file")
         self.assertEqual(tool("picture", my_trace)[0], 2)
 
     def test_what_is_no_run_is_refused(self):
         """A file that isn't there, what is no report, a trace without a line, and names that aren't in the run."""
-        trace, report = os.path.join(THREE, "input"), os.path.join(THREE, "stdout")
-        self.refused("picture", self.path("none"), report, says="No such file")
-        self.refused("picture", trace, trace, says="can't be read")
-        self.refused("picture", report, report, says="line 1 of the trace is none")
+        self.refused("picture", self.path("none"), REPORT, says="No such file")
+        self.refused("picture", INPUT, INPUT, says="can't be read")
+        self.refused("picture", REPORT, REPORT, says="line 1 of the trace is none")
         empty = CASES["empty_trace"]
         self.refused("picture", os.path.join(empty, "input"), os.path.join(empty, "stdout"), says="no line to show")
-        self.refused("picture", trace, report, "--from", "100", says="no line to show")
-        self.refused("picture", trace, report, "--station", "02:aa:00:00:00:99", says="nothing in this run is of")
-        self.refused("picture", trace, report, "--network", "02:aa:00:00:00:99", says="no section of the report is of")
+        self.refused("picture", INPUT, REPORT, "--from", "100", says="no line to show")
+        self.refused("picture", INPUT, REPORT, "--station", "02:aa:00:00:00:99", says="nothing in this run is of")
+        self.refused("picture", INPUT, REPORT, "--network", "02:aa:00:00:00:99", says="no section of the report is of")
         for words in (["--out", self.path("x.gif")], ["--from", "x"], ["--to", "1.5"], ["--station", "phone"]):
-            self.assertEqual(tool("picture", trace, report, *words)[0], 2, words)
+            self.assertEqual(tool("picture", INPUT, REPORT, *words)[0], 2, words)
 
 
 class Choices(PictureTest):
@@ -462,7 +461,7 @@ class Choices(PictureTest):
 
     def test_what_a_new_program_was_told_is_left_out(self):
         """Nobody sent it. The states that came of it stay, and a station that is there by it alone can be chosen."""
-        words = self.restored(), os.path.join(THREE, "stdout")
+        words = self.restored(), REPORT
         shapes = self.shapes(*words)
         self.assertEqual(min(int(group.get("data-lines")) for group in shapes.marks()), 7)
         self.assertEqual(len(shapes.of(row=PHONE, what="associated", span="4-39")), 1)
@@ -489,7 +488,7 @@ class Choices(PictureTest):
         words = self.of_three().words()
         self.assertLessEqual({"0.000", "0.102", "0.205", "0.410", "time, s"}, words)
         text = input_of(THREE)[0].replace("\nA ", "\n# frame 7, 12.345 s\nA ", 1)
-        words = self.shapes(self.write("input", text), os.path.join(THREE, "stdout")).words()
+        words = self.shapes(self.write("input", text), REPORT).words()
         self.assertLessEqual({"12.345", "time, s"}, words)
 
 
@@ -565,10 +564,9 @@ class Overviews(PictureTest):
 
     def test_what_a_new_program_was_told_is_not_counted(self):
         """Two requests of the phone and their answers are not among what its network heard and sent."""
-        report = os.path.join(THREE, "stdout")
         sums = []
-        for trace in (os.path.join(THREE, "input"), self.restored()):
-            found = self.stretches(self.shapes(trace, report, "--overview"))[GUEST.hex()].values()
+        for trace in (INPUT, self.restored()):
+            found = self.stretches(self.shapes(trace, REPORT, "--overview"))[GUEST.hex()].values()
             sums.append({row: sum((Counter(counts[row]) for counts in found), Counter()) for row in ("heard", "sent")})
         self.assertEqual(sums[0]["heard"] - sums[1]["heard"], Counter({"requests": 2}))
         self.assertEqual(sums[0]["sent"] - sums[1]["sent"], Counter({"answers": 2}))
@@ -754,15 +752,14 @@ class Forms(PictureTest):
 
     def test_png_and_pdf(self):
         """By the name's ending: a PNG of a page's width, and a PDF."""
-        trace, report = os.path.join(THREE, "input"), os.path.join(THREE, "stdout")
-        svg = Shapes(read_text(self.drawn(trace, report)))
-        with Image.open(self.drawn(trace, report, name="x.png")) as picture:
+        svg = Shapes(read_text(self.drawn(INPUT, REPORT)))
+        with Image.open(self.drawn(INPUT, REPORT, name="x.png")) as picture:
             self.assertEqual((picture.format, picture.width), ("PNG", WIDTH))
             self.assertAlmostEqual(picture.height, float(svg.root.get("height")), delta=1)
             self.assertGreater(len(picture.convert("RGB").getcolors(1 << 24)), 50)
-        with open(self.drawn(trace, report, name="x.pdf"), "rb") as file:
+        with open(self.drawn(INPUT, REPORT, name="x.pdf"), "rb") as file:
             self.assertEqual(file.read(5), b"%PDF-")
-        status, stdout, _ = tool("picture", trace, report)
+        status, stdout, _ = tool("picture", INPUT, REPORT)
         self.assertEqual((status, Shapes(stdout).words()), (0, svg.words()))
 
     @needs_program
@@ -795,7 +792,7 @@ class Forms(PictureTest):
 
     def test_page(self):
         """The page needs nothing from elsewhere, has the picture, and of each line its octets field by field."""
-        path = self.drawn(os.path.join(THREE, "input"), os.path.join(THREE, "stdout"), name="x.html")
+        path = self.drawn(INPUT, REPORT, name="x.html")
         text = read_text(path)
         self.assertEqual(set(re.findall(r"[a-z]+://[^\"' <]*", text)), {"http://www.w3.org/2000/svg"})
         self.assertEqual(re.findall(r"<(?:link|img|iframe|object)|\ssrc=|@import|url\(", text), [])

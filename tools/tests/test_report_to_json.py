@@ -1,9 +1,8 @@
 """Tests of tools/report-to-json: nothing of a report is lost in its JSON, and what is no report is refused."""
 import json
 import os
-import subprocess
 
-from common import CASES, PROGRAM, ToolTest, needs_program, run_to_end, tool, with_report
+from common import CASES, TOOLS, ToolTest, needs_program, run_program, run_to_end, tool, with_report
 from texts import read_text
 
 
@@ -77,14 +76,13 @@ class Json(ToolTest):
     def test_live_itself(self):
         """The program's own lines, as they come: the tables of both networks after `I`, and again at the end."""
         config = os.path.join(CASES["live_answers_each_line"], "radio.toml")
-        done = subprocess.run([PROGRAM, "live", config], input="T\nA 40\nI\n", capture_output=True, text=True,
-                              check=True)
-        networks = self.networks("-", program_input=done.stdout)
+        live = run_program("live", config, program_input="T\nA 40\nI\n")
+        networks = self.networks("-", program_input=live)
         self.assertEqual([network["clock"] for network in networks], [1, 1, 1, 1])
 
     def test_input_that_is_no_text(self):
         """Octets that are no text, and no standard input at all, are refused."""
-        report = os.path.join(os.path.dirname(os.path.dirname(os.path.realpath(__file__))), "report-to-json")
+        report = os.path.join(TOOLS, "report-to-json")
         for words in ('"$0" - </dev/zero', '"$0" - <&-', 'printf "\\377\\n" | "$0" -'):
             done = run_to_end(["bash", "-c", words.replace("</dev/zero", "< <(head -c 99 /dev/zero)"), report])
             self.assertEqual((done.returncode, done.stdout, done.stderr.count("\n")), (1, "", 1), words)

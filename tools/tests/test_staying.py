@@ -3,11 +3,10 @@ as `tools/live` starts them, with packet sockets of a network namespace. They ta
 program; `make test-live` tries the same with real stations."""
 import json
 import os
-import subprocess
 import sys
 import unittest
 
-from common import PROGRAM, TOOLS, ToolTest, run_to_end
+from common import PROGRAM, TOOLS, ToolTest, run_program, run_to_end
 from test_rights import BRIDGE, NEEDS_COMMANDS, can_try
 
 SCRIPT = os.path.join(TOOLS, "tests", "staying.py")
@@ -49,7 +48,6 @@ class Staying(ToolTest):
             lines = self.read(f"record.{number}").splitlines()
             marks = [line for line in lines if line.startswith("# restored")]
             self.assertEqual((len(marks), lines[0]), (2, marks[0]), log)
-            tables = subprocess.run([PROGRAM, "run", self.path(f"config.{number}"), self.path(f"record.{number}")],
-                                    capture_output=True, text=True, check=True).stdout
+            tables = run_program("run", self.path(f"config.{number}"), self.path(f"record.{number}"))
             self.assertIn("station 02:aa:00:00:00:03 associated aid 3 listen 5 active kept 0\n", tables)
             self.assertEqual("station 02:aa:00:00:00:04 associated aid 4 listen 5 doze kept 0\n" in tables, number < 5)

@@ -44,11 +44,6 @@ class SmallCrate(ToolTest):
 
     SOURCE = SOURCE
 
-    def write(self, name, text):
-        """Writes a file of the repository."""
-        os.makedirs(os.path.dirname(self.path(name)), exist_ok=True)
-        self.write(name, text)
-
     def said(self, script="check"):
         """The status of a script, and its lines."""
         done = run_to_end([self.path(f"wrong/{script}")])
@@ -98,8 +93,7 @@ class TriedBodies(SmallCrate):
         """Those of different functions together, and whichever is let through is named."""
         self.write("HANDLES", "")
         for name in ("bin/rt", "bin/rattle"):
-            self.write(name, PROVER)
-            os.chmod(self.path(name), 0o755)
+            self.write(name, PROVER, 0o755)
         here = {"PATH": f"{self.path('bin')}:{os.environ['PATH']}", "JOBS": "1"}
         bodies = [("far", "walk(1)", "walk(4)"), ("gone", "walk(0)", "walk(4)"), ("near", "walk(2)", "walk(3)")]
         self.write("wrong/part.toml", "".join(BODY.format(*body) for body in bodies))
