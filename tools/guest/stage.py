@@ -10,14 +10,13 @@ import subprocess
 import time
 from collections import Counter, defaultdict
 from collections.abc import Callable
-from contextlib import suppress
 from dataclasses import dataclass, field
 
 from paths import TOP
 from frames import (BEACON, DATA, DEAUTHENTICATION, DISASSOCIATION, MANAGEMENT, NULL, PROBE_RESPONSE, Frame,
                     address_of, address_text, is_group, number)
 from radiotap import captured
-from stations import Failed, Program, Radio, read, run, wait_for, write
+from stations import Failed, Program, Radio, kill_each, read, run, wait_for, write
 
 PCAP_HEADER, PCAP_RECORD = 24, struct.Struct("<IIII")
 RADIO_TEXT = "version = {version}\nchannel = 6\ninterval = 100\nqueue = 64\n"
@@ -396,9 +395,7 @@ class Start(Program):
         self.was_killed = True
         until = time.monotonic() + SECONDS_TO_END
         while self.is_running() and time.monotonic() < until:
-            for process in processes_of(executable):
-                with suppress(ProcessLookupError):
-                    os.kill(process, signal.SIGKILL)
+            kill_each(processes_of(executable))
             time.sleep(0.02)
         self.ended(1)
         self.has_told("; it begins anew")

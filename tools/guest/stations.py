@@ -8,6 +8,8 @@ import socket
 import subprocess
 import tempfile
 import time
+from collections.abc import Iterable
+from contextlib import suppress
 from dataclasses import dataclass, field
 
 SIMULATION = "/sys/class/mac80211_hwsim"
@@ -45,6 +47,13 @@ def write(path: str, text: str, mode: int | None = None) -> None:
         file.write(text)
     if mode is not None:
         os.chmod(path, mode)
+
+
+def kill_each(processes: Iterable[int]) -> None:
+    """Kills each; one may have ended by itself, as since the one before was killed."""
+    for process in processes:
+        with suppress(ProcessLookupError):
+            os.kill(process, signal.SIGKILL)
 
 
 def wait_until(moment: float) -> None:
@@ -133,11 +142,7 @@ class Namespace:
 
     def end_all(self) -> None:
         """Ends what runs in it."""
-        for process in run("ip", "netns", "pids", self.name).split():
-            try:
-                os.kill(int(process), signal.SIGKILL)
-            except ProcessLookupError:
-                pass
+        kill_each(map(int, run("ip", "netns", "pids", self.name).split()))
 
     def delete(self) -> None:
         """Takes it away, with what is in it."""

@@ -6,14 +6,13 @@ import re
 import shutil
 import signal
 import time
-from contextlib import suppress
 from dataclasses import replace
 
 from paths import HERE
 from airing import Hostapd
 from parts import Part, join_all
 from stage import RESTORED_FROM, RESTORED_TO, COMPILED, Net, Start, process_of, processes_of, read_answers
-from stations import Failed, Station, read, run, wait_for, write
+from stations import Failed, Station, kill_each, read, run, wait_for, write
 
 GUESTS, OFFICE, DEVICES = (f"02:00:00:00:01:0{number}" for number in (1, 2, 3))
 FIRST_STAYING = 121
@@ -351,10 +350,7 @@ class Stays(Part):
 
     def kill_and_leave(self) -> None:
         """All are killed, the script first, so that nothing is taken back."""
-        pids = [self.start.process.pid, only_process_of(COMPILED), only_process_of(self.start.program)]
-        for process in pids:
-            with suppress(ProcessLookupError):
-                os.kill(process, signal.SIGKILL)
+        kill_each([self.start.process.pid, only_process_of(COMPILED), only_process_of(self.start.program)])
         self.start.process.wait()
         wait_for("all have ended", 20, lambda: not processes_of(COMPILED) + processes_of(self.start.program))
         self.start.take_down()
