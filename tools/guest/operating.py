@@ -429,5 +429,3 @@ class ByHand:
         if done.returncode != 0:
             raise Failed(f"status {done.returncode}: {done.stdout}{done.stderr}")
         return done.stdout
-
-

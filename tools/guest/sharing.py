@@ -227,5 +227,3 @@ class Stage:
         for party in self.parties:
             run("ip", "link", "set", party.host.port, "up")
             party.host.end_all()
-
-

@@ -25,7 +25,6 @@ LETTERS = {PROBE_REQUEST: "P", AUTHENTICATION: "A", ASSOCIATION_REQUEST: "J", RE
            DISASSOCIATION: "D", DEAUTHENTICATION: "D", MODE: "U", POLL: "S"}
 RESPONSES = {ASSOCIATION_REQUEST: ASSOCIATION_RESPONSE, REASSOCIATION_REQUEST: REASSOCIATION_RESPONSE}
 
-
 # The mark of a line that brought nothing.
 NOTHING = "nothing"
 # The text of a mark of a unit that the bridge handed to the program: it went back, and no wire brought it.

@@ -12,11 +12,9 @@ STATION = re.compile(r"station (\S+) (authenticated|associated aid (\d+) listen 
 FIRST_OF_LIVE = re.compile(r"ok \d+")
 COUNTS = re.compile(r"events (\d+) clock (\d+) unread (\d+) lost (\d+) kept (\d+)")
 
-
 # What tools/trace-from-capture writes before a line: which frame of which capture it is, and when it was.
 ORIGIN = re.compile(r"# (?:frame (?P<frame>\d+)(?: of (?P<capture>.+))?|(?P<made>made, no frame)), "
                     r"(?P<seconds>-?\d+\.\d+) s\r?")
-
 
 # The remarks of a record around what the access point didn't send.
 RESTORED, RESTORED_TO = "# restored: ", "# restored: up to here"

@@ -154,7 +154,6 @@ REPORT = """
      5.00%|50|kworker/0:1|[kernel.kallsyms]|[k] strlen
 """
 
-
 SYMBOLS = """ffffffff81000000 T _stext
 ffffffff81000010 t pipe_write
 ffffffffc0000000 t ieee80211_rx_napi	[mac80211]

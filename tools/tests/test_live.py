@@ -879,7 +879,6 @@ echo status {status}
 {after}
 """
 
-
 SENDS = "[ \"$request\" = open ] && echo sending; [ \"$request\" = 'dismiss 0' ] && echo dismissed"
 
 

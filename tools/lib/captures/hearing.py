@@ -212,5 +212,3 @@ def wire_line(bssid, octets):
     """A line `W`, with spaces between the fields."""
     words = [octets[:6], octets[6:12], octets[12:14], octets[14:]]
     return " ".join(["W", address_text(bssid), *(word.hex() for word in words if word)])
-
-
