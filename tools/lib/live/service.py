@@ -3,6 +3,7 @@ and that lines are still answered."""
 import os
 import socket
 import time
+from contextlib import suppress
 
 
 class Service:
@@ -19,10 +20,8 @@ class Service:
             return
         address = "\0" + self.path[1:] if self.path.startswith("@") else self.path
         with socket.socket(socket.AF_UNIX, socket.SOCK_DGRAM | socket.SOCK_CLOEXEC) as sending:
-            try:
+            with suppress(OSError):
                 sending.sendto("\n".join(fields).encode(), address)
-            except OSError:
-                pass
 
     def ready(self, status: str) -> None:
         """Stations are served."""

@@ -1,6 +1,7 @@
 """What is going on, in columns for a person at a terminal: each network with its stations."""
 import sys
 import time
+from contextlib import suppress
 
 from live.asking import ask
 from live.faults import Fault
@@ -20,7 +21,7 @@ def show_status(phy: str | None, is_watched: bool) -> None:
     if not is_watched:
         print(text_of(ask(phy, STATUS)))
         return
-    try:
+    with suppress(KeyboardInterrupt):
         while True:
             try:
                 text = text_of(ask(phy, STATUS))
@@ -29,8 +30,6 @@ def show_status(phy: str | None, is_watched: bool) -> None:
             sys.stdout.write(f"{CLEAR}{text}\n")
             sys.stdout.flush()
             time.sleep(WATCH_SECONDS)
-    except KeyboardInterrupt:
-        pass
 
 
 def text_of(told: dict) -> str:

@@ -1,6 +1,7 @@
 """The names of stations, of a file that the operator gives: a line has an address and then a name, as in ethers(5)."""
 import os
 import re
+from contextlib import suppress
 
 LINE = re.compile(r"\s*((?:[0-9A-Fa-f]{2}:){5}[0-9A-Fa-f]{2})\s+(\S.*?)\s*")
 MOST_LETTERS = 64
@@ -17,12 +18,10 @@ class Names:
 
     def look(self) -> dict[str, str]:
         """The names by the addresses, as the file has them now."""
-        try:
+        with suppress(OSError, ValueError):
             stamp = stamp_of(self.path)
             if stamp != self.stamp:
                 self.by_address, self.stamp = read(self.path), stamp
-        except (OSError, ValueError):
-            pass
         return self.by_address
 
 
