@@ -543,7 +543,7 @@ class FilesAndPrograms(WithFiles):
             check_program(self.path("apctl"))
         refusing = self.write("refusing", "#!/bin/sh\necho fault C4 >&2\nexit 1\n", 0o755)
         with self.assertRaisesRegex(Fault, "fault C4"):
-            check_config(self.wanted(refusing))
+            check_config(refusing, self.config)
         wanted = Wanted("", "", "", "phy0", "mon0", (), self.path("none", "record"), None)
         with self.assertRaisesRegex(Fault, "its folder isn't there"):
             check_record(wanted, read_settings(self.config))

@@ -1,6 +1,5 @@
 """Capture files in and out, read and written by scapy: pcap and pcapng, radiotap, plain 802.11 and Ethernet."""
 import logging
-import os
 import sys
 import zlib
 from fractions import Fraction
@@ -161,8 +160,3 @@ def write_pcapng(path, link, frames):
     for microseconds, octets, length in frames:
         writer.write_packet(octets, sec=Fraction(microseconds, 1_000_000), wirelen=length)
     writer.close()
-
-
-def name_of(path):
-    """A file's name without its folders."""
-    return os.path.basename(path)

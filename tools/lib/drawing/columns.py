@@ -81,7 +81,10 @@ class Column:
 
 
 class Clock:
-    """When each line happened: by the capture's own time where the trace tells it, else by the beacon clock."""
+    """When each line happened: by the capture's own time where the trace tells it, else by the beacon clock. `name` is
+    what stands before the times."""
+
+    name = "time, s"
 
     def __init__(self, lines, origins, interval):
         self.seconds, self.by_capture = {}, bool(origins)
@@ -91,11 +94,6 @@ class Clock:
             last = origins[line.number].seconds if line.number in origins else last
             self.seconds[line.number] = last if self.by_capture else clock * interval * TIME_UNIT / 1e6
         self.is_known = self.by_capture or interval > 0
-
-    @property
-    def name(self):
-        """What stands before the times."""
-        return "time, s"
 
     def text(self, line):
         """The time of a line."""

@@ -83,11 +83,9 @@ class Signals:
 
     def drain(self) -> None:
         """Reads what woke it."""
-        try:
+        with suppress(BlockingIOError):
             while self.waker.recv(512):
                 pass
-        except BlockingIOError:
-            pass
 
 
 def network_word(network: Network, wires: dict[bytes, str], shares: dict[bytes, int]) -> str:
@@ -162,10 +160,8 @@ class Bridge:
 
     def ask(self, request: str, descriptors: Iterable[int] = ()) -> None:
         """Asks it for something, and hands descriptors over; one that has ended is asked for nothing."""
-        try:
+        with suppress(BrokenPipeError, ConnectionResetError):
             socket.send_fds(self.control, [f"{request}\n".encode()], list(descriptors))
-        except (BrokenPipeError, ConnectionResetError):
-            pass
 
     def open(self, radio: list[socket.socket], wires: dict[int, socket.socket]) -> None:
         """Lets frames go by the sockets of the radio and of those wires that are there, by the places of their networks."""
@@ -233,11 +229,6 @@ class Bridge:
             raise ValueError(place)
         if place not in self.down:
             self.down.append(place)
-
-    @property
-    def sends_nothing(self) -> bool:
-        """Whether it has ended since the radio sends nothing in the way in which it was set up."""
-        return self.fault_code == FaultCode.SENDS_NOTHING
 
     def has_to_go_on(self) -> bool:
         """Whether neither a signal nor a fault ended it."""

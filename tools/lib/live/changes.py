@@ -135,10 +135,6 @@ class Changes:
             return text
         return ""
 
-    def is_to_stay(self) -> bool:
-        """Whether the next start is to go on with what this one set up."""
-        return os.path.exists(self.stay_path)
-
     def hand_on(self, text: str) -> None:
         """From now on nothing is taken back: the next start goes on with it, where the radio is to be set up as this text
         says."""

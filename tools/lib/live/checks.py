@@ -96,7 +96,7 @@ def check(wanted: Wanted, made: Changes, stack: ExitStack) -> Plan:
     of this machine stays as it is."""
     check_bridge(wanted.bridge)
     check_program(wanted.program)
-    settings = check_config(wanted)
+    settings = check_config(wanted.program, wanted.config)
     wires = wanted.wires + read_wires(wanted.wires_file)
     check_wires(wanted, settings, wires)
     check_shares(wanted, settings)
@@ -109,7 +109,7 @@ def check(wanted: Wanted, made: Changes, stack: ExitStack) -> Plan:
 def check_again(wanted: Wanted, before: Plan) -> Plan:
     """The plan of a configuration that is read again while a bridge runs; nothing is changed. A wire or a share of the
     words whose network is there no more is told, and not used."""
-    settings = check_config(wanted)
+    settings = check_config(wanted.program, wanted.config)
     known = [(bssid, name) for bssid, name in wanted.wires if bssid in settings.bssids]
     for bssid, name in set(wanted.wires) - set(known):
         tell(f"--wire {address_text(bssid)}={name}: no network has this BSSID any more: this wire isn't used")
@@ -134,7 +134,7 @@ def check_rights() -> None:
     """Only root makes interfaces and hears all of one."""
     if os.geteuid() != 0:
         raise Fault("run it as root (sudo): it makes interfaces on the radio and hears all that comes by them")
-    missing = machine.missing_commands()
+    missing = [package for command, package in machine.PACKAGES.items() if shutil.which(command) is None]
     if missing:
         raise Fault(f"install Debian's packages {' '.join(missing)}")
 
@@ -159,13 +159,8 @@ def check_program(program: str) -> None:
         raise Fault(f"{program} can't be run: it isn't executable")
 
 
-def check_config(wanted: Wanted) -> Settings:
+def check_config(program: str, config: str) -> Settings:
     """The program has to find no fault in the configuration."""
-    return check_config_of(wanted.program, wanted.config)
-
-
-def check_config_of(program: str, config: str) -> Settings:
-    """A program has to find no fault in a configuration."""
     try:
         done = subprocess.run([program, "check", config], capture_output=True, text=True, check=False)
     except OSError as fault:

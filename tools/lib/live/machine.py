@@ -1,7 +1,6 @@
 """What this machine has: its commands, radios and interfaces, read without changing anything."""
 import os
 import re
-import shutil
 import subprocess
 from dataclasses import dataclass
 
@@ -26,11 +25,6 @@ def run(*words: str) -> str:
     if done.returncode != 0:
         raise Fault(f"`{' '.join(words)}` failed: {(done.stderr or done.stdout).strip()}")
     return done.stdout
-
-
-def missing_commands() -> list[str]:
-    """Debian's packages of the commands that aren't there."""
-    return [package for command, package in PACKAGES.items() if shutil.which(command) is None]
 
 
 def radios() -> list[str]:

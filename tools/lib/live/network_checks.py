@@ -14,7 +14,7 @@ from explaining.source import Finding
 from frames import address_text
 from live import machine
 from live.asking import ask, socket_path
-from live.checks import Wanted, Wires, check_config, check_program, read_wires
+from live.checks import Wires, check_config, check_program, read_wires
 from live.faults import Fault
 from live.machine import Interface
 from live.setting_up import RECEIVING, SENDING
@@ -89,7 +89,7 @@ class Case:
 def check_networks(config: str, program: str, wires: Wires, wires_file: str | None) -> tuple[list[str], int]:
     """The lines that are told of each network, and how many findings there are."""
     check_program(program)
-    check_config(Wanted(config, program, "", "", "", (), None, None))
+    check_config(program, config)
     networks = read_networks(config)
     beside = beside_config(config)
     if wires_file is None and not wires and os.path.exists(beside):

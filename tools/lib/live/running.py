@@ -7,7 +7,7 @@ import time
 from contextlib import ExitStack, suppress
 
 from live import asking, changes
-from live.checks import Wanted, check_config_of
+from live.checks import Wanted, check_config
 from live.faults import Fault
 
 SECONDS = 60.0
@@ -79,7 +79,7 @@ def reload_running(phy: str | None) -> str:
     it; a fault where all stays as it is."""
     phy = phy or asking.sole_phy()
     before = read_run(phy)
-    check_config_of(before["program"], before["config"])
+    check_config(before["program"], before["config"])
     os.kill(before["pid"], signal.SIGHUP)
     until = time.monotonic() + SECONDS
     while time.monotonic() < until:

@@ -7,7 +7,7 @@ from contextlib import ExitStack
 from dataclasses import replace
 
 from live import asking
-from live.bridge import STATE, TABLES, Bridge, Signals, words_of
+from live.bridge import STATE, TABLES, Bridge, FaultCode, Signals, words_of
 from live.changes import Changes
 from live.checks import Plan, Wanted, as_set_up, check, check_again, check_rights, missing_wires
 from live.faults import Fault
@@ -94,7 +94,7 @@ class AccessPoint:
                 self.serve()
         finally:
             self.service.stopping()
-            stays = self.signals.is_ending and self.made.is_to_stay()
+            stays = self.signals.is_ending and os.path.exists(self.made.stay_path)
             self.bridge.end("all stays as it is set up, for the next start" if stays else "taking down what was set up")
         if stays:
             self.made.hand_on(as_set_up(self.plan.settings, self.plan.way))
@@ -185,7 +185,7 @@ class AccessPoint:
         """Where the radio sends nothing in the way in which it was set up, it is set up in the next one; the reason, where
         there is one."""
         ways = self.plan.ways[1:]
-        if not self.bridge.sends_nothing or not ways:
+        if self.bridge.fault_code != FaultCode.SENDS_NOTHING or not ways:
             return None
         reason = f"by {self.plan.way.interfaces} this radio sends nothing, so it serves by {ways[0].interfaces}"
         self.plan = replace(self.plan, ways=ways)
