@@ -119,9 +119,9 @@ class OtherPrograms(OnMachine):
         wanted = replace(self.WANTED, wires=())
         for count, ways in ((1, plan.ways), (2, (Way.MANAGED,)), (3, (Way.MANAGED,)), (1, plan.ways)):
             networks = (self.SETTINGS.networks * 2)[:count]
-            with mock.patch.object(checks, "check_config", lambda _, found=networks: Settings(6, 100, found)):
+            with mock.patch.object(checks, "check_config", lambda *_, found=networks: Settings(6, 100, found)):
                 plan = checks.check_again(wanted, plan)
             self.assertEqual((plan.ways, len(plan.settings.networks)), (ways, count))
-        with (mock.patch.object(checks, "check_config", lambda _: Settings(6, 100, self.SETTINGS.networks)),
+        with (mock.patch.object(checks, "check_config", lambda *_: Settings(6, 100, self.SETTINGS.networks)),
               self.assertRaisesRegex(Fault, "it allows 1 of them beside a monitor interface, and 2 networks")):
             checks.check_again(wanted, replace(plan, ways=(Way.ACCESS_POINTS,)))
