@@ -6,9 +6,7 @@ const BASIC: u8 = 0x80;
 /// What the bridge knows of a network.
 #[derive(Debug, Clone, PartialEq, Eq)]
 pub struct Network {
-    /// Its address.
     pub bssid: Address,
-    /// Its SSID.
     pub ssid: Vec<u8>,
     /// Its rates, as the octets of its elements: units of 500 kb/s, with the highest bit if a rate is basic.
     pub rates: Vec<u8>,

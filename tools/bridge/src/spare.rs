@@ -13,7 +13,6 @@ thread_local! {
     static SPARE: RefCell<Vec<Vec<u8>>> = RefCell::default();
 }
 
-/// A copy of a frame's octets.
 pub fn copy_of(octets: &[u8]) -> Vec<u8> {
     if octets.len() <= SHORT || octets.len() > ROOM {
         return octets.to_vec();

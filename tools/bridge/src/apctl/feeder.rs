@@ -55,7 +55,6 @@ impl Feeder {
         self.pending.is_empty() && self.ends.front().map_or(true, |end| *end > self.tick_end)
     }
 
-    /// Forgets the events that the program has read.
     fn forget_read(&mut self) {
         let unread = match self.descriptor().map(octets_in_pipe) {
             Some(Ok(octets)) => (octets + self.pending.len()) as u64,
@@ -119,7 +118,6 @@ impl Feeder {
         Ok(self.pending.is_empty())
     }
 
-    /// Closes the program's input.
     pub fn close(&mut self) {
         self.input = None;
     }
@@ -134,7 +132,6 @@ impl Feeder {
         self.record.iter_mut().for_each(Recording::finish);
     }
 
-    /// The record, if there is one.
     pub fn record(&self) -> Option<&Recording> {
         self.record.as_ref()
     }

@@ -69,7 +69,6 @@ impl Program {
         }
     }
 
-    /// The number of its process.
     pub fn process(&self) -> u32 {
         self.child.id()
     }
@@ -98,7 +97,6 @@ impl Program {
         Ok(false)
     }
 
-    /// The next answer of what was read.
     pub fn next_answer(&mut self) -> Result<Option<Answer>, Fault> {
         self.answers.next().map_err(|unknown| Fault::WrongAnswer(unknown.to_string()))
     }

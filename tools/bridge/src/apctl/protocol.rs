@@ -107,7 +107,6 @@ impl Answers {
         self.end += octets;
     }
 
-    /// This piece came.
     #[cfg(test)]
     pub fn take(&mut self, piece: &[u8]) {
         self.room(piece.len()).copy_from_slice(piece);
@@ -148,7 +147,6 @@ fn next_record(octets: &[u8]) -> Result<Option<(Answer, usize)>, Unknown> {
     }
 }
 
-/// What a record says.
 fn record_of(kind: u8, bssid: Address, octets: &[u8]) -> Option<Answer> {
     match kind {
         b'A' => Some(Answer::Air(bssid, copy_of(octets))),

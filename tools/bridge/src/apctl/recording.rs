@@ -212,7 +212,6 @@ impl Lines {
     }
 }
 
-/// How many of these octets are whole lines.
 fn whole_lines(octets: &[u8]) -> usize {
     octets.iter().rposition(|octet| *octet == b'\n').map_or(0, |place| place + 1)
 }
@@ -221,7 +220,6 @@ fn comment(text: &str) -> Vec<u8> {
     format!("# {text}\n").into_bytes()
 }
 
-/// Appends the line of an event.
 fn push_line(event: Event<'_>, to: &mut Vec<u8>) {
     match event {
         Event::Air(octets) => {

@@ -5,7 +5,6 @@ use crate::formats::frames::Address;
 use crate::os::clock::{Duration, Instant, SECOND};
 use crate::stations::station::State;
 
-/// The tables of one second ago are new enough.
 const NEW_ENOUGH: Duration = SECOND;
 /// Whoever waits for tables is answered without them after so long.
 const MOST_WAIT: Duration = SECOND;
@@ -15,7 +14,6 @@ const MOST_ASKERS: usize = 16;
 /// The most stations that a network knows, as a configuration says it.
 const MOST_KNOWN: usize = 10_000;
 
-/// Who asked for the tables.
 #[derive(Debug, Clone, Copy, PartialEq, Eq)]
 pub enum Asker {
     /// People, to whom they are shown.
@@ -24,7 +22,6 @@ pub enum Asker {
     Status,
 }
 
-/// The table of a network.
 #[derive(Debug, Clone, Default, PartialEq, Eq)]
 pub struct Table {
     /// The name's octets in digits.
@@ -53,7 +50,6 @@ impl Table {
         holding.max().map(|(kept, address)| (address, kept))
     }
 
-    /// The count of this name.
     pub fn count(&self, name: &str) -> Option<u64> {
         self.counts.iter().find(|(found, _)| found == name).map(|(_, number)| *number)
     }

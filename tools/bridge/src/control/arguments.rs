@@ -10,7 +10,6 @@ use crate::formats::frames::Address;
 use crate::network::Network;
 use crate::outbound::air::scheduler::MOST_WEIGHT;
 
-/// How it is called.
 const USAGE: &str = "bridge [--name NAME] --phy NAME --channel NUMBER --monitor NAME --interval UNITS \
                          [--by active-monitors|managed|access-points] [--idle SECONDS] [--no-update] \
                          [--socket DESCRIPTOR] [--alive] [--sends] [--record DESCRIPTOR:NAME] \
@@ -22,11 +21,8 @@ const USAGE: &str = "bridge [--name NAME] --phy NAME --channel NUMBER --monitor 
 pub struct Arguments {
     /// By which name `tools/live` was called, which each line that is told begins with.
     pub name: String,
-    /// The radio.
     pub phy: String,
-    /// Its channel.
     pub channel: u8,
-    /// The monitor interface.
     pub monitor: String,
     /// The beacon interval in time units.
     pub interval: u16,
@@ -50,9 +46,7 @@ pub struct Arguments {
     pub bounds: Option<u64>,
     /// The networks in the order of the configuration.
     pub networks: Vec<Network>,
-    /// The program.
     pub program: String,
-    /// Its configuration.
     pub config: String,
 }
 
@@ -75,7 +69,6 @@ const LEAST_BOUNDS: u64 = 1 << 20;
 const WEIGHTS: RangeInclusive<u8> = 1..=MOST_WEIGHT;
 
 impl Arguments {
-    /// Reads them.
     pub fn read(words: impl IntoIterator<Item = String>) -> Result<Arguments, WrongArguments> {
         let mut words = words.into_iter();
         let (mut monitor, mut interval, mut record, mut record_limit) = (None, None, None, None);
@@ -135,7 +128,6 @@ fn read_by(text: &str) -> Result<By, WrongArguments> {
     text.parse().map_err(|_| WrongArguments(format!("{text} is no kind of interfaces")))
 }
 
-/// A number within limits.
 fn read_number<N: FromStr + PartialOrd>(
     text: &str,
     what: &str,

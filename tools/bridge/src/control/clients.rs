@@ -33,12 +33,10 @@ const MOST_ANSWER: usize = 8 << 20;
 /// How much of an answer is written before something else is looked at.
 const MOST_AT_A_TIME: usize = 1 << 18;
 const ROOT: u32 = 0;
-/// How many places are root's alone.
 const PLACES_OF_ROOT: usize = 4;
 /// So long after nobody could connect, as when this machine has no descriptors left, that is tried again.
 const UNTIL_TRIED: Duration = SECOND;
 
-/// A question.
 #[derive(Debug, Clone, Copy, PartialEq, Eq)]
 pub enum Question {
     /// What is going on.
@@ -98,7 +96,6 @@ struct Awaited {
     writes: bool,
 }
 
-/// One that is connected.
 #[derive(Debug)]
 struct Client {
     stream: UnixStream,
@@ -121,7 +118,6 @@ struct Client {
 pub struct Clients {
     listener: UnixListener,
     clients: Vec<Option<Client>>,
-    /// How many they are.
     connected: usize,
     /// When it is tried again whether somebody can connect, if nobody could.
     closed_until: Option<Instant>,
@@ -241,7 +237,6 @@ impl Clients {
         self.connected > 0 && self.clients.iter().flatten().any(asks)
     }
 
-    /// Whether a client is root's.
     pub fn is_root(&self, place: usize) -> bool {
         self.clients[place].as_ref().map_or(false, |client| client.user == ROOT)
     }
@@ -274,7 +269,6 @@ impl Clients {
         waits.flatten().map(|(place, (question, since))| (place, question, since))
     }
 
-    /// Answers a client by a line.
     pub fn answer(&mut self, place: usize, line: Line, now: Instant) {
         if let Some(client) = &mut self.clients[place] {
             client.waits = None;

@@ -11,14 +11,11 @@ use crate::formats::frames::Address;
 use crate::os::clock::{Duration, Instant};
 use crate::stations::news::{Forgotten, News};
 
-/// How many events of a network are kept.
 const MOST_OF_NETWORK: usize = 1000;
-/// How many events an answer has at most.
 const MOST_TOLD: usize = 1000;
 /// How long the next answer waits for each event of the last one, so that telling them takes little of the bridge's time.
 const FOR_EACH: Duration = Duration::from_micros(20);
 
-/// What happened in a network.
 #[derive(Debug, Clone, PartialEq, Eq)]
 pub enum Happened {
     /// Something happened to a station.
@@ -119,7 +116,6 @@ impl Serialize for AnswerPart<'_> {
     }
 }
 
-/// An event of the network of this address.
 struct EventPart<'a>(Address, &'a Event);
 
 impl Serialize for EventPart<'_> {

@@ -28,7 +28,6 @@ pub enum Fault {
 }
 
 impl Fault {
-    /// A fault of the system, and of what.
     pub fn of(what: impl fmt::Display, fault: &io::Error) -> Fault {
         Fault::System { what: Some(what.to_string()), reason: reason(fault) }
     }
@@ -89,7 +88,6 @@ pub fn reason(fault: &io::Error) -> String {
     number.and_then(|number| text.strip_suffix(&number).map(str::to_owned)).unwrap_or(text)
 }
 
-/// Whether a fault is that of an interface that is down.
 pub fn is_down(fault: &io::Error) -> bool {
     fault.raw_os_error() == Some(libc::ENETDOWN)
 }

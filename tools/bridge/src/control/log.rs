@@ -56,14 +56,12 @@ enum Stream {
     Other,
 }
 
-/// How much a line matters.
 #[derive(Debug, Clone, Copy, PartialEq, Eq)]
 pub enum Level {
     /// Something isn't as it should be.
     Warning,
     /// A person may want to look.
     Notice,
-    /// So it goes.
     Info,
 }
 

@@ -12,7 +12,6 @@ use crate::outbound::air::MOST_OCTETS;
 use crate::stations::station::{State, Station};
 use crate::stations::tally::Tally;
 
-/// How many stations of a network are listed at most.
 const MOST_STATIONS: usize = 1000;
 
 /// The network of this place.

@@ -27,7 +27,6 @@ pub const VERSION: &str = match option_env!("BRIDGE_VERSION") {
 const FORMAT: u32 = 1;
 /// What follows the last network.
 pub const END: &str = "]}";
-/// How many faults of the program are kept.
 const MOST_FAULTS: usize = 32;
 
 /// The last faults that the program told, with their times.
@@ -75,43 +74,32 @@ pub struct OfRadio {
 
 /// What is known of all.
 pub struct Status<'a> {
-    /// The radio's name.
     pub phy: &'a str,
-    /// The channel.
     pub channel: u8,
     /// By which interfaces it acknowledges, if that is known.
     pub by: Option<By>,
-    /// How it does.
     pub radio: OfRadio,
     /// When the program was started.
     pub began: Instant,
-    /// The program's last faults.
     pub faults: &'a Faults,
     /// What is recorded, if something is.
     pub record: Option<&'a Recording>,
-    /// The beacons so far.
     pub beacons: &'a BeaconDelays,
-    /// What was dropped or lost.
     pub drops: Named,
-    /// What was left out.
     pub left_out: Named,
-    /// The networks in order.
     pub networks: &'a [Network],
     /// Of each network since when its wire is down, if it is.
     pub wires_down: Vec<Option<Instant>>,
     /// Of each network how often its wire was told that a station is here.
     pub updates: &'a [u64],
-    /// What the air was to each.
     pub accounts: &'a [Account],
     /// What became of units of each that nobody acknowledged.
     pub unacknowledged: &'a [Unacknowledged],
-    /// Their stations.
     pub table: &'a StationTable,
     /// How often stations of each came and went.
     pub tallies: &'a [Tally],
     /// What the program said of them.
     pub tables: &'a Tables,
-    /// The time.
     pub now: Instant,
 }
 
@@ -123,7 +111,6 @@ impl Status<'_> {
         text
     }
 
-    /// Appends the network of this place.
     pub fn add_network(&self, place: usize, to: &mut String) {
         if place > 0 {
             to.push(',');
@@ -131,7 +118,6 @@ impl Status<'_> {
         to.push_str(&line_of(&NetworkPart { status: self, place }));
     }
 
-    /// How long ago a moment was.
     pub(super) fn ago(&self, moment: Instant) -> Decimal {
         Decimal::seconds(self.now.since(moment))
     }
@@ -173,12 +159,10 @@ pub(super) struct Decimal {
 }
 
 impl Decimal {
-    /// A time in seconds.
     pub fn seconds(time: Duration) -> Decimal {
         Decimal { thousandths: time.as_millis() as u64 }
     }
 
-    /// A time in milliseconds.
     fn milliseconds(time: Duration) -> Decimal {
         Decimal { thousandths: time.as_micros() as u64 }
     }
@@ -201,7 +185,6 @@ macro_rules! object {
 
 pub(super) use object;
 
-/// A list of what this gives.
 pub(super) struct List<I>(pub(super) I);
 
 impl<I: Iterator + Clone> Serialize for List<I>

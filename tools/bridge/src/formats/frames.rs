@@ -26,10 +26,8 @@ const NO_DATA: u8 = 0x40;
 const TYPE_AT: usize = 12;
 const VLAN_TYPES: [[u8; 2]; 3] = [[0x81, 0x00], [0x88, 0xa8], [0x91, 0x00]];
 
-/// Something of each address.
 pub type AddressMap<V> = HashMap<Address, V, Seeds>;
 
-/// An address of 48 bits.
 #[derive(Debug, Clone, Copy, Eq, PartialOrd, Ord)]
 pub struct Address([u8; 6]);
 
@@ -46,10 +44,8 @@ impl Hash for Address {
 }
 
 impl Address {
-    /// The address of all.
     pub const BROADCAST: Address = Address([0xff; 6]);
 
-    /// The six octets.
     pub const fn of(octets: [u8; 6]) -> Address {
         Address(octets)
     }
@@ -60,7 +56,6 @@ impl Address {
         six.try_into().ok().map(Address)
     }
 
-    /// Its octets.
     pub fn octets(&self) -> &[u8; 6] {
         &self.0
     }
@@ -71,7 +66,6 @@ impl Address {
         u64::from_be_bytes([0, 0, a, b, c, d, e, f])
     }
 
-    /// Whether it is a group's.
     pub fn is_group(&self) -> bool {
         self.0[0] & 1 != 0
     }
@@ -113,7 +107,6 @@ impl FromStr for Address {
     }
 }
 
-/// The type of a frame.
 #[derive(Debug, Clone, Copy, PartialEq, Eq)]
 pub enum FrameType {
     /// Of the link itself.
@@ -136,12 +129,10 @@ impl<'a> Frame<'a> {
         (octets.len() >= LEAST).then_some(Frame(octets))
     }
 
-    /// All its octets.
     pub fn octets(&self) -> &'a [u8] {
         self.0
     }
 
-    /// Its type.
     pub fn frame_type(&self) -> FrameType {
         match self.0[0] >> 2 & 3 {
             0 => FrameType::Management,
@@ -151,7 +142,6 @@ impl<'a> Frame<'a> {
         }
     }
 
-    /// Whether it is a PS-Poll.
     pub fn is_ps_poll(&self) -> bool {
         self.frame_type() == FrameType::Control && self.0[0] >> 4 == PS_POLL
     }
@@ -161,7 +151,6 @@ impl<'a> Frame<'a> {
         self.frame_type() == FrameType::Data && self.0[0] & NO_DATA != 0
     }
 
-    /// Whether it is a unit of data.
     pub fn is_unit(&self) -> bool {
         self.frame_type() == FrameType::Data && !self.is_null()
     }

@@ -59,13 +59,11 @@ pub struct Outcome {
 /// A frame as a monitor interface shows it, without its frame check sequence.
 #[derive(Debug, Clone, Copy, PartialEq, Eq)]
 pub struct Captured<'a> {
-    /// Its octets.
     pub frame: &'a [u8],
     /// Whether its check sequence or its physical header was wrong.
     pub is_damaged: bool,
     /// What became of it, if this radio sent it.
     pub outcome: Option<Outcome>,
-    /// How it was heard, or sent.
     pub reception: Reception,
 }
 

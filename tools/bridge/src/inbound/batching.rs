@@ -19,12 +19,10 @@ pub struct Batching {
 }
 
 impl Batching {
-    /// Whether many come.
     pub fn are_many(&self) -> bool {
         self.are_many
     }
 
-    /// So many frames came.
     pub fn count(&mut self, frames: usize) {
         self.frames += frames;
     }

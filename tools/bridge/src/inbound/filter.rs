@@ -28,14 +28,12 @@ pub enum Shown {
 /// Which frames of a kind come: beacons that were sent, or neighbours' frames for all.
 #[derive(Debug, Clone, Copy, PartialEq, Eq)]
 pub enum Drawn {
-    /// Each.
     Each,
     /// Those for which the kernel draws a smaller number, of 32 bits.
     Below(u32),
 }
 
 impl Drawn {
-    /// One in a hundred.
     pub const ONE_IN_HUNDRED: Drawn = Drawn::Below(u32::MAX / 100);
 
     /// Where these come, and others don't.
@@ -138,7 +136,6 @@ pub fn acknowledged_filter(drawn: Drawn) -> Vec<sock_filter> {
     filter
 }
 
-/// The filter that lets nothing through.
 pub fn nothing_filter() -> Vec<sock_filter> {
     vec![returned(NONE)]
 }

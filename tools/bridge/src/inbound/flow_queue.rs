@@ -74,12 +74,10 @@ impl FlowQueue {
         }
     }
 
-    /// The oldest one.
     pub fn oldest(&self) -> Option<&Slot> {
         self.first.map(|place| &self.slots[place])
     }
 
-    /// How many wait of a flow.
     pub fn frames_of(&self, flow: &Flow) -> usize {
         self.flows.get(flow).map_or(0, |found| found.frames)
     }

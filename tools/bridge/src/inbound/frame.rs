@@ -42,7 +42,6 @@ pub(super) type Flow = (Address, Address);
 pub enum Priority {
     /// A probe request: a station looks for networks.
     Probe,
-    /// A unit of data.
     Data,
     /// Another management frame or a PS-Poll: a station asks for something, or sends what no network reads.
     Request,
@@ -85,16 +84,11 @@ impl fmt::Display for Priority {
     }
 }
 
-/// A frame that waits.
 #[derive(Debug, Clone, PartialEq, Eq)]
 pub struct InboundFrame {
-    /// What it is.
     pub(super) priority: Priority,
-    /// Its sender and receiver.
     pub(super) flow: Flow,
-    /// When it came.
     pub arrived: Instant,
-    /// The frame.
     pub octets: Vec<u8>,
 }
 
@@ -117,7 +111,6 @@ impl InboundFrame {
         self.priority == Priority::Notice
     }
 
-    /// Whom it is for.
     pub fn receiver(&self) -> Address {
         self.flow.1
     }

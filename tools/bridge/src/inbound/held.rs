@@ -23,7 +23,6 @@ pub enum Holding {
     OwnAndWired,
 }
 
-/// A station that is held, and what waits with it.
 #[derive(Debug)]
 struct Held {
     holding: Holding,
@@ -138,12 +137,10 @@ impl HeldFrames {
         None
     }
 
-    /// Whether a frame was dropped so far.
     pub fn has_dropped(&self) -> bool {
         !self.dropped.is_empty()
     }
 
-    /// How many were dropped, of which source.
     pub fn dropped(&self) -> impl Iterator<Item = (Source, Dropped, u64)> + '_ {
         self.dropped.iter().map(|((source, what), number)| (*source, *what, *number))
     }

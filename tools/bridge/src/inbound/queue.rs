@@ -43,7 +43,6 @@ impl InboundQueue {
         InboundQueue { queues, sources, turn: 0, frames: 0, has_dropped: false, held: HeldFrames::default() }
     }
 
-    /// Changes a queue.
     fn change<A>(&mut self, queue: usize, change: impl FnOnce(&mut SourceQueue) -> A) -> A {
         let queue = &mut self.queues[queue];
         let before = queue.frames;
@@ -103,7 +102,6 @@ impl InboundQueue {
         None
     }
 
-    /// How many frames wait.
     pub fn len(&self) -> usize {
         self.frames + self.held.len()
     }
@@ -118,7 +116,6 @@ impl InboundQueue {
         self.held.has_frames()
     }
 
-    /// Whether a frame was dropped so far.
     pub fn has_dropped(&self) -> bool {
         self.has_dropped || self.held.has_dropped()
     }

@@ -9,27 +9,21 @@ use crate::os::clock::Instant;
 
 /// How many frames of a priority wait at most of one sender to one receiver.
 pub const MOST_OF_FLOW: usize = 32;
-/// The room of a queue.
 pub const MOST_FRAMES: usize = 8192;
 pub const MOST_OCTETS: usize = 2 << 20;
 
-/// Which frames were dropped.
 #[derive(Debug, Clone, Copy, PartialEq, Eq, Hash, PartialOrd, Ord)]
 pub struct Dropped {
-    /// What they were.
     pub priority: Priority,
-    /// Why.
     pub why: Why,
 }
 
-/// Why a frame was dropped.
 #[derive(Debug, Clone, Copy, PartialEq, Eq, Hash, PartialOrd, Ord)]
 pub enum Why {
     /// It waited too long.
     Late,
     /// Too many younger ones of its sender to its receiver waited.
     Crowded,
-    /// Its queue was full.
     Full,
     /// Its station fell asleep or woke, and too many younger ones waited with it, or too many of its network.
     Held,

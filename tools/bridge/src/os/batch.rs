@@ -83,7 +83,6 @@ impl Batch {
         Ok(self.used)
     }
 
-    /// The packets that were read.
     pub fn packets(&self) -> impl Iterator<Item = Packet<'_>> {
         (0..self.used).map(move |place| self.packet(place))
     }

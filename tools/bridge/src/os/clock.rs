@@ -6,9 +6,7 @@ use std::time::SystemTime;
 
 use crate::os::timer::{monotonic, since_boot};
 
-/// A second.
 pub const SECOND: Duration = Duration::from_secs(1);
-/// A millisecond.
 pub const MILLISECOND: Duration = Duration::from_millis(1);
 const NANOS_PER_SECOND: u64 = 1_000_000_000;
 const NANOS_PER_MILLISECOND: u64 = 1_000_000;
@@ -213,7 +211,6 @@ impl Sub<Duration> for Instant {
     }
 }
 
-/// A duration in nanoseconds.
 pub const fn nanos(time: Duration) -> u64 {
     time.0
 }

@@ -28,7 +28,6 @@ pub fn wait_for_one(descriptor: BorrowedFd<'_>, most: Duration) -> io::Result<()
 /// What came of the descriptor that was added with this number.
 #[derive(Debug, Clone, Copy, PartialEq, Eq)]
 pub struct Came {
-    /// The number.
     pub number: u64,
     /// Whether it can be read, or was closed, or has a fault.
     pub can_read: bool,
@@ -36,7 +35,6 @@ pub struct Came {
     pub can_write: bool,
 }
 
-/// The descriptors that are waited for.
 #[derive(Debug)]
 pub struct Epoll {
     descriptor: OwnedFd,
@@ -46,7 +44,6 @@ pub struct Epoll {
 }
 
 impl Epoll {
-    /// None yet.
     pub fn new() -> io::Result<Epoll> {
         // SAFETY: no memory is handed over; the descriptor is owned from here on.
         let descriptor = unsafe { OwnedFd::from_raw_fd(checked(libc::epoll_create1(libc::EPOLL_CLOEXEC))?) };

@@ -19,7 +19,6 @@ enum Room {
 /// An interface by which frames are sent, and whether it has room.
 #[derive(Debug)]
 pub struct Gate<P> {
-    /// The interface.
     pub port: P,
     room: Room,
 }

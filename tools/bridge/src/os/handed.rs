@@ -64,7 +64,6 @@ pub fn receive_handed(
     Ok(found)
 }
 
-/// Whether descriptors come with a message.
 fn is_of_descriptors(message: &ControlMessage<'_>) -> bool {
     (message.level, message.kind) == (libc::SOL_SOCKET, libc::SCM_RIGHTS)
 }

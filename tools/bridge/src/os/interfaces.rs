@@ -31,12 +31,10 @@ impl<P: Port> Interfaces<P> {
         Interfaces { acknowledged: Some(port), ..self }
     }
 
-    /// The wire of the network of this place.
     pub fn wire(&mut self, place: usize) -> Option<&mut Gate<P>> {
         self.wires.get_mut(place).and_then(Option::as_mut)
     }
 
-    /// All interfaces.
     pub fn gates(&mut self) -> impl Iterator<Item = &mut Gate<P>> {
         std::iter::once(&mut self.monitor).chain(self.wires.iter_mut().flatten())
     }

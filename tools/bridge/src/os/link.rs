@@ -12,7 +12,6 @@ use crate::os::system_call::checked;
 /// What is asked of an interface by ioctl(2): its name, and whether it is up.
 pub(super) const ASKED: [c_ulong; 2] = [libc::SIOCGIFNAME, libc::SIOCGIFFLAGS];
 
-/// How an interface is.
 #[derive(Debug, Clone, Copy, PartialEq, Eq)]
 pub enum Link {
     /// Frames go.

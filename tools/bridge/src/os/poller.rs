@@ -8,7 +8,6 @@ use crate::os::timer::Timer;
 
 type Outcome = Result<(), Fault>;
 
-/// What is waited for.
 #[derive(Debug, Clone, Copy, PartialEq, Eq)]
 pub enum Token {
     /// Requests of `tools/live`.
@@ -19,7 +18,6 @@ pub enum Token {
     Input,
     /// The time that was set.
     Clock,
-    /// The monitor interface.
     Monitor,
     /// The frames that it shows as acknowledged.
     Acknowledged,
@@ -31,7 +29,6 @@ pub enum Token {
     Wire(usize),
 }
 
-/// How many clients there are at most.
 pub const MOST_CLIENTS: usize = 16;
 const FIRST_CLIENT: u64 = 7;
 const LAST_CLIENT: u64 = FIRST_CLIENT + MOST_CLIENTS as u64 - 1;
@@ -67,10 +64,8 @@ impl Token {
     }
 }
 
-/// What came.
 #[derive(Debug, Clone, Copy, PartialEq, Eq)]
 pub struct Ready {
-    /// Of what.
     pub token: Token,
     /// Whether something can be read, or was closed, or has a fault.
     pub can_read: bool,
@@ -78,7 +73,6 @@ pub struct Ready {
     pub can_write: bool,
 }
 
-/// What one waits for.
 pub struct Poller {
     epoll: Epoll,
     clock: Timer,

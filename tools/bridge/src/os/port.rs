@@ -33,7 +33,6 @@ pub struct Packet<'a> {
 pub trait Port {
     /// By which one waits for it, unless it was closed.
     fn descriptor(&self) -> Option<BorrowedFd<'_>>;
-    /// The name of its interface.
     fn interface(&self) -> &str;
     /// Reads as many packets as wait and fit, and answers how many: fewer than were asked for if no more wait.
     fn receive(&mut self, batch: &mut Batch) -> io::Result<usize>;
@@ -46,7 +45,6 @@ pub trait Port {
     fn count_dropped(&mut self) -> u64;
     /// How many octets the interface was given and hasn't sent yet, what the kernel keeps beside them included.
     fn unsent(&self) -> io::Result<usize>;
-    /// How the interface is.
     fn link(&self) -> io::Result<Link> {
         Ok(Link::Up)
     }
@@ -59,6 +57,5 @@ pub trait Port {
 
 /// What is made of a socket that was handed over.
 pub trait OfSocket: Port {
-    /// The port of this interface, whose socket this is.
     fn of(interface: &str, socket: OwnedFd) -> Self;
 }

@@ -51,7 +51,6 @@ const RUNS: u32 = libc::PROT_EXEC as u32;
 const IS_THREAD: u32 = libc::CLONE_THREAD as u32;
 /// Which argument of sendto(2) is the address.
 const ADDRESS: u32 = 4;
-/// The most steps of a list.
 const MOST_STEPS: usize = 512;
 /// What the bridge asks of its descriptors by ioctl(2): how much waits to be read or sent, to wait for nothing, and the
 /// name and the flags of an interface.

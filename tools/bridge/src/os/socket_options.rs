@@ -20,7 +20,6 @@ unsafe impl OfNumbers for c_int {}
 // SAFETY: it has three numbers.
 unsafe impl OfNumbers for libc::ucred {}
 
-/// Sets an option of a socket.
 pub(super) fn set_option<T>(socket: BorrowedFd<'_>, level: c_int, name: c_int, value: &T) -> io::Result<()> {
     let (place, length) = ((value as *const T).cast::<c_void>(), size_of::<T>() as u32);
     // SAFETY: the kernel reads as many octets as the value has.

@@ -41,7 +41,6 @@ impl Timer {
         Ok(Timer(unsafe { OwnedFd::from_raw_fd(checked(libc::timerfd_create(libc::CLOCK_MONOTONIC, flags))?) }))
     }
 
-    /// By which one waits for it.
     pub fn descriptor(&self) -> BorrowedFd<'_> {
         self.0.as_fd()
     }

@@ -4,10 +4,8 @@ use std::io::{self, ErrorKind};
 
 use crate::control::faults::{reason, tell};
 
-/// Counts with their names, for people.
 pub type Counts = BTreeMap<String, u64>;
 
-/// Adds to a count.
 pub fn count(counts: &mut Counts, what: &str, number: u64) {
     match counts.get_mut(what) {
         Some(found) => *found += number,
@@ -42,7 +40,6 @@ impl Refused {
         self.0.push(Refusal { fault: known, what, frames: 1 });
     }
 
-    /// Adds what was refused to these counts.
     pub fn add_to(&self, counts: &mut Counts) {
         self.0.iter().for_each(|refusal| count(counts, &refusal.what, refusal.frames));
     }

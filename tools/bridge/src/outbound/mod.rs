@@ -23,7 +23,6 @@ use crate::outbound::wire::WireQueue;
 /// What waits to be sent of all networks, on the air and by their wires.
 #[derive(Debug)]
 pub struct Outbound {
-    /// What goes on the air.
     pub air: Transmitter,
     monitor: MonitorSender,
     /// Of each network.
@@ -73,7 +72,6 @@ impl Outbound {
         counts
     }
 
-    /// The place of the network with this address.
     pub fn place_of(&self, bssid: &Address) -> Option<Place> {
         self.places.of(bssid)
     }
@@ -140,7 +138,6 @@ impl Outbound {
         monitor::expire(&mut self.air, interfaces, now);
     }
 
-    /// Sends the beacons that wait.
     pub fn flush_beacons<P: Port>(&mut self, interfaces: &mut Interfaces<P>) {
         self.monitor.flush_beacons(&mut self.air, interfaces);
     }

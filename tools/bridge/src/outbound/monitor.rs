@@ -30,12 +30,10 @@ pub struct MonitorSender {
 }
 
 impl MonitorSender {
-    /// What the interface refused.
     pub fn refused(&self) -> &Refused {
         &self.refused
     }
 
-    /// Sends the beacons that wait.
     pub fn flush_beacons<P: Port>(&mut self, air: &mut Transmitter, interfaces: &mut Interfaces<P>) {
         let gate = &mut interfaces.beacons;
         gate.unblock();

@@ -30,7 +30,6 @@ pub struct WireQueue {
 }
 
 impl WireQueue {
-    /// How many frames were sent.
     pub fn sent_frames(&self) -> u64 {
         self.sent
     }
@@ -46,7 +45,6 @@ impl WireQueue {
         }
     }
 
-    /// Whether nothing waits.
     pub fn is_empty(&self) -> bool {
         self.leaving.is_empty()
     }

@@ -29,16 +29,12 @@ struct NetworkReplay {
     rows: AddressMap<Row>,
 }
 
-/// What came of it.
 #[derive(Debug, Default, PartialEq, Eq)]
 pub struct Restored {
-    /// The stations that stay.
     pub stay: Vec<(Member, KeptStation)>,
-    /// The stations that have to join again.
     pub again: Vec<Member>,
     /// Those of which the program has to be told that they have left.
     pub leave: Vec<Member>,
-    /// How many answers were swallowed.
     pub swallowed: usize,
 }
 
@@ -111,7 +107,6 @@ impl Replay {
         });
     }
 
-    /// Whether nothing is to be said.
     pub fn is_empty(&self) -> bool {
         self.events.is_empty() && self.unfit.is_empty()
     }
@@ -146,7 +141,6 @@ impl Replay {
         }
     }
 
-    /// Takes a line of the tables.
     fn take_line(&mut self, line: &str) {
         let words: Vec<&str> = line.split(' ').collect();
         match words[..] {
@@ -170,7 +164,6 @@ impl Replay {
         self.has_asked && self.ended >= self.networks.len()
     }
 
-    /// What came of it.
     pub fn restored(self) -> Restored {
         let mut found = Restored { again: self.unfit, swallowed: self.swallowed, ..Restored::default() };
         for (place, network) in self.networks.into_iter().enumerate() {
@@ -203,7 +196,6 @@ pub enum ReplayEvent {
 }
 
 impl ReplayEvent {
-    /// The event.
     pub fn event(&self) -> Event<'_> {
         match self {
             ReplayEvent::Frame(octets) => Event::Air(octets),

@@ -13,20 +13,15 @@ const MOST_AGE: Duration = Duration::from_secs(60);
 /// Of which radio a state is, and how that was served.
 #[derive(Debug, Clone, PartialEq, Eq)]
 pub struct Setting {
-    /// The radio's name.
     pub phy: String,
-    /// Its channel.
     pub channel: u8,
     /// The beacon interval in time units.
     pub interval: u16,
 }
 
-/// What a bridge leaves of a network.
 #[derive(Debug, Clone, PartialEq, Eq)]
 pub struct NetworkState {
-    /// Its address.
     pub bssid: Address,
-    /// Its SSID.
     pub ssid: Vec<u8>,
     /// Its rates, as the octets of its elements.
     pub rates: Vec<u8>,
@@ -41,14 +36,12 @@ pub struct NetworkState {
 /// What a bridge leaves for the next one.
 #[derive(Debug, Clone, PartialEq, Eq)]
 pub struct State {
-    /// Of which radio it is.
     pub setting: Setting,
     /// When it was written, by the clock that nobody sets and that goes on while the machine is suspended: its age is
     /// what stations have noticed.
     pub written: Instant,
     /// Whether the bridge wrote it at its end: then all in it is as it was then.
     pub is_last: bool,
-    /// The networks.
     pub networks: Vec<NetworkState>,
 }
 

@@ -20,7 +20,6 @@ pub struct StateDraft {
     changes: u64,
 }
 
-/// What a step made.
 #[derive(Debug)]
 pub enum Made {
     /// A part.

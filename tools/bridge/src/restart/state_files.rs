@@ -20,7 +20,6 @@ const AT_LEAST_EVERY: Duration = Duration::from_secs(20);
 /// How many octets are written at once.
 const MOST_AT_ONCE: usize = 1 << 16;
 
-/// The two files.
 #[derive(Debug)]
 pub struct StateFiles {
     files: [File; 2],

@@ -65,7 +65,6 @@ impl<P: OfSocket> Bridge<P> {
         Ok(())
     }
 
-    /// The networks are open.
     fn take_ready(&mut self) {
         if let Phase::Opening { handed, .. } = &mut self.phase {
             self.phase = Phase::SettingUp { handed: handed.take() };

@@ -46,7 +46,6 @@ impl BeaconTiming {
         }
     }
 
-    /// How long an interval is.
     pub(super) fn length(&self) -> Duration {
         self.ticks.length()
     }
@@ -67,7 +66,6 @@ impl BeaconTiming {
         self.said + TO_ALL_BEACONS.min(self.ticks.length() / 2)
     }
 
-    /// Whether an interval is to begin at this time.
     pub(super) fn is_due(&self, time: Instant) -> bool {
         time >= self.ticks.due()
     }

@@ -9,7 +9,6 @@ const INTERVALS: u32 = 3;
 /// After so long without one, each beacon that is shown is looked at.
 const TO_DOUBT: Duration = Duration::from_millis(2500);
 
-/// What is told of the radio.
 #[derive(Debug, Clone, Copy, PartialEq, Eq)]
 pub enum Told {
     /// It shows no beacon as sent any more.
@@ -50,7 +49,6 @@ impl BeaconWatch {
         BeaconWatch { limit, networks, looks_at_each, unseen: None, unsent_since: None, again_after: None }
     }
 
-    /// The radio was given a beacon.
     pub fn given(&mut self, now: Instant) {
         let is_looked_at = self.looks_at_each || self.wants_each(now);
         self.unseen.get_or_insert(Unseen { since: now, looked_at: 0 }).looked_at += usize::from(is_looked_at);

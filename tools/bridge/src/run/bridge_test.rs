@@ -209,7 +209,6 @@ impl Default for Surroundings {
     }
 }
 
-/// The files of a state.
 fn files_of(state: &str) -> [OwnedFd; 2] {
     let mut options = fs::OpenOptions::new();
     options.read(true).write(true).create(true);
@@ -335,7 +334,6 @@ fn setting(interval: u16) -> Setting {
     Setting { phy: "phy0".into(), channel: 6, interval }
 }
 
-/// Asks the bridge by its socket.
 fn ask(stage: &Stage, question: &str) -> String {
     let mut stream = UnixStream::connect(stage.folder.join("socket")).unwrap();
     stream.write_all(format!("{question}\n").as_bytes()).unwrap();

@@ -33,7 +33,6 @@ impl BeaconDelays {
         }
     }
 
-    /// How late they were on the average.
     pub fn mean(&self) -> Duration {
         Duration::from_nanos(nanos(self.total) / self.sent.max(1))
     }
@@ -61,7 +60,6 @@ impl Ticks {
         self.due
     }
 
-    /// How long an interval is.
     pub fn length(&self) -> Duration {
         self.length
     }

@@ -214,7 +214,6 @@ fn next_tick(stage: &Stage) -> usize {
     count()
 }
 
-/// A frame by which a station wakes.
 fn wake() -> Vec<u8> {
     Unit { control: [0x48, 0x01], sequence: 0x80, ..Unit::default() }.octets()
 }

@@ -5,7 +5,6 @@ use crate::os::clock::Instant;
 use crate::os::interfaces::Interfaces;
 use crate::restart::replay::Replay;
 
-/// How far the bridge is.
 pub(super) enum Phase<P> {
     /// The program opens the networks, until this time.
     Opening {
@@ -65,7 +64,6 @@ impl<P> Phase<P> {
         true
     }
 
-    /// Whether the bridge ends.
     pub(super) fn is_ending(&self) -> bool {
         matches!(self, Phase::Ending(_))
     }

@@ -19,7 +19,6 @@ use crate::run::tuning::{Found, Tuning};
 /// How often an interface that is down is looked at.
 const LOOK_EVERY: Duration = Duration::from_millis(20);
 
-/// An interface that is down.
 #[derive(Debug)]
 struct Down {
     since: Instant,
@@ -27,7 +26,6 @@ struct Down {
     is_told: bool,
 }
 
-/// What is known of the radio.
 #[derive(Debug)]
 pub(super) struct Radio {
     pub(super) beacons: BeaconWatch,
@@ -223,7 +221,6 @@ fn tell_beacons(told: Told) {
     }
 }
 
-/// A time for people.
 struct Seconds(Duration);
 
 impl fmt::Display for Seconds {

@@ -174,7 +174,6 @@ impl<P: Port> Running<P> {
         }
     }
 
-    /// The bridge was woken.
     pub(super) fn begin_waking(&mut self) {
         self.reading.wakings += 1;
         self.reading.is_behind = false;

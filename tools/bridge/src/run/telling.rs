@@ -49,7 +49,6 @@ impl<P: Port> Running<P> {
         is_shown
     }
 
-    /// What is going on.
     pub(super) fn status<'a>(
         &'a mut self,
         manner: &'a Manner,
@@ -148,7 +147,6 @@ impl<P: Port> Running<P> {
         }
     }
 
-    /// Says what was done.
     pub(super) fn tell_counts(&mut self) {
         let Given { air, wires, ticks, tables, handed_back, without_checksums } = self.given;
         let given = [

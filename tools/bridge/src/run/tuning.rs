@@ -49,13 +49,11 @@ pub struct Tuning {
 }
 
 impl Tuning {
-    /// The radio was set to this channel.
     pub fn new(channel: u8) -> Tuning {
         let wanted = frequency_of(channel);
         Tuning { wanted, believed: wanted, doubt: None, heard_elsewhere: 0 }
     }
 
-    /// A frame was heard on this frequency.
     pub fn heard(&mut self, frequency: u16, now: Instant) {
         if frequency != self.wanted {
             self.heard_elsewhere += 1;
@@ -86,7 +84,6 @@ impl Tuning {
         self.doubt.is_some() || self.elsewhere().is_some()
     }
 
-    /// The frequency that the channel has.
     pub fn wanted(&self) -> u16 {
         self.wanted
     }

@@ -29,7 +29,6 @@ impl<P: Port> Running<P> {
         Ok(())
     }
 
-    /// The interface of the wire of the network of this place.
     pub(super) fn wire_of(&self, place: usize) -> Result<String, Fault> {
         let wire = self.networks.get(place).and_then(|network| network.wire.clone());
         wire.ok_or_else(|| Fault::Request("tools/live handed over the wire of no network".to_owned()))

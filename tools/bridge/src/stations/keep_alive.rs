@@ -60,7 +60,6 @@ enum Queue {
 }
 
 impl Queue {
-    /// That of a station.
     fn of(station: &Station) -> Queue {
         match station.state {
             State::Authenticated => Queue::Authenticated,

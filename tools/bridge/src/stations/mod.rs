@@ -93,7 +93,6 @@ impl Stations {
         Stations { log: Bounded::quiet(networks.len()), ..Stations::new(networks, most_silence) }
     }
 
-    /// The stations.
     pub fn table(&mut self) -> &mut StationTable {
         &mut self.table
     }
@@ -183,7 +182,6 @@ impl Stations {
         errand
     }
 
-    /// A frame goes to the wire of the network of this place.
     pub fn put_on_wire(&mut self, place: usize, frame: &[u8], now: Instant) {
         self.roaming.put(place, frame, now);
     }
@@ -312,7 +310,6 @@ impl Stations {
         number_beside(self.numbers[place])
     }
 
-    /// Tells what happened to stations.
     fn tell(&mut self, now: Instant) {
         for (place, more) in self.log.take_left_out(now) {
             let bssid = self.bssids[place];

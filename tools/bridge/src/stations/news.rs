@@ -4,7 +4,6 @@ use crate::control::log::Level;
 use crate::formats::frames::Address;
 use crate::os::clock::Duration;
 
-/// Why a station is forgotten.
 #[derive(Debug, Clone, Copy, PartialEq, Eq)]
 pub enum Forgotten {
     /// Nothing was heard of it for so long, and it didn't answer.
@@ -17,7 +16,6 @@ pub enum Forgotten {
     Moved,
 }
 
-/// What happened to a station.
 #[derive(Debug, Clone, Copy, PartialEq, Eq)]
 pub enum News {
     /// It joined, with this identifier and this listen interval.

@@ -97,7 +97,6 @@ impl Awaited {
     }
 }
 
-/// A station that moved.
 #[derive(Debug)]
 struct Moved {
     member: Member,

@@ -32,9 +32,7 @@ pub enum Move {
 /// What was sent to a station or heard of it: data with a unit, in whole frames.
 #[derive(Debug, Clone, Copy, Default, PartialEq, Eq)]
 pub struct Traffic {
-    /// Their octets.
     pub octets: u64,
-    /// Their number.
     pub frames: u64,
     /// The rate of the last one, in units of 500 kb/s, if the radio says it.
     pub rate: Option<u8>,
@@ -56,12 +54,9 @@ pub struct Asked {
     pub times: u32,
 }
 
-/// What is known of a station.
 #[derive(Debug, Clone, PartialEq, Eq)]
 pub struct Station {
-    /// How far it has joined.
     pub state: State,
-    /// Whether it dozes.
     pub dozes: bool,
     /// Whether it dozes by the last frame that was heard of it, which may still wait for the program.
     pub(super) will_doze: bool,
@@ -79,7 +74,6 @@ pub struct Station {
     pub to: Traffic,
     /// What was heard of it.
     pub from: Traffic,
-    /// Whether it was asked.
     pub asked: Asked,
     /// Whether the program is about to be told that it left.
     pub(super) is_leaving: bool,
@@ -105,13 +99,9 @@ impl Station {
 /// What a new program has to know of a station that is associated.
 #[derive(Debug, Clone, PartialEq, Eq)]
 pub struct KeptStation {
-    /// Its address.
     pub address: Address,
-    /// Its identifier.
     pub aid: u16,
-    /// Its listen interval.
     pub listen: u16,
-    /// Whether it dozes.
     pub dozes: bool,
     /// Whether it has dozed since it was associated.
     pub has_dozed: bool,

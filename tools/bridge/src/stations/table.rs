@@ -124,12 +124,10 @@ impl StationTable {
         }
     }
 
-    /// The place of a network.
     pub fn place_of(&self, bssid: &Address) -> Option<usize> {
         self.places.of(bssid)
     }
 
-    /// A station.
     pub fn station(&self, member: &Member) -> Option<&Station> {
         self.stations[member.0].get(&member.1)
     }

@@ -125,7 +125,6 @@ pub struct Recorder {
     pub longest: Option<usize>,
     /// The octets that it hasn't sent yet.
     pub unsent: usize,
-    /// Whether its interface is down.
     pub is_down: bool,
 }
 

@@ -12,7 +12,6 @@ pub enum Unsent {
     Crowded,
     /// No more of its network could wait.
     Full,
-    /// The interface refused it.
     Refused,
     /// Its station had left, or authenticated anew.
     Left,
@@ -54,7 +53,6 @@ pub struct Account {
 /// Units that went back to the program, since their station dozed.
 #[derive(Debug, Clone, Copy, Default, PartialEq, Eq)]
 pub struct HandedBack {
-    /// How many.
     pub units: u64,
     /// How many of them went back behind others of their station, some of which they had been before.
     pub out_of_order: u64,

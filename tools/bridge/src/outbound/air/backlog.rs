@@ -14,7 +14,6 @@ pub const MOST_KEPT: usize = MOST_KEPT_OCTETS / LONGEST_UNIT;
 /// The most frames that wait behind those of a station that were kept.
 const MOST_BEHIND: usize = 64;
 
-/// What waits for one station.
 #[derive(Debug, Default)]
 struct Backlog {
     kept: VecDeque<OutboundFrame>,
@@ -30,12 +29,10 @@ pub(super) struct Backlogs {
 }
 
 impl Backlogs {
-    /// Whether something waits for a station.
     pub fn waits(&self, station: Address) -> bool {
         !self.stations.is_empty() && self.stations.contains_key(&station)
     }
 
-    /// Whether nothing waits.
     pub fn is_empty(&self) -> bool {
         self.stations.is_empty()
     }

@@ -27,7 +27,6 @@ impl BeaconQueue {
         dropped.map(|(place, _)| place)
     }
 
-    /// Whether none waits.
     pub fn is_empty(&self) -> bool {
         self.packets.is_empty()
     }
@@ -41,7 +40,6 @@ impl Transmitter {
         }
     }
 
-    /// Whether beacons wait.
     pub fn has_beacons(&self) -> bool {
         !self.beacons.is_empty()
     }

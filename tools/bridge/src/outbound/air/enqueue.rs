@@ -116,7 +116,6 @@ impl Transmitter {
     }
 }
 
-/// Whether units for the group follow a beacon.
 fn announces_group_units(beacon: &[u8]) -> bool {
     let said = Frame::of(beacon).and_then(from_network);
     matches!(said, Some(FromNetwork::Beacon(tim)) if tim.dtim_count == 0 && tim.has_group_units)

@@ -23,7 +23,6 @@ enum Acknowledged {
 /// What is known of a station that falls asleep.
 #[derive(Debug)]
 pub struct Falling {
-    /// Whether the mark is answered.
     is_answered: bool,
     with_radio: Vec<WithRadio>,
     /// When outcomes are waited for no more.
@@ -51,7 +50,6 @@ impl Falling {
         self.is_answered.then_some(self.until)
     }
 
-    /// The mark is answered.
     pub fn take_answer(&mut self) {
         self.is_answered = true;
     }

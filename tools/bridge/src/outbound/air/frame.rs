@@ -17,7 +17,6 @@ pub enum Receiver {
     Groups,
     /// Management frames for those who aren't associated.
     Others,
-    /// What is for a station.
     Station(Address),
 }
 
@@ -80,7 +79,6 @@ impl FrameKind {
         }
     }
 
-    /// Whether it is a unit of data for a station.
     pub fn is_unit(self) -> bool {
         matches!(self, FrameKind::Unit | FrameKind::Kept | FrameKind::PollAnswer | FrameKind::Again)
     }
@@ -106,7 +104,6 @@ pub(super) const MOST_LIFETIME: Duration = Duration::from_millis(400);
 /// A unit that was kept is worth nothing once its station has acknowledged nothing for so long.
 pub(super) const MOST_UNDRAINED: Duration = Duration::from_secs(2);
 
-/// A frame that waits for the air.
 #[derive(Debug)]
 pub struct OutboundFrame {
     pub octets: Rc<Vec<u8>>,

@@ -55,7 +55,6 @@ impl Transmitter {
         self.sleepers.has_dozed(place, station, now);
     }
 
-    /// Whether a station dozes or falls asleep.
     pub fn is_asleep(&self, place: Place, station: Address) -> bool {
         matches!(self.sleepers.mode(place, station), Mode::Dozes | Mode::FallsAsleep)
     }

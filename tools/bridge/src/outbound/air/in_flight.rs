@@ -56,7 +56,6 @@ const MOST_STEP: Duration = Duration::from_millis(100);
 pub struct FrameName {
     /// The network that sends it.
     pub place: Place,
-    /// Who it is for.
     pub receiver: Address,
     /// Its fragment and sequence number.
     pub number: Option<u16>,
@@ -304,12 +303,10 @@ impl<W> InFlight<W> {
         });
     }
 
-    /// Whether a frame is missing.
     pub fn any_missing(&self) -> bool {
         self.frames.iter().any(|given| matches!(given.state, State::Missing { .. }))
     }
 
-    /// The names of all frames.
     pub fn names(&self) -> impl Iterator<Item = FrameName> + '_ {
         self.frames.iter().map(|given| given.name)
     }
@@ -347,12 +344,10 @@ impl<W> InFlight<W> {
         self.frames.front().map(|given| given.since + MOST_OUT)
     }
 
-    /// How many such frames it has.
     pub fn count(&self, is_such: impl Fn(&W) -> bool) -> usize {
         self.frames.iter().filter(|given| is_such(&given.what)).count()
     }
 
-    /// How many frames it has.
     pub fn len(&self) -> usize {
         self.frames.len()
     }

@@ -43,7 +43,6 @@ pub struct Unacknowledged {
 /// What is done once the radio has told of a frame.
 #[derive(Debug, Clone, PartialEq, Eq)]
 pub(super) enum Next {
-    /// Nothing.
     Nothing,
     /// What comes next for the station waits no more.
     Goes,
@@ -74,7 +73,6 @@ struct Last {
     was_again: bool,
 }
 
-/// What is known of a station.
 #[derive(Debug)]
 struct Link {
     rates: RateControl,
@@ -379,17 +377,14 @@ impl Link {
     }
 }
 
-/// The fragment and sequence number.
 fn number(frame: &[u8]) -> Option<u16> {
     Frame::of(frame)?.sequence_control()
 }
 
-/// Whether it is a frame of data.
 fn is_unit(frame: &[u8]) -> bool {
     Frame::of(frame).map_or(false, |frame| frame.frame_type() == FrameType::Data)
 }
 
-/// The frame as it is sent again.
 fn again(frame: &[u8]) -> Vec<u8> {
     let mut octets = frame.to_vec();
     octets[FLAGS_AT] |= RETRY;

@@ -139,7 +139,6 @@ struct Sent {
 }
 
 impl Sent {
-    /// Whether the bridge made it.
     fn is_own(&self) -> bool {
         matches!(self.kind, FrameKind::Own { .. })
     }
@@ -179,7 +178,6 @@ enum Reports {
     Wanted,
 }
 
-/// How the interface is.
 #[derive(Debug, Clone, Copy, PartialEq, Eq)]
 enum Interface {
     Up,
@@ -239,7 +237,6 @@ impl Transmitter {
         self.links.is_told()
     }
 
-    /// How many frames were sent.
     pub fn sent(&self) -> u64 {
         self.sent
     }
@@ -278,12 +275,10 @@ impl Transmitter {
         waits && self.interface == Interface::Up
     }
 
-    /// Whether nothing waits.
     pub fn is_empty(&self) -> bool {
         self.queue.is_empty() && self.awaiting_room.is_empty() && self.beacons.is_empty()
     }
 
-    /// Whether the interface is down.
     pub fn is_down(&self) -> bool {
         self.interface == Interface::Down
     }

@@ -17,14 +17,12 @@ use crate::os::clock::{Duration, Instant};
 use crate::outbound::air::frame::OutboundFrame;
 use crate::outbound::air::scheduler::Place;
 
-/// How many wait of a network.
 pub const MOST_WAITING: usize = 64;
 /// How often one goes: 50 a second take about 6 % of the air at 1 Mb/s.
 pub const EVERY: Duration = Duration::from_millis(20);
 /// How many more go at once if none went for a while.
 pub const MOST_SAVED: u32 = 8;
 
-/// The notices of all networks that wait.
 #[derive(Debug)]
 pub struct Notices {
     /// Of each network, the oldest first.
@@ -50,7 +48,6 @@ impl Notices {
         }
     }
 
-    /// Whether none waits.
     pub fn is_empty(&self) -> bool {
         self.waiting == 0
     }

@@ -10,7 +10,6 @@ use crate::outbound::air::scheduler::{Place, Scheduler};
 /// The most frames that wait of a network for one station, and for its groups or for all who aren't associated.
 pub const MOST_FOR_STATION: usize = 64;
 const MOST_FOR_OTHERS: usize = 256;
-/// The most octets that wait of a network.
 pub const MOST_OCTETS: usize = 2 << 20;
 /// How many frames wait for a station before what was kept for it waits apart.
 const MOST_BEFORE_BACKLOG: usize = 16;
@@ -35,7 +34,6 @@ impl Queue {
         Queue { accounts, backlogs, notices, scheduler: Scheduler::new(weights) }
     }
 
-    /// Whether no frame waits.
     pub fn is_empty(&self) -> bool {
         self.scheduler.is_empty() && self.notices.is_empty() && self.backlogs.iter().all(Backlogs::is_empty)
     }
@@ -243,7 +241,6 @@ impl Queue {
         }
     }
 
-    /// The first frame for a receiver is taken out.
     pub fn take_first(&mut self, place: Place, receiver: Receiver) -> Option<OutboundFrame> {
         let frame = self.scheduler.drop_first(place, receiver)?;
         self.count_out(place, &frame);
@@ -261,7 +258,6 @@ impl Queue {
     }
 }
 
-/// The most frames that wait for a receiver.
 fn most_for(receiver: Receiver) -> usize {
     match receiver {
         Receiver::Station(_) => MOST_FOR_STATION,

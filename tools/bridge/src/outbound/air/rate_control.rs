@@ -41,7 +41,6 @@ const UNITS_PER_SAMPLE: u32 = 16;
 const UNITS_PER_SAMPLE_BUSY: u32 = 64;
 const SAMPLE_EVERY: Duration = Duration::from_millis(500);
 
-/// How a unit is to be sent.
 #[derive(Debug, Clone, Copy, PartialEq, Eq)]
 pub struct Choice {
     /// In units of 500 kb/s.
@@ -52,7 +51,6 @@ pub struct Choice {
     pub is_sample: bool,
 }
 
-/// What is known of a rate.
 #[derive(Debug, Clone, Copy, PartialEq)]
 enum Known {
     /// Nothing: it is worth a sample at once.
@@ -91,7 +89,6 @@ fn with_more(share: f64, weight: f64, lost: i32, is_acknowledged: bool) -> f64 {
     }
 }
 
-/// A rate that the station and the network have.
 #[derive(Debug, Clone, Copy)]
 struct Rate {
     rate: u8,
@@ -101,7 +98,6 @@ struct Rate {
 }
 
 impl Rate {
-    /// A rate of which nothing is known.
     fn untried(rate: u8) -> Rate {
         Rate { rate, known: Known::Untried, most: most_throughput(rate) }
     }

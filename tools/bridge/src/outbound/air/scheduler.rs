@@ -59,7 +59,6 @@ impl<R: Copy + Ord + Hash, T> Scheduler<R, T> {
         }
     }
 
-    /// Changes what waits for a receiver of a network.
     fn change<A>(&mut self, place: Place, receiver: R, change: impl FnOnce(&mut ReceiverQueue<T>) -> A) -> A {
         let answer = self.networks[place].change(receiver, change);
         self.debts.set_waits(place, self.networks[place].waits());
@@ -133,12 +132,10 @@ impl<R: Copy + Ord + Hash, T> Scheduler<R, T> {
         frame
     }
 
-    /// The first frame for a receiver is dropped.
     pub fn drop_first(&mut self, place: Place, receiver: R) -> Option<T> {
         self.change(place, receiver, ReceiverQueue::pop)
     }
 
-    /// The last frame for a receiver is dropped.
     pub fn drop_last(&mut self, place: Place, receiver: R) -> Option<T> {
         self.change(place, receiver, |queue| {
             let last = queue.waiting.pop_back();
@@ -160,12 +157,10 @@ impl<R: Copy + Ord + Hash, T> Scheduler<R, T> {
         self.change(place, receiver, |queue| queue.is_held = true);
     }
 
-    /// A receiver is held no more.
     pub fn release(&mut self, place: Place, receiver: R) {
         self.change(place, receiver, |queue| queue.is_held = false);
     }
 
-    /// Whether a receiver is held.
     pub fn is_held(&self, place: Place, receiver: R) -> bool {
         self.networks[place].receivers.get(&receiver).map_or(false, |queue| queue.is_held)
     }
@@ -264,7 +259,6 @@ enum Turn {
     InTurn(u64),
 }
 
-/// The frames that wait for one receiver.
 #[derive(Debug)]
 struct ReceiverQueue<T> {
     waiting: VecDeque<T>,
@@ -275,7 +269,6 @@ struct ReceiverQueue<T> {
 }
 
 impl<T> ReceiverQueue<T> {
-    /// Its turn, if it waits for one.
     fn turn(&self) -> Option<Turn> {
         let turn = if self.urgent > 0 { Turn::Urgent(self.start) } else { Turn::InTurn(self.start) };
         (!self.is_held && !self.waiting.is_empty()).then_some(turn)
@@ -324,7 +317,6 @@ impl<R: Copy + Ord + Hash, T> NetworkQueues<R, T> {
         }
     }
 
-    /// Whether it counts as a network that waits.
     fn waits(&self) -> bool {
         !self.ready.is_empty() || self.waiting > 0 && !self.is_passed_over
     }

@@ -41,19 +41,15 @@ const FEW: usize = 64;
 /// By which number the answer to a mark is known.
 pub type Mark = u64;
 
-/// The octets of a unit as a frame.
 pub type Octets = Rc<Vec<u8>>;
 
-/// How a station is.
 #[derive(Debug, Clone, Copy, PartialEq, Eq)]
 pub enum Mode {
-    /// It is awake.
     Awake,
     /// It is awake, and what the program had kept for it comes.
     Wakes,
     /// It dozes, and what comes for it goes back.
     FallsAsleep,
-    /// It dozes.
     Dozes,
     /// It isn't associated any more, and what comes for it is worth nothing.
     Leaves,
@@ -145,7 +141,6 @@ impl Sleepers {
         }
     }
 
-    /// How a station is.
     pub fn mode(&self, place: Place, station: Address) -> Mode {
         self.networks[place].sleepers.get(&station).map_or(Mode::Awake, |sleeper| sleeper.mode)
     }
@@ -171,7 +166,6 @@ impl Sleepers {
         self.change(place, station, Mode::Dozes, None, now);
     }
 
-    /// A station wakes.
     pub fn wakes(&mut self, place: Place, station: Address, mark: Mark, now: Instant) {
         self.change(place, station, Mode::Wakes, Some(mark), now);
     }
@@ -196,7 +190,6 @@ impl Sleepers {
         dropped.len()
     }
 
-    /// A station joins, and is awake.
     pub fn joins(&mut self, place: Place, station: Address, now: Instant) {
         if self.mode(place, station) != Mode::Awake {
             self.change(place, station, Mode::Awake, None, now);
@@ -334,7 +327,6 @@ impl Sleepers {
         }
     }
 
-    /// What is to be done next.
     pub fn next(&mut self) -> Option<Step> {
         let step = self.steps.pop_front();
         if let Some(Step::HandBack { place, octets, .. }) = &step {
@@ -343,7 +335,6 @@ impl Sleepers {
         step
     }
 
-    /// Whether something is to be done.
     pub fn has_next(&self) -> bool {
         !self.steps.is_empty()
     }
