@@ -109,7 +109,7 @@ impl Recording {
     fn leave_out(&mut self, lines: &[u8]) {
         if self.left_out == 0 {
             let name = &self.name;
-            log::write_event(Level::Warning, format_args!("--record {name}: too slow, so lines are left out there"));
+            log::warn(format_args!("--record {name}: too slow, so lines are left out there"));
         }
         self.left_out += lines.iter().filter(|octet| **octet == b'\n').count();
     }
@@ -122,7 +122,7 @@ impl Recording {
         }
         let told = comment(&format!("{lines} lines are missing here: the record was too slow"));
         if self.writer.push(told).is_ok() {
-            log::write_event(Level::Notice, format_args!("--record {name}: {lines} lines were left out there"));
+            log::notice(format_args!("--record {name}: {lines} lines were left out there"));
             self.left_out = 0;
         }
     }
@@ -133,10 +133,9 @@ impl Recording {
         if left > 0 {
             self.writer.abandon();
             let name = &self.name;
-            log::write_event(
-                Level::Warning,
-                format_args!("--record {name}: too slow: its last {left} octets are left out, and a line may be cut"),
-            );
+            log::warn(format_args!(
+                "--record {name}: too slow: its last {left} octets are left out, and a line may be cut"
+            ));
         }
     }
 

@@ -14,7 +14,7 @@ use std::os::unix::net::{UnixListener, UnixStream};
 use std::rc::Rc;
 
 use crate::control::faults::{self, Fault};
-use crate::control::log::{self, Level};
+use crate::control::log;
 use crate::control::status::error;
 use crate::formats::frames::Address;
 use crate::os::clock::{Duration, Instant, SECOND};
@@ -160,7 +160,7 @@ impl Clients {
         if !self.has_told {
             self.has_told = true;
             let text = format!("nobody can connect to the bridge's socket now: {}", faults::reason(fault));
-            log::write_event(Level::Warning, text);
+            log::warn(text);
         }
         self.closed_until = Some(now + UNTIL_TRIED);
         poller.remove(self.descriptor())
@@ -289,7 +289,7 @@ impl Clients {
                     let text = format!(
                         "a client of user {user} took nothing of its answer for {seconds} seconds: it was closed"
                     );
-                    log::write_event(Level::Notice, text);
+                    log::notice(text);
                     *slot = None;
                 } else {
                     client.wait_for(poller, place)?;

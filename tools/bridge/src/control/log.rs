@@ -92,6 +92,16 @@ pub fn write_event(level: Level, text: impl fmt::Display) {
     log.write(line);
 }
 
+/// Writes a line of what happened now, which isn't as it should be.
+pub fn warn(text: impl fmt::Display) {
+    write_event(Level::Warning, text);
+}
+
+/// Writes a line of what happened now, at which a person may want to look.
+pub fn notice(text: impl fmt::Display) {
+    write_event(Level::Notice, text);
+}
+
 /// Writes a line of the program as it stands.
 pub fn write_plain(line: &str) {
     log().write(format!("{line}\n"));

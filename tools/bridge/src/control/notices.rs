@@ -6,7 +6,7 @@ use std::io::{self, Write};
 use std::sync::{Mutex, MutexGuard, PoisonError};
 
 use crate::control::faults::Fault;
-use crate::control::log::{self, Level};
+use crate::control::log;
 use crate::os::background_writer::BackgroundWriter;
 use crate::os::clock::Duration;
 
@@ -92,7 +92,7 @@ impl Notices {
             Some(_) => {
                 self.dropped += 1;
                 if self.dropped == 1 {
-                    log::write_event(Level::Warning, "tools/live takes no notices: those that have no room are lost");
+                    log::warn("tools/live takes no notices: those that have no room are lost");
                 }
             }
         }
@@ -102,10 +102,7 @@ impl Notices {
         let left = self.writer.as_ref().map_or(0, |writer| writer.finish(most));
         if left > 0 || self.dropped > 0 {
             let dropped = self.dropped;
-            log::write_event(
-                Level::Warning,
-                format_args!("tools/live took no notices: {dropped} are lost, and {left} octets of others"),
-            );
+            log::warn(format_args!("tools/live took no notices: {dropped} are lost, and {left} octets of others"));
         }
     }
 }

@@ -5,7 +5,7 @@ use std::io::{self, Read, Seek, SeekFrom, Write};
 use std::os::unix::io::OwnedFd;
 
 use crate::control::faults::reason;
-use crate::control::log::{self, Level};
+use crate::control::log;
 use crate::os::clock::{Duration, Instant, SECOND};
 
 /// How many octets of a file are read at most.
@@ -123,18 +123,15 @@ impl StateFiles {
                 self.next = 1 - self.next;
                 self.written = Some((now, octets, changes));
                 if self.failed.take().is_some() {
-                    log::write_event(Level::Notice, "the state of stations is written again");
+                    log::notice("the state of stations is written again");
                 }
             }
             Err(fault) => {
                 if self.failed.replace(now).is_none() {
                     let text = reason(&fault);
-                    log::write_event(
-                        Level::Warning,
-                        format_args!(
-                            "the state of stations can't be written now: {text}: after a crash they join again"
-                        ),
-                    );
+                    log::warn(format_args!(
+                        "the state of stations can't be written now: {text}: after a crash they join again"
+                    ));
                 }
             }
         }

@@ -7,7 +7,7 @@ use crate::apctl::protocol::{answered_mark, Answer, Event};
 use crate::apctl::tables::Asker;
 use crate::control::clients::Line;
 use crate::control::faults::Fault;
-use crate::control::log::{self, Level};
+use crate::control::log;
 use crate::control::notices::{say, Notice};
 use crate::formats::frames::{Address, BEACON};
 use crate::os::clock::{now, Instant, SECOND};
@@ -82,7 +82,7 @@ impl<P: OfSocket> Bridge<P> {
         }
         if line.starts_with("fault ") {
             if self.faults.push(line, time) {
-                log::write_event(Level::Warning, line);
+                log::warn(line);
             }
         } else if self.phase.still_running().map_or(true, |running| running.take_table_line(line, time)) {
             log::write_plain(line);
@@ -92,7 +92,7 @@ impl<P: OfSocket> Bridge<P> {
     /// Tells how many faults of the program the log doesn't have, if there were more in a second than it takes.
     pub(super) fn tell_faults(&mut self) {
         if let Some(more) = self.faults.take_left_out(self.time) {
-            log::write_event(Level::Warning, format_args!("{more} more faults of the program in one second"));
+            log::warn(format_args!("{more} more faults of the program in one second"));
         }
     }
 

@@ -4,7 +4,7 @@ use std::collections::BTreeMap;
 use super::running::{Ended, FirstBeacon, Running};
 use super::{Bridge, Phase};
 use crate::control::faults::Fault;
-use crate::control::log::{self, Level};
+use crate::control::log;
 use crate::control::notices::{say, Notice};
 use crate::inbound::filter::{nothing_filter, Shown};
 use crate::network::Network;
@@ -74,12 +74,9 @@ impl<P: OfSocket> Bridge<P> {
 /// Tells which networks keep more units than have room on their way to a station that wakes.
 fn tell_of_quotas(networks: &[Network]) {
     for network in networks.iter().filter(|network| network.quota as usize > MOST_KEPT) {
-        log::write_event(
-            Level::Warning,
-            format_args!(
-                "{} keeps {} units, and {MOST_KEPT} of 2,304 octets have room when a station wakes: it may lose the others",
-                network.bssid, network.quota
-            ),
-        );
+        log::warn(format_args!(
+            "{} keeps {} units, and {MOST_KEPT} of 2,304 octets have room when a station wakes: it may lose the others",
+            network.bssid, network.quota
+        ));
     }
 }

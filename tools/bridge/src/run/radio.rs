@@ -4,7 +4,7 @@ use std::{fmt, io};
 use super::running::{FirstBeacon, Running};
 use super::Bridge;
 use crate::control::faults::Fault;
-use crate::control::log::{self, Level};
+use crate::control::log;
 use crate::control::notices::{say, Notice};
 use crate::control::status::OfRadio;
 use crate::formats::frames::Address;
@@ -115,10 +115,7 @@ impl<P: Port> Running<P> {
         match port.link() {
             Ok(Link::Up) => {
                 let after = time.since(down.since);
-                log::write_event(
-                    Level::Notice,
-                    format_args!("{} went down, and is up again after {}", port.interface(), Seconds(after)),
-                );
+                log::notice(format_args!("{} went down, and is up again after {}", port.interface(), Seconds(after)));
                 self.radio.down = None;
                 self.outbound.air.came_up(after, time);
                 self.interfaces.forget_faults();
@@ -130,10 +127,9 @@ impl<P: Port> Running<P> {
             Ok(Link::Down) | Err(_) => {
                 if !std::mem::replace(&mut down.is_told, true) {
                     let name = port.interface();
-                    log::write_event(
-                        Level::Warning,
-                        format_args!("{name} is down: what is to be sent waits, or is dropped once it is too late"),
-                    );
+                    log::warn(format_args!(
+                        "{name} is down: what is to be sent waits, or is dropped once it is too late"
+                    ));
                 }
             }
         }
@@ -183,20 +179,14 @@ fn tell_tuning(found: Found, tuning: &Tuning) {
     let wanted = tuning.wanted();
     match found {
         Found::Here => {
-            log::write_event(
-                Level::Notice,
-                format_args!("the radio hears on {wanted} MHz again, which is its channel"),
-            );
+            log::notice(format_args!("the radio hears on {wanted} MHz again, which is its channel"));
             say(&Notice::Here);
         }
         Found::Elsewhere(frequency) => {
-            log::write_event(
-                Level::Warning,
-                format_args!(
-                    "the radio hears on {frequency} MHz, and not on {wanted} MHz, which is its channel: something took it \
+            log::warn(format_args!(
+                "the radio hears on {frequency} MHz, and not on {wanted} MHz, which is its channel: something took it \
                      elsewhere (docs/OPERATING.md, 'The radio')"
-                ),
-            );
+            ));
             say(&Notice::Elsewhere(frequency));
         }
     }
@@ -205,17 +195,11 @@ fn tell_tuning(found: Found, tuning: &Tuning) {
 fn tell_beacons(told: Told) {
     match told {
         Told::Sending(after) => {
-            log::write_event(
-                Level::Notice,
-                format_args!("the radio shows beacons as sent again, after {}", Seconds(after)),
-            );
+            log::notice(format_args!("the radio shows beacons as sent again, after {}", Seconds(after)));
             say(&Notice::Sending);
         }
         Told::Unsent => {
-            log::write_event(
-                Level::Warning,
-                "the radio shows no beacon as sent any more (docs/OPERATING.md, 'The radio')",
-            );
+            log::warn("the radio shows no beacon as sent any more (docs/OPERATING.md, 'The radio')");
             say(&Notice::Unsent);
         }
     }

@@ -4,7 +4,7 @@ use super::phase::{Phase, Replaying};
 use super::running::Running;
 use super::{Bridge, TO_READY};
 use crate::control::faults::Fault;
-use crate::control::log::{self, Level};
+use crate::control::log;
 use crate::formats::frames::Frame;
 use crate::network::Network;
 use crate::os::clock::{boot_now, now, Instant};
@@ -123,10 +123,7 @@ impl<P: Port> Running<P> {
             let again = restored.again.iter().filter(|(of, _)| *of == place).count();
             if stay + again > 0 {
                 let bssid = network.bssid;
-                log::write_event(
-                    Level::Notice,
-                    format_args!("{stay} stations of {bssid} stay; {again} are told to join again"),
-                );
+                log::notice(format_args!("{stay} stations of {bssid} stay; {again} are told to join again"));
             }
         }
         let errands = self.stations.restore(restored, time);
@@ -187,12 +184,9 @@ fn restoring_of(state: &State, networks: &[Network]) -> Option<Replay> {
 }
 
 fn tell_not_used(reason: NotUsed) {
-    log::write_event(
-        Level::Warning,
-        format_args!("the state of stations that was left isn't used, since {reason}: they join again"),
-    );
+    log::warn(format_args!("the state of stations that was left isn't used, since {reason}: they join again"));
 }
 
 fn tell_of_units(state: &State) {
-    state.networks.iter().filter_map(NetworkState::lost_units).for_each(|text| log::write_event(Level::Notice, text));
+    state.networks.iter().filter_map(NetworkState::lost_units).for_each(log::notice);
 }

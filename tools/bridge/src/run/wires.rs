@@ -2,7 +2,7 @@
 use super::running::{Ended, Running};
 use crate::control::events::Happened;
 use crate::control::faults::Fault;
-use crate::control::log::{self, Level};
+use crate::control::log;
 use crate::inbound::filter::nothing_filter;
 use crate::os::batch::Batch;
 use crate::os::clock::{wall_now, Instant};
@@ -20,10 +20,11 @@ impl<P: Port> Running<P> {
         }
         poller.add(port.descriptor(), Token::Wire(place), true, false)?;
         self.ended.entry(place).or_insert(Ended { since: None, lost: 0 }).since = None;
-        log::write_event(
-            Level::Notice,
-            format_args!("{}: there, the wire of {} from now on", port.interface(), self.networks[place].bssid),
-        );
+        log::notice(format_args!(
+            "{}: there, the wire of {} from now on",
+            port.interface(),
+            self.networks[place].bssid
+        ));
         self.events.push(place, wall_now(), Happened::WireUp { wire: port.interface().to_owned() });
         self.interfaces.wires[place] = Some(Gate::new(port));
         Ok(())
@@ -45,13 +46,10 @@ impl<P: Port> Running<P> {
         time: Instant,
     ) -> Result<(), Fault> {
         let bssid = self.networks[place].bssid;
-        log::write_event(
-            Level::Warning,
-            format_args!(
-                "{fault} The wire of {bssid} has ended: what that network sends there is lost until it is back. All \
+        log::warn(format_args!(
+            "{fault} The wire of {bssid} has ended: what that network sends there is lost until it is back. All \
                  else goes on"
-            ),
-        );
+        ));
         let wire = self.networks[place].wire.clone().unwrap_or_default();
         self.events.push(place, wall_now(), Happened::WireDown { wire });
         let hears_no_more = match self.interfaces.wire(place) {

@@ -14,7 +14,7 @@ pub mod table;
 pub mod tally;
 
 use crate::control::events::Happened;
-use crate::control::log::{self, Bounded, Level};
+use crate::control::log::{self, Bounded};
 use crate::formats::ethernet::test_command;
 use crate::formats::frames::{Address, Frame};
 use crate::formats::radiotap::{Outcome, Reception};
@@ -313,7 +313,7 @@ impl Stations {
     fn tell(&mut self, now: Instant) {
         for (place, more) in self.log.take_left_out(now) {
             let bssid = self.bssids[place];
-            log::write_event(Level::Notice, format_args!("{more} more lines of stations in one second, of {bssid}"));
+            log::notice(format_args!("{more} more lines of stations in one second, of {bssid}"));
             self.events.push((place, wall_now(), Happened::LeftOut { count: more }));
         }
         for (member, news) in self.table.take_news() {

@@ -1,4 +1,5 @@
 use super::*;
+use crate::control::log::Level;
 use crate::formats::ethernet::update;
 use crate::os::clock::{Instant, SECOND};
 use crate::stations::news::News;
