@@ -17,7 +17,7 @@ const MOST_UNREAD: usize = 32;
 #[derive(Debug)]
 pub struct Feeder {
     input: Option<ChildStdin>,
-    record: Option<Recording>,
+    pub record: Option<Recording>,
     pending: Vec<u8>,
     /// How many octets were said, and up to which of them each event goes that the program may not have read.
     said: u64,
@@ -130,9 +130,5 @@ impl Feeder {
     /// Nothing more is recorded: what waits is written, for a bounded time.
     pub fn finish_record(&mut self) {
         self.record.iter_mut().for_each(Recording::finish);
-    }
-
-    pub fn record(&self) -> Option<&Recording> {
-        self.record.as_ref()
     }
 }

@@ -39,7 +39,8 @@ pub struct Program {
     answers: Answers,
     /// Whether the last piece was all that there was: the next question need not be asked of the kernel.
     was_last: bool,
-    has_ended: bool,
+    /// Whether it has closed its output.
+    pub has_ended: bool,
 }
 
 impl Program {
@@ -62,7 +63,7 @@ impl Program {
                 for pipe in [input.as_fd(), output.as_fd()] {
                     prepare(pipe)?;
                 }
-                let program = Program { child, output, answers: Answers::new(), was_last: false, has_ended: false };
+                let program = Program { child, output, answers: Answers::default(), was_last: false, has_ended: false };
                 Ok((program, Feeder::new(input, record)))
             }
             _ => Err(Fault::NotBegun(format!("{path}: it has no pipes"))),
@@ -99,11 +100,6 @@ impl Program {
 
     pub fn next_answer(&mut self) -> Result<Option<Answer>, Fault> {
         self.answers.next().map_err(|unknown| Fault::WrongAnswer(unknown.to_string()))
-    }
-
-    /// Whether it has closed its output.
-    pub fn has_ended(&self) -> bool {
-        self.has_ended
     }
 
     /// Its status once it has ended, as a shell tells it; it is killed if it doesn't end by then.

@@ -84,11 +84,6 @@ pub struct Answers {
 }
 
 impl Answers {
-    /// Nothing came yet.
-    pub fn new() -> Answers {
-        Answers::default()
-    }
-
     /// Room for the next piece, of so many octets.
     pub(super) fn room(&mut self, octets: usize) -> &mut [u8] {
         if self.begin > 0 {
@@ -164,7 +159,7 @@ mod tests {
 
     /// All answers of records, in pieces of this length.
     fn read(octets: &[u8], length: usize) -> Result<Vec<Answer>, Unknown> {
-        let mut answers = Answers::new();
+        let mut answers = Answers::default();
         let mut found = Vec::new();
         for piece in octets.chunks(length) {
             answers.take(piece);

@@ -40,7 +40,8 @@ pub struct Tables {
     asked: Option<Instant>,
     coming: Vec<Table>,
     last: Option<(Instant, Vec<Table>)>,
-    came: u64,
+    /// How often they came whole.
+    pub came: u64,
 }
 
 impl Table {
@@ -59,11 +60,6 @@ impl Tables {
     /// None came yet of so many networks.
     pub fn new(networks: usize) -> Tables {
         Tables { networks, askers: VecDeque::new(), asked: None, coming: Vec::new(), last: None, came: 0 }
-    }
-
-    /// How often they came whole.
-    pub fn came(&self) -> u64 {
-        self.came
     }
 
     /// The program was asked for them.

@@ -36,7 +36,7 @@ impl Serialize for NetworkPart<'_> {
     fn serialize<S: Serializer>(&self, to: S) -> Result<S::Ok, S::Error> {
         let (network, table, place) = (self.network(), self.table(), self.place);
         let down_since = self.status.wires_down.get(place).copied().flatten();
-        let refusals = self.status.table.refusals(place).iter();
+        let refusals = self.status.table.refusals[place].iter();
         let stations = self.status.table.stations_of(place);
         let Tally { joins, moved_in, moved_out, claims, .. } = self.status.tallies[place];
         let associated = || stations.iter().map(|(_, station)| station).filter(|station| station.is_associated());

@@ -15,14 +15,10 @@ pub struct Batching {
     /// Since when they are counted, and how many came since.
     since: Instant,
     frames: usize,
-    are_many: bool,
+    pub are_many: bool,
 }
 
 impl Batching {
-    pub fn are_many(&self) -> bool {
-        self.are_many
-    }
-
     pub fn count(&mut self, frames: usize) {
         self.frames += frames;
     }

@@ -76,7 +76,8 @@ pub enum Judged<'a> {
 /// a management frame between two tries of a data frame. Each network has a table of its own, which others don't fill.
 #[derive(Debug)]
 pub struct Judge {
-    places: Places,
+    /// Those of the networks, in the order in which they were given.
+    pub places: Places,
     /// Of each network.
     last: Vec<LastHeard>,
 }
@@ -87,11 +88,6 @@ impl Judge {
         let bssids: Vec<Address> = bssids.into_iter().collect();
         let last = bssids.iter().map(|_| LastHeard::default()).collect();
         Judge { places: Places::new(bssids), last }
-    }
-
-    /// The place of the network with this address, in the order in which they were given.
-    pub fn place_of(&self, bssid: &Address) -> Option<usize> {
-        self.places.of(bssid)
     }
 
     /// What is done with a packet; `is_outgoing` if this machine sent it, `is_cut` if it was longer.
@@ -117,8 +113,8 @@ impl Judge {
             Some(_) if octets.len() > MOST => return Judged::LeftOut(LeftOut::Long),
             Some(frame) => frame,
         };
-        let is_own = frame.transmitter().map_or(false, |found| self.place_of(&found).is_some());
-        let network = self.place_of(&frame.receiver());
+        let is_own = frame.transmitter().map_or(false, |found| self.places.of(&found).is_some());
+        let network = self.places.of(&frame.receiver());
         if frame.frame_type() == FrameType::Control && !frame.is_ps_poll() {
             Judged::LeftOut(LeftOut::Controls)
         } else if is_own {
@@ -137,7 +133,7 @@ impl Judge {
     /// Whether networks can use a frame for all: it asks for networks, or names one of these as its own.
     fn is_of_use(&self, frame: Frame<'_>) -> bool {
         let bssid = frame.third_address();
-        frame.octets()[0] == PROBE_REQUEST || bssid.map_or(false, |bssid| self.place_of(&bssid).is_some())
+        frame.octets()[0] == PROBE_REQUEST || bssid.map_or(false, |bssid| self.places.of(&bssid).is_some())
     }
 
     /// Whether the network of this place has taken it before; it is remembered as its sender's last.

@@ -15,9 +15,8 @@
 //! same time however many frames wait, and each one is counted.
 //!
 //! Frames of a station that is held, and for it, wait apart until it is released (`held`).
-use crate::formats::frames::Address;
 use crate::inbound::frame::{InboundFrame, Source};
-use crate::inbound::held::{HeldFrames, Holding};
+use crate::inbound::held::HeldFrames;
 use crate::inbound::source_queue::{Dropped, SourceQueue};
 use crate::os::clock::Instant;
 
@@ -31,7 +30,7 @@ pub struct InboundQueue {
     /// How many frames wait in all queues, and whether any of these was dropped so far.
     frames: usize,
     has_dropped: bool,
-    held: HeldFrames,
+    pub held: HeldFrames,
 }
 
 impl InboundQueue {
@@ -60,16 +59,6 @@ impl InboundQueue {
             Source::Wire(place) => 2 + 2 * place,
         };
         self.change(queue, |queue| queue.push(frame));
-    }
-
-    /// Frames of a station of the network of this place, and of its wire for that, wait until it is released.
-    pub fn hold(&mut self, place: usize, station: Address, holding: Holding) {
-        self.held.hold(place, station, holding);
-    }
-
-    /// They don't any more.
-    pub fn release(&mut self, place: usize, station: Address) {
-        self.held.release(place, station);
     }
 
     /// A frame that was taken out waits all the same, if its station is held.
@@ -109,11 +98,6 @@ impl InboundQueue {
     /// Whether nothing waits but what is held.
     pub fn is_empty(&self) -> bool {
         self.frames == 0 && self.held.is_empty()
-    }
-
-    /// Whether frames wait whose station is held.
-    pub fn has_held(&self) -> bool {
-        self.held.has_frames()
     }
 
     pub fn has_dropped(&self) -> bool {

@@ -324,7 +324,7 @@ fn a_station_that_is_held_keeps_its_order_and_nobody_else_waits() {
         waiting.push(Source::Wire(1), to_station(first + 4));
         waiting.push(Source::AirForAll, of(Priority::Probe, STATION, Instant::START, first + 5));
     };
-    waiting.hold(0, STATION, Holding::OwnAndWired);
+    waiting.held.hold(0, STATION, Holding::OwnAndWired);
     push_all(&mut waiting, 0);
     let of_others = |found: Vec<(Source, u8)>| {
         let mut marks: Vec<u8> = found.into_iter().map(|(_, mark)| mark).collect();
@@ -335,7 +335,7 @@ fn a_station_that_is_held_keeps_its_order_and_nobody_else_waits() {
     assert_eq!((waiting.is_empty(), waiting.len()), (true, 2));
     push_all(&mut waiting, 10);
     assert_eq!(of_others(marks(&mut waiting, Instant::START)), [12, 13, 14, 15]);
-    waiting.release(0, STATION);
+    waiting.held.release(0, STATION);
     waiting.push(Source::Air(0), of(Priority::Data, STATION, Instant::START, 20));
     assert!(!waiting.is_empty());
     let found = marks(&mut waiting, Instant::START);
@@ -348,15 +348,15 @@ fn a_station_that_is_held_keeps_its_order_and_nobody_else_waits() {
 #[test]
 fn a_station_that_is_held_again_keeps_its_order() {
     let mut waiting = InboundQueue::new(1);
-    waiting.hold(0, STATION, Holding::OwnAndWired);
+    waiting.held.hold(0, STATION, Holding::OwnAndWired);
     (0..4).for_each(|mark| waiting.push(AIR, of(Priority::Notice, STATION, Instant::START, mark)));
     assert!(waiting.pop(Instant::START).is_none());
-    waiting.release(0, STATION);
+    waiting.held.release(0, STATION);
     assert!(waiting.pop(Instant::START).is_some());
-    waiting.hold(0, STATION, Holding::OwnAndWired);
+    waiting.held.hold(0, STATION, Holding::OwnAndWired);
     waiting.push(AIR, of(Priority::Notice, STATION, Instant::START, 4));
     assert!(waiting.pop(Instant::START).is_none());
-    waiting.release(0, STATION);
+    waiting.held.release(0, STATION);
     assert_eq!(marks(&mut waiting, Instant::START), [1, 2, 3, 4].map(|mark| (AIR, mark)));
 }
 
@@ -366,25 +366,25 @@ fn a_station_that_is_held_again_keeps_its_order() {
 fn a_station_that_is_held_again_and_released_at_once_keeps_its_order() {
     let mut waiting = InboundQueue::new(1);
     let to_station = |mark| InboundFrame { flow: (STRANGER, STATION), ..data(STRANGER, Instant::START, mark) };
-    waiting.hold(0, STATION, Holding::OwnAndWired);
+    waiting.held.hold(0, STATION, Holding::OwnAndWired);
     for frame in [of(Priority::Notice, STATION, Instant::START, 1), data(STATION, Instant::START, 3)] {
         waiting.keep(Source::Wire(0), to_station(frame.octets[0] + 1));
         waiting.keep(AIR, frame);
     }
-    waiting.hold(0, OTHER, Holding::Own);
+    waiting.held.hold(0, OTHER, Holding::Own);
     waiting.keep(AIR, data(OTHER, Instant::START, 5));
-    waiting.release(0, STATION);
+    waiting.held.release(0, STATION);
     assert_eq!(waiting.pop(Instant::START).unwrap().1.octets[0], 2);
     let (source, wake) = waiting.pop(Instant::START).unwrap();
-    waiting.hold(0, STATION, Holding::Own);
+    waiting.held.hold(0, STATION, Holding::Own);
     waiting.keep(source, wake);
     assert_eq!(waiting.pop(Instant::START).unwrap().1.octets[0], 4);
-    waiting.release(0, OTHER);
-    waiting.release(0, STATION);
+    waiting.held.release(0, OTHER);
+    waiting.held.release(0, STATION);
     assert_eq!(marks(&mut waiting, Instant::START), [(AIR, 1), (AIR, 3), (AIR, 5)]);
-    waiting.hold(0, STATION, Holding::Own);
+    waiting.held.hold(0, STATION, Holding::Own);
     waiting.keep(AIR, data(STATION, Instant::START, 6));
-    waiting.release(0, STATION);
+    waiting.held.release(0, STATION);
     assert_eq!(marks(&mut waiting, Instant::START), [(AIR, 6)]);
 }
 
@@ -392,17 +392,17 @@ fn a_station_that_is_held_again_and_released_at_once_keeps_its_order() {
 #[test]
 fn a_station_of_which_only_its_own_frames_are_held_gets_its_units() {
     let mut waiting = InboundQueue::new(1);
-    waiting.hold(0, STATION, Holding::Own);
+    waiting.held.hold(0, STATION, Holding::Own);
     waiting.keep(AIR, of(Priority::Notice, STATION, Instant::START, 1));
     waiting.push(AIR, of(Priority::Data, STATION, Instant::START, 2));
     let to_station = InboundFrame { flow: (STRANGER, STATION), ..of(Priority::Data, STRANGER, Instant::START, 3) };
     waiting.push(Source::Wire(0), to_station.clone());
     assert_eq!(marks(&mut waiting, Instant::START), [(Source::Wire(0), 3)]);
-    waiting.hold(0, STATION, Holding::OwnAndWired);
-    waiting.hold(0, STATION, Holding::Own);
+    waiting.held.hold(0, STATION, Holding::OwnAndWired);
+    waiting.held.hold(0, STATION, Holding::Own);
     waiting.push(Source::Wire(0), to_station);
     assert_eq!((marks(&mut waiting, Instant::START), waiting.len()), (vec![], 3));
-    waiting.release(0, STATION);
+    waiting.held.release(0, STATION);
     assert_eq!(marks(&mut waiting, Instant::START), [(AIR, 1), (AIR, 2), (Source::Wire(0), 3)]);
 }
 
@@ -416,19 +416,19 @@ fn what_waits_with_all_stations_that_are_held_is_bounded() {
     };
     for number in 0..10u8 {
         let station = made_up(usize::from(number));
-        waiting.hold(0, station, Holding::OwnAndWired);
+        waiting.held.hold(0, station, Holding::OwnAndWired);
         (0..100).for_each(|_| waiting.keep(AIR, long(Priority::Data, station, number)));
         waiting.keep(AIR, long(Priority::Notice, station, number));
     }
     let most = MOST_OCTETS / 4096;
     assert!(waiting.len() >= most && waiting.len() <= most + 10, "{}", waiting.len());
     assert_eq!(dropped(&waiting), [(AIR, Priority::Data, Why::Held, 1010 - waiting.len() as u64)]);
-    waiting.hold(1, STATION, Holding::Own);
+    waiting.held.hold(1, STATION, Holding::Own);
     waiting.keep(Source::Air(1), long(Priority::Data, STATION, 1));
-    (0..10).for_each(|number| waiting.release(0, made_up(number)));
-    waiting.release(1, STATION);
+    (0..10).for_each(|number| waiting.held.release(0, made_up(number)));
+    waiting.held.release(1, STATION);
     assert!(std::iter::from_fn(|| waiting.pop(Instant::START)).count() > most);
-    waiting.hold(0, STATION, Holding::Own);
+    waiting.held.hold(0, STATION, Holding::Own);
     waiting.keep(AIR, long(Priority::Data, STATION, 1));
     assert_eq!(waiting.len(), 1);
 }
@@ -436,7 +436,7 @@ fn what_waits_with_all_stations_that_are_held_is_bounded() {
 #[test]
 fn what_waits_with_a_station_that_is_held_is_bounded_and_counted() {
     let mut waiting = InboundQueue::new(1);
-    waiting.hold(0, STATION, Holding::OwnAndWired);
+    waiting.held.hold(0, STATION, Holding::OwnAndWired);
     for number in 0..300u16 {
         assert_eq!(waiting.has_dropped(), number > 256);
         waiting.push(AIR, of(Priority::Data, STATION, Instant::START, number as u8));
@@ -445,6 +445,6 @@ fn what_waits_with_a_station_that_is_held_is_bounded_and_counted() {
     assert_eq!((waiting.len(), dropped(&waiting)), (256, vec![(AIR, Priority::Data, Why::Held, 44)]));
     assert!(waiting.has_dropped());
     assert_eq!(waiting.rest(), Some("256 frames still waited for the program".to_owned()));
-    waiting.release(0, STATION);
+    waiting.held.release(0, STATION);
     assert_eq!((marks(&mut waiting, Instant::START).len(), waiting.rest()), (256, None));
 }

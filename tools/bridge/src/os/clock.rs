@@ -4,7 +4,7 @@ use std::iter::Sum;
 use std::ops::{Add, AddAssign, Div, Mul, Sub, SubAssign};
 use std::time::SystemTime;
 
-use crate::os::timer::{monotonic, since_boot};
+pub use crate::os::timer::{boot_now, now};
 
 pub const SECOND: Duration = Duration::from_secs(1);
 pub const MILLISECOND: Duration = Duration::from_millis(1);
@@ -213,17 +213,6 @@ impl Sub<Duration> for Instant {
 
 pub const fn nanos(time: Duration) -> u64 {
     time.0
-}
-
-/// The time of the clock that nobody sets.
-pub fn now() -> Instant {
-    monotonic()
-}
-
-/// The time of the clock that nobody sets and that goes on while the machine is suspended. It is compared with moments
-/// of the same clock alone.
-pub fn boot_now() -> Instant {
-    since_boot()
 }
 
 /// The time since 1970 of the clock by which the kernel says when a packet came.

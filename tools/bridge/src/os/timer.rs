@@ -12,12 +12,13 @@ use crate::os::clock::{Duration, Instant};
 use crate::os::system_call::checked;
 
 /// The time of the clock that nobody sets.
-pub fn monotonic() -> Instant {
+pub fn now() -> Instant {
     time_of(libc::CLOCK_MONOTONIC)
 }
 
-/// The time of the clock that nobody sets and that goes on while the machine is suspended.
-pub fn since_boot() -> Instant {
+/// The time of the clock that nobody sets and that goes on while the machine is suspended. It is compared with moments
+/// of the same clock alone.
+pub fn boot_now() -> Instant {
     time_of(libc::CLOCK_BOOTTIME)
 }
 
@@ -75,9 +76,9 @@ mod tests {
 
     #[test]
     fn the_clock_goes_on_as_that_of_std_does() {
-        let (begun_by_std, begun) = (StdInstant::now(), monotonic());
+        let (begun_by_std, begun) = (StdInstant::now(), now());
         sleep((20 * MILLISECOND).into());
-        let (gone, gone_by_std) = (monotonic().since(begun), Duration::from(begun_by_std.elapsed()));
+        let (gone, gone_by_std) = (now().since(begun), Duration::from(begun_by_std.elapsed()));
         assert!(
             gone >= 20 * MILLISECOND && gone <= gone_by_std && gone_by_std - gone < SECOND,
             "{gone:?} {gone_by_std:?}"

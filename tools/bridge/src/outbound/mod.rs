@@ -28,7 +28,7 @@ pub struct Outbound {
     /// Of each network.
     wires: Vec<WireQueue>,
     networks: Vec<Network>,
-    places: Places,
+    pub places: Places,
     counts: Counts,
 }
 
@@ -48,14 +48,14 @@ impl Outbound {
     /// What was sent, and what wasn't.
     pub fn counts(&self) -> Counts {
         let mut counts = self.counts.clone();
-        self.monitor.refused().add_to(&mut counts);
+        self.monitor.refused.add_to(&mut counts);
         for (network, queue) in self.networks.iter().zip(&self.wires) {
             network.wire.iter().for_each(|interface| queue.count_unsent(interface, &mut counts));
         }
         let Unacknowledged { again, lost } = self.air.unacknowledged();
-        let of_wires = self.wires.iter().map(WireQueue::sent_frames).sum();
+        let of_wires = self.wires.iter().map(|queue| queue.sent).sum();
         for (what, number) in [
-            ("sent on the air", self.air.sent()),
+            ("sent on the air", self.air.sent),
             ("sent on the wires", of_wires),
             ("sent once more, since no acknowledgement came", again),
             ("never acknowledged", lost),
@@ -72,10 +72,6 @@ impl Outbound {
         counts
     }
 
-    pub fn place_of(&self, bssid: &Address) -> Option<Place> {
-        self.places.of(bssid)
-    }
-
     /// Whether nothing waits for any interface, nor for its room.
     pub fn is_idle<P: Port>(&self, interfaces: &Interfaces<P>) -> bool {
         let is_settled = interfaces.wires.iter().flatten().all(Gate::is_settled);
@@ -87,11 +83,6 @@ impl Outbound {
         let has_room = |wire: &Option<Gate<P>>| wire.as_ref().map_or(false, |gate| !gate.is_blocked());
         let mut wires = self.wires.iter().zip(&interfaces.wires);
         monitor::has_room(&self.air, interfaces) || wires.any(|(queue, wire)| !queue.is_empty() && has_room(wire))
-    }
-
-    /// Whether the radio has beacons, or is about to have some, that it hasn't sent yet.
-    pub fn has_unsent_beacons<P: Port>(&self, interfaces: &Interfaces<P>) -> bool {
-        monitor::has_unsent_beacons(&self.air, interfaces)
     }
 
     /// A network sends a frame on the air; a fault if there is no such network.
@@ -115,20 +106,20 @@ impl Outbound {
     /// The place of the network of which the program says something; a fault if there is no such network.
     pub fn place(&self, bssid: Address) -> Result<Place, Fault> {
         let unknown = || Fault::WrongAnswer("the program answered for a network that it doesn't have".to_owned());
-        self.place_of(&bssid).ok_or_else(unknown)
+        self.places.of(&bssid).ok_or_else(unknown)
     }
 
     /// The radio shows a frame that it sent, with what became of it.
     pub fn reported(&mut self, frame: &[u8], outcome: Outcome, now: Instant) {
         let sender = Frame::of(frame).and_then(|frame| frame.transmitter());
-        if let Some(place) = sender.and_then(|sender| self.place_of(&sender)) {
+        if let Some(place) = sender.and_then(|sender| self.places.of(&sender)) {
             self.air.reported(place, frame, outcome, now);
         }
     }
 
     /// A frame goes on to the program that was heard on the air.
     pub fn heard(&mut self, frame: Frame<'_>) {
-        if let Some(place) = self.place_of(&frame.receiver()) {
+        if let Some(place) = self.places.of(&frame.receiver()) {
             self.air.heard(place, frame);
         }
     }

@@ -26,14 +26,10 @@ pub fn has_unsent_beacons<P: Port>(air: &Transmitter, interfaces: &Interfaces<P>
 /// Sends by the monitor interface, and counts what that refuses.
 #[derive(Debug, Default)]
 pub struct MonitorSender {
-    refused: Refused,
+    pub refused: Refused,
 }
 
 impl MonitorSender {
-    pub fn refused(&self) -> &Refused {
-        &self.refused
-    }
-
     pub fn flush_beacons<P: Port>(&mut self, air: &mut Transmitter, interfaces: &mut Interfaces<P>) {
         let gate = &mut interfaces.beacons;
         gate.unblock();

@@ -22,7 +22,8 @@ struct Leaving {
 pub struct WireQueue {
     leaving: VecDeque<Leaving>,
     pub(super) octets: usize,
-    sent: u64,
+    /// How many frames were sent.
+    pub(super) sent: u64,
     /// How many frames were dropped for want of room, and because they had waited too long.
     without_room: u64,
     late: u64,
@@ -30,10 +31,6 @@ pub struct WireQueue {
 }
 
 impl WireQueue {
-    pub fn sent_frames(&self) -> u64 {
-        self.sent
-    }
-
     /// Adds what was dropped and refused to these counts, for a wire of this interface.
     pub fn count_unsent(&self, interface: &str, counts: &mut Counts) {
         self.refused.add_to(counts);

@@ -383,7 +383,7 @@ fn the_built_program_has_all_as_before() {
         let mut replay = Replay::of(&state, std::slice::from_ref(&ours)).unwrap();
         let until = now() + 60 * SECOND;
         while !replay.is_done() {
-            assert!(now() < until && !program.has_ended());
+            assert!(now() < until && !program.has_ended);
             while feeder.room() > 0 {
                 match replay.next() {
                     Some(event) => feeder.feed(event.event()),

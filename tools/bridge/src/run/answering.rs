@@ -27,7 +27,7 @@ impl<P: OfSocket> Bridge<P> {
             self.send()?;
         }
         match self.phase {
-            _ if !self.program.has_ended() => Ok(()),
+            _ if !self.program.has_ended => Ok(()),
             Phase::Opening { .. } => Err(self.ended_early()),
             Phase::SettingUp { .. } | Phase::Replay(_) | Phase::Running(_) => Err(Fault::ProgramEnded),
             Phase::Ending(_) => Ok(()),
@@ -75,7 +75,7 @@ impl<P: OfSocket> Bridge<P> {
     /// A line of the program for people: of a table, or a fault.
     fn take_told(&mut self, line: &str, time: Instant) {
         if let Some((mark, running)) = answered_mark(line).zip(self.phase.still_running()) {
-            if running.outbound.air.answered(mark, time) {
+            if running.outbound.air.sleepers.answered(mark, time) {
                 running.wakes.take_answer(mark, time);
                 return;
             }
@@ -99,7 +99,7 @@ impl<P: OfSocket> Bridge<P> {
     /// Tells `tools/live` that the program answers: it has answered the last beginning of a beacon interval.
     pub(super) fn tell_alive(&mut self) {
         let tells = self.manner.tells_alive;
-        if let Some(running) = self.phase.running().filter(|running| tells && running.timing.is_answered()) {
+        if let Some(running) = self.phase.running().filter(|running| tells && running.timing.is_answered) {
             if self.time >= running.alive_told + ALIVE_EVERY {
                 running.alive_told = self.time;
                 say(&Notice::Alive);
@@ -209,7 +209,7 @@ impl<P: Port> Running<P> {
 
     /// A network sends a frame on its wire. If that has ended the frame is lost, and counted.
     fn send_on_wire(&mut self, bssid: Address, octets: Vec<u8>, time: Instant) -> Result<(), Fault> {
-        match self.judge.place_of(&bssid).and_then(|place| self.ended.get_mut(&place)) {
+        match self.judge.places.of(&bssid).and_then(|place| self.ended.get_mut(&place)) {
             Some(ended) if ended.since.is_some() => ended.lost += 1,
             _ => self.put_on_wire(self.outbound.place(bssid)?, octets, time),
         }

@@ -20,10 +20,10 @@ const BEFORE_TICK: Duration = Duration::from_micros(200);
 /// The beginnings of beacon intervals, and what came of the last one.
 #[derive(Debug)]
 pub(super) struct BeaconTiming {
-    ticks: Ticks,
+    pub(super) ticks: Ticks,
     /// When the last beginning of an interval was said, whether a beacon came since, and of how many networks none did.
     said: Instant,
-    is_answered: bool,
+    pub(super) is_answered: bool,
     awaited: usize,
     /// Since when beacons are awaited without a break, be it of intervals before.
     awaited_since: Instant,
@@ -46,14 +46,10 @@ impl BeaconTiming {
         }
     }
 
-    pub(super) fn length(&self) -> Duration {
-        self.ticks.length()
-    }
-
     /// The interval that began last.
     pub(super) fn interval(&self, time: Instant) -> Interval {
         let awaits_beacons = self.awaits_until().map_or(false, |until| time < until);
-        Interval { begun: self.said, next: self.ticks.due(), awaits_beacons }
+        Interval { begun: self.said, next: self.ticks.due, awaits_beacons }
     }
 
     /// Until when wakes wait for beacons at most, if these are due.
@@ -63,11 +59,11 @@ impl BeaconTiming {
 
     /// Until when wakes wait at most for the radio to send the beacons of the last interval.
     pub(super) fn sent_by(&self) -> Instant {
-        self.said + TO_ALL_BEACONS.min(self.ticks.length() / 2)
+        self.said + TO_ALL_BEACONS.min(self.ticks.length / 2)
     }
 
     pub(super) fn is_due(&self, time: Instant) -> bool {
-        time >= self.ticks.due()
+        time >= self.ticks.due
     }
 
     /// An interval begins at this time, if one is to: of so many networks beacons are due then.
@@ -87,18 +83,13 @@ impl BeaconTiming {
         if self.is_due(time) {
             time + MILLISECOND
         } else {
-            self.ticks.due()
+            self.ticks.due
         }
     }
 
     /// Until when frames may gather, which is never if a beacon is awaited.
     pub(super) fn gathers_until(&self) -> Option<Instant> {
-        self.is_answered.then(|| self.ticks.due() - BEFORE_TICK)
-    }
-
-    /// Whether the program has answered the last beginning of an interval.
-    pub(super) fn is_answered(&self) -> bool {
-        self.is_answered
+        self.is_answered.then(|| self.ticks.due - BEFORE_TICK)
     }
 
     /// A beacon came of the program. Behind the last one that is due stations are looked at that are silent.
@@ -112,12 +103,12 @@ impl BeaconTiming {
 
     /// A beacon is given to the radio at this time.
     pub(super) fn count_beacon(&mut self, time: Instant) {
-        self.delays.count(time.since(self.ticks.last_due()));
+        self.delays.count(time.since(self.ticks.last_due));
     }
 
     /// How late beacons were, and how many intervals were never made.
     pub(super) fn delays(&mut self) -> &BeaconDelays {
-        self.delays.missed = self.ticks.missed();
+        self.delays.missed = self.ticks.missed;
         &self.delays
     }
 
@@ -145,14 +136,14 @@ impl BeaconTiming {
 
     /// Whether at this time no beacon is due, nor soon after.
     fn is_before_beacon(&self, time: Instant) -> bool {
-        time + BEFORE_BEACON.min(self.ticks.length() / 2) <= self.ticks.due()
+        time + BEFORE_BEACON.min(self.ticks.length / 2) <= self.ticks.due
     }
 
     /// Since when a beacon is due that the program hasn't answered yet.
     fn beacon_due_since(&self, time: Instant) -> Option<Instant> {
         match self.is_answered {
             false => Some(self.said),
-            true => Some(self.ticks.due()).filter(|due| *due <= time),
+            true => Some(self.ticks.due).filter(|due| *due <= time),
         }
     }
 
@@ -161,7 +152,7 @@ impl BeaconTiming {
     pub(super) fn sends_while(&self, time: Instant) -> Range<Instant> {
         match self.beacon_due_since(time).map(|since| since + TO_BEACON_ANSWER) {
             Some(until) => until..time.max(until) + TO_BEACON_ANSWER,
-            None => time..self.ticks.due(),
+            None => time..self.ticks.due,
         }
     }
 }

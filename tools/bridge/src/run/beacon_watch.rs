@@ -36,7 +36,7 @@ pub struct BeaconWatch {
     looks_at_each: bool,
     unseen: Option<Unseen>,
     /// Since when it has shown none, if that was told.
-    unsent_since: Option<Instant>,
+    pub unsent_since: Option<Instant>,
     /// After how long it showed one again, if that wasn't told yet.
     again_after: Option<Duration>,
 }
@@ -86,11 +86,6 @@ impl BeaconWatch {
         self.unsent_since = is_unsent.then_some(unseen.since);
         is_unsent.then_some(Told::Unsent)
     }
-
-    /// Since when the radio has shown no beacon as sent, if that was told.
-    pub fn unsent_since(&self) -> Option<Instant> {
-        self.unsent_since
-    }
 }
 
 #[cfg(test)]
@@ -125,7 +120,7 @@ mod tests {
     fn a_radio_that_shows_one_in_ten_sends() {
         let mut watch = BeaconWatch::new(INTERVAL, 1, false);
         assert_eq!(run(&mut watch, 0..1000, INTERVAL, |number| number % 10 == 9), []);
-        assert!(!watch.wants_each(at(1000 * INTERVAL)) && watch.unsent_since().is_none());
+        assert!(!watch.wants_each(at(1000 * INTERVAL)) && watch.unsent_since.is_none());
     }
 
     #[test]
@@ -133,7 +128,7 @@ mod tests {
         let mut watch = BeaconWatch::new(INTERVAL, 1, false);
         let found = run(&mut watch, 0..200, INTERVAL, |number| number < 10);
         assert_eq!(found, [(59, Told::Unsent)]);
-        assert_eq!(watch.unsent_since(), Some(at(10 * INTERVAL)));
+        assert_eq!(watch.unsent_since, Some(at(10 * INTERVAL)));
         assert!(watch.wants_each(at(200 * INTERVAL)) && watch.due(at(200 * INTERVAL)).is_none());
     }
 
@@ -143,7 +138,7 @@ mod tests {
         let found = run(&mut watch, 0..200, INTERVAL, |number| !(10..100).contains(&number));
         let again = Told::Sending(90 * INTERVAL + MILLISECOND);
         assert_eq!(found, [(59, Told::Unsent), (100, again)]);
-        assert!(!watch.wants_each(at(200 * INTERVAL)) && watch.unsent_since().is_none());
+        assert!(!watch.wants_each(at(200 * INTERVAL)) && watch.unsent_since.is_none());
     }
 
     #[test]

@@ -29,7 +29,7 @@ impl<P: OfSocket> Bridge<P> {
                 self.poller.remove(clients.descriptor())?;
             }
         }
-        while !self.program.has_ended() && now() < until {
+        while !self.program.has_ended && now() < until {
             let gives = self.give_rest(began + TO_GIVE)?;
             self.wait(Some(if gives { WAIT_TO_GIVE } else { WAIT }))?;
             for place in 0..self.ready.len() {

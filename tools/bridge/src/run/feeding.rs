@@ -89,7 +89,7 @@ impl<P: Port> Running<P> {
 
     /// Whether something waits for the program, be it for what goes before.
     pub(super) fn has_rest(&self) -> bool {
-        self.has_to_give() || self.waiting.has_held()
+        self.has_to_give() || self.waiting.held.has_frames()
     }
 
     /// Says what is next to the program: what goes back to it before what waits. Answers whether there was something.

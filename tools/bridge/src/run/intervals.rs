@@ -43,25 +43,18 @@ impl BeaconDelays {
 #[derive(Debug, Clone, PartialEq, Eq)]
 pub(super) struct Ticks {
     start: Instant,
-    length: Duration,
-    due: Instant,
-    last_due: Instant,
-    missed: u64,
+    pub length: Duration,
+    /// When the next begins, and when the last one that began was due.
+    pub due: Instant,
+    pub last_due: Instant,
+    /// How many were never made.
+    pub missed: u64,
 }
 
 impl Ticks {
     /// The first begins at the start.
     pub fn new(start: Instant, interval: u16) -> Ticks {
         Ticks { start, length: TIME_UNIT * u32::from(interval.max(1)), due: start, last_due: start, missed: 0 }
-    }
-
-    /// When the next begins.
-    pub fn due(&self) -> Instant {
-        self.due
-    }
-
-    pub fn length(&self) -> Duration {
-        self.length
     }
 
     /// Whether one begins now; then it has begun.
@@ -75,16 +68,6 @@ impl Ticks {
         let begun = nanos(now.since(self.start)) / length + 1;
         self.due = self.start + Duration::from_nanos(begun * length);
         true
-    }
-
-    /// When the last one that began was due.
-    pub fn last_due(&self) -> Instant {
-        self.last_due
-    }
-
-    /// How many were never made.
-    pub fn missed(&self) -> u64 {
-        self.missed
     }
 }
 
@@ -109,11 +92,11 @@ mod tests {
         let mut ticks = Ticks::new(Instant::START, 100);
         assert!(ticks.begins(Instant::START));
         assert!(ticks.begins(at(LENGTH * 7 / 2)));
-        assert_eq!((ticks.due(), ticks.last_due(), ticks.missed()), (at(LENGTH * 4), at(LENGTH), 2));
+        assert_eq!((ticks.due, ticks.last_due, ticks.missed), (at(LENGTH * 4), at(LENGTH), 2));
         assert!(!ticks.begins(at(LENGTH * 4 - NANOSECOND)));
         assert!(ticks.begins(at(LENGTH * 4)));
         assert!(ticks.begins(at(LENGTH * 6)));
-        assert_eq!((ticks.due(), ticks.last_due(), ticks.missed()), (at(LENGTH * 7), at(LENGTH * 5), 3));
+        assert_eq!((ticks.due, ticks.last_due, ticks.missed), (at(LENGTH * 7), at(LENGTH * 5), 3));
     }
 
     #[test]

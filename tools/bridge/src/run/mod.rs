@@ -231,7 +231,7 @@ impl<P: OfSocket> Bridge<P> {
             Phase::Opening { until, .. } => *until,
             Phase::Replay(replaying) => replaying.until,
             Phase::Running(running) => {
-                let tells_alive = self.manner.tells_alive && running.timing.is_answered();
+                let tells_alive = self.manner.tells_alive && running.timing.is_answered;
                 let alive = tells_alive.then_some(running.alive_told + ALIVE_EVERY);
                 let first = match running.first_beacon {
                     FirstBeacon::Awaited { until } => until,

@@ -11,6 +11,7 @@ use crate::inbound::held::Holding;
 use crate::os::clock::{Duration, Instant, MILLISECOND};
 use crate::os::port::Port;
 use crate::outbound::air::handing_back::Errand;
+use crate::outbound::monitor::has_unsent_beacons;
 use crate::stations::station::{Member, Move};
 
 /// Marks in the record around units that no wire brought: they go back to the program, which had answered them before, or
@@ -36,20 +37,20 @@ fn unit_to(octets: &[u8]) -> Option<Address> {
 impl<P: Port> Running<P> {
     /// How modes of stations changed, by what the program was given last or answered.
     pub(super) fn take_moves(&mut self, feeder: &mut Feeder, time: Instant) {
-        for ((place, station), change) in self.stations.take_moves() {
+        for ((place, station), change) in self.stations.table.take_moves() {
             let air = &mut self.outbound.air;
             match change {
                 Move::Dozes => self.falls_asleep(place, station, feeder, time),
                 Move::Wakes => {
-                    let (units, mark) = (air.kept_at_most(place, station), feeder.mark());
-                    air.wakes(place, station, mark, time);
+                    let (units, mark) = (air.sleepers.kept_at_most(place, station), feeder.mark());
+                    air.sleepers.wakes(place, station, mark, time);
                     self.wakes.give((place, station), mark, units, time);
                 }
                 Move::Leaves => air.leaves(place, station, Some(feeder.mark()), time),
                 Move::Left => air.leaves(place, station, None, time),
                 Move::Joins { dozes } => {
                     if !dozes {
-                        air.joins(place, station, time);
+                        air.sleepers.joins(place, station, time);
                         self.gets_ready((place, station), time);
                     } else if !air.is_asleep(place, station) {
                         self.falls_asleep(place, station, feeder, time);
@@ -62,14 +63,14 @@ impl<P: Port> Running<P> {
 
     /// A station has joined. What the wire brings for it waits until it sends data, or for some time.
     pub(super) fn gets_ready(&mut self, member: Member, time: Instant) {
-        self.waiting.hold(member.0, member.1, Holding::OwnAndWired);
+        self.waiting.held.hold(member.0, member.1, Holding::OwnAndWired);
         self.getting_ready.push_back((time + TO_GET_READY, member));
     }
 
     /// A frame of the air was heard. If a station that has just joined sends data, it takes units too.
     pub(super) fn take_ready(&mut self, frame: Frame<'_>) {
         if !self.getting_ready.is_empty() && frame.frame_type() == FrameType::Data {
-            let member = self.judge.place_of(&frame.receiver()).zip(frame.transmitter());
+            let member = self.judge.places.of(&frame.receiver()).zip(frame.transmitter());
             member.into_iter().for_each(|member| self.is_ready(member));
         }
     }
@@ -91,22 +92,22 @@ impl<P: Port> Running<P> {
         let before = self.getting_ready.len();
         self.getting_ready.retain(|(_, found)| *found != member);
         if self.getting_ready.len() < before {
-            self.waiting.release(member.0, member.1);
+            self.waiting.held.release(member.0, member.1);
         }
     }
 
     /// The station that a frame wakes, if the program would answer that for too long before the next beacon interval.
     pub(super) fn wakes_too_late(&self, frame: &InboundFrame, time: Instant) -> Option<Member> {
         let may_wait = frame.is_notice() && !self.is_ending;
-        let (place, station) = may_wait.then(|| self.stations.woken_by(&frame.octets)).flatten()?;
-        let units = self.outbound.air.kept_at_most(place, station);
+        let (place, station) = may_wait.then(|| self.stations.table.woken_by(&frame.octets)).flatten()?;
+        let units = self.outbound.air.sleepers.kept_at_most(place, station);
         let fits = units == 0 || self.wakes.fits((place, station), units, self.interval(time), time);
         (!fits).then_some((place, station))
     }
 
     /// What comes of a station waits until the next beacons have come.
     pub(super) fn wait_for_beacons(&mut self, station: Member, source: Source, frame: InboundFrame, time: Instant) {
-        self.waiting.hold(station.0, station.1, Holding::Own);
+        self.waiting.held.hold(station.0, station.1, Holding::Own);
         self.waiting.keep(source, frame);
         self.wakes.wait(station, self.timing.interval(time));
     }
@@ -115,7 +116,7 @@ impl<P: Port> Running<P> {
     /// a wake takes the processor, and a radio may need that too.
     pub(super) fn interval(&self, time: Instant) -> Interval {
         let interval = self.timing.interval(time);
-        let has_unsent = || self.outbound.has_unsent_beacons(&self.interfaces);
+        let has_unsent = || has_unsent_beacons(&self.outbound.air, &self.interfaces);
         Interval { awaits_beacons: interval.awaits_beacons || time < self.timing.sent_by() && has_unsent(), ..interval }
     }
 
@@ -130,7 +131,7 @@ impl<P: Port> Running<P> {
     /// What comes of these stations waits for no beacons any more.
     pub(super) fn end_waits_for_beacons(&mut self, stations: Vec<Member>) {
         for (place, station) in stations {
-            self.waiting.release(place, station);
+            self.waiting.held.release(place, station);
         }
     }
 
@@ -148,7 +149,7 @@ impl<P: Port> Running<P> {
             Source::Air(place) => unit_to(&frame.octets).map(|station| (place, station)),
             Source::AirForAll => None,
         };
-        destination.into_iter().for_each(|(place, station)| self.outbound.air.was_given(place, station));
+        destination.into_iter().for_each(|(place, station)| self.outbound.air.sleepers.was_given(place, station));
     }
 
     /// The wire of a network learns that a station is here (`stations::roaming`).
@@ -163,7 +164,7 @@ impl<P: Port> Running<P> {
     }
 
     fn falls_asleep(&mut self, place: usize, station: Address, feeder: &mut Feeder, time: Instant) {
-        self.waiting.hold(place, station, Holding::OwnAndWired);
+        self.waiting.held.hold(place, station, Holding::OwnAndWired);
         self.outbound.air.dozes(place, station, feeder.mark(), time);
     }
 
@@ -172,7 +173,7 @@ impl<P: Port> Running<P> {
     pub(super) fn hand_back(&mut self, feeder: &mut Feeder) -> bool {
         while let Some(errand) = self.outbound.air.next_errand() {
             match errand {
-                Errand::GoOn { place, station } => self.waiting.release(place, station),
+                Errand::GoOn { place, station } => self.waiting.held.release(place, station),
                 Errand::HandBack { place, frame } => {
                     self.given.handed_back += 1;
                     self.feed_unit(place, &frame, feeder);
@@ -183,7 +184,7 @@ impl<P: Port> Running<P> {
         let question = self.questions.pop_front();
         for (place, frame) in &question {
             self.feed_unit(*place, frame, feeder);
-            Address::at(frame, 0).into_iter().for_each(|station| self.outbound.air.was_given(*place, station));
+            Address::at(frame, 0).into_iter().for_each(|station| self.outbound.air.sleepers.was_given(*place, station));
         }
         question.is_some()
     }
@@ -205,6 +206,6 @@ impl<P: Port> Running<P> {
 
     /// Whether something may be given to the program.
     pub(super) fn has_to_give(&self) -> bool {
-        !self.waiting.is_empty() || self.outbound.air.has_errands() || !self.questions.is_empty()
+        !self.waiting.is_empty() || self.outbound.air.sleepers.has_next() || !self.questions.is_empty()
     }
 }

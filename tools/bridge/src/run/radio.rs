@@ -42,8 +42,8 @@ pub(super) struct Radio {
 impl Radio {
     /// It was set to this channel, for so many networks with such intervals.
     pub(super) fn new(channel: u8, networks: usize, timing: &BeaconTiming) -> Radio {
-        let mostly = Drawn::one_a_second(networks, timing.length());
-        let beacons = BeaconWatch::new(timing.length(), networks, mostly == Drawn::Each);
+        let mostly = Drawn::one_a_second(networks, timing.ticks.length);
+        let beacons = BeaconWatch::new(timing.ticks.length, networks, mostly == Drawn::Each);
         let tuning = Tuning::new(channel);
         let (shown, neighbours) = (Shown::All, Drawn::ONE_IN_HUNDRED);
         Radio { beacons, tuning, down: None, mostly, drawn: mostly, shown, neighbours }
@@ -64,9 +64,9 @@ impl Radio {
     pub(super) fn status(&self) -> OfRadio {
         OfRadio {
             down_since: self.down.as_ref().map(|down| down.since),
-            unsent_since: self.beacons.unsent_since(),
+            unsent_since: self.beacons.unsent_since,
             elsewhere: self.tuning.elsewhere(),
-            heard_elsewhere: self.tuning.heard_elsewhere(),
+            heard_elsewhere: self.tuning.heard_elsewhere,
         }
     }
 }
@@ -176,7 +176,7 @@ impl<P: Port> Running<P> {
 }
 
 fn tell_tuning(found: Found, tuning: &Tuning) {
-    let wanted = tuning.wanted();
+    let wanted = tuning.wanted;
     match found {
         Found::Here => {
             log::notice(format_args!("the radio hears on {wanted} MHz again, which is its channel"));

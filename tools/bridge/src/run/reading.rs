@@ -64,7 +64,7 @@ impl<P: OfSocket> Bridge<P> {
 impl<P: Port> Running<P> {
     /// Whether what the radio tells of frames is to be read.
     fn wants_outcomes(&self) -> bool {
-        let given = self.outbound.air.sent() - self.reading.sent_before;
+        let given = self.outbound.air.sent - self.reading.sent_before;
         self.outbound.air.wants_outcomes(given)
     }
 
@@ -81,7 +81,7 @@ impl<P: Port> Running<P> {
     /// Reads what the radio tells of frames that were acknowledged, some batches of it at most, and no more once it told of
     /// all that it was given: a question for one more that isn't there costs as much as reading one.
     pub(super) fn read_outcomes(&mut self, batch: &mut Batch, time: Instant) -> Result<(), Fault> {
-        self.reading.sent_before = self.outbound.air.sent();
+        self.reading.sent_before = self.outbound.air.sent;
         let mut most = match self.outbound.air.in_flight() {
             0 => AT_A_TIME,
             frames => frames.min(AT_A_TIME),
@@ -149,12 +149,12 @@ impl<P: Port> Running<P> {
             Token::Monitor => 0,
             Token::Wire(place) => 1 + place,
             _ => {
-                self.reading.sent_before = self.outbound.air.sent();
+                self.reading.sent_before = self.outbound.air.sent;
                 return AT_A_TIME;
             }
         };
         let before = std::mem::replace(&mut self.reading.read_in[way], self.reading.wakings);
-        if before + 1 == self.reading.wakings || self.batching.are_many() {
+        if before + 1 == self.reading.wakings || self.batching.are_many {
             AT_A_TIME
         } else {
             1
@@ -177,7 +177,7 @@ impl<P: Port> Running<P> {
             Judged::GoesOn(frame, reception) => {
                 self.hear_on(reception, arrived);
                 self.outbound.heard(frame);
-                let changes_mode = self.stations.heard(frame, reception, arrived);
+                let changes_mode = self.stations.table.heard(frame, reception, arrived);
                 self.take_ready(frame);
                 self.wait_of_air(frame.octets(), changes_mode, arrived);
             }
@@ -187,7 +187,7 @@ impl<P: Port> Running<P> {
     /// A frame of the air waits for the program, and changes the mode of its station or doesn't.
     pub(super) fn wait_of_air(&mut self, octets: &[u8], changes_mode: bool, arrived: Instant) {
         if let Some(frame) = Frame::of(octets) {
-            let source = Source::of_air(self.judge.place_of(&frame.receiver()));
+            let source = Source::of_air(self.judge.places.of(&frame.receiver()));
             self.waiting.push(source, InboundFrame::of_air(frame, changes_mode, arrived));
         }
     }
@@ -200,7 +200,7 @@ impl<P: Port> Running<P> {
     /// The first frame of ours that the radio shows as sent shows that it sends what it is given, and a beacon that it
     /// still does.
     fn see_sent(&mut self, frame: &[u8], time: Instant) {
-        let is_ours = Address::at(frame, 10).map_or(false, |found| self.outbound.place_of(&found).is_some());
+        let is_ours = Address::at(frame, 10).map_or(false, |found| self.outbound.places.of(&found).is_some());
         if is_ours && matches!(self.first_beacon, FirstBeacon::Awaited { .. }) {
             self.first_beacon = FirstBeacon::Seen;
         }

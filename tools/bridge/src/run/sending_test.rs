@@ -103,7 +103,7 @@ fn send_two(is_shown: bool) -> (usize, usize) {
         running.outbound.send_on_air(OURS, unit.octets(), time).unwrap();
         running.send(time, &poller, &mut batch, true).unwrap();
     }
-    assert_eq!(running.outbound.air.sent(), 2);
+    assert_eq!(running.outbound.air.sent, 2);
     (asked.get(), running.outbound.air.in_flight())
 }
 
@@ -182,7 +182,7 @@ fn a_station_that_acknowledges_the_question_behind_an_update_stays_for_now() {
         let mut running = with_station(interfaces, false);
         let (poller, mut batch, time) = (Poller::new().unwrap(), Batch::new(), now());
         let null = mode_of_station(OURS, STATION, false);
-        running.stations.heard(Frame::of(&null).unwrap(), Reception::default(), time);
+        running.stations.table.heard(Frame::of(&null).unwrap(), Reception::default(), time);
         let errand = running.stations.wired(0, &update(STATION), true, time);
         assert!(matches!(errand, Some(Errand::Send { .. })));
         running.run(errand, time);
@@ -210,8 +210,8 @@ fn with_kept(units: u32) -> (Running<RadioPort>, Rc<Cell<usize>>) {
     let ((monitor, _), (beacons, _)) = (RadioPort::new(None), RadioPort::new(None));
     let unsent = Rc::clone(&beacons.unsent);
     let mut running = with_station(Interfaces::new(monitor, beacons, vec![None]), true);
-    running.outbound.air.has_dozed(0, STATION, now());
-    (0..units).for_each(|_| running.outbound.air.was_given(0, STATION));
+    running.outbound.air.sleepers.has_dozed(0, STATION, now());
+    (0..units).for_each(|_| running.outbound.air.sleepers.was_given(0, STATION));
     (running, unsent)
 }
 

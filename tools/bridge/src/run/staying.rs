@@ -75,7 +75,7 @@ impl<P: OfSocket> Bridge<P> {
     /// Leaves for the next bridge what it has to know of stations, as it is at the end.
     pub(super) fn keep_last(&mut self) {
         if let (Some(state_files), Some(running)) = (&mut self.state_files, self.phase.still_running()) {
-            let (changes, time) = (running.stations.changes(), now());
+            let (changes, time) = (running.stations.table.changes, now());
             state_files.write(&running.last_state(&self.manner.setting, time).text(), changes, time);
         }
     }
@@ -89,7 +89,7 @@ impl<P: OfSocket> Bridge<P> {
         if state_files.is_writing() {
             return state_files.write_on(self.time);
         }
-        let changes = running.stations.changes();
+        let changes = running.stations.table.changes;
         let draft = match self.state_draft.take() {
             None if !state_files.is_due(changes, self.time) => return,
             None => StateDraft::new(&self.manner.setting, boot_now(), running.networks.len(), changes),
@@ -115,7 +115,7 @@ impl<P: Port> Running<P> {
                 self.outbound.air.restore(*place, request);
             }
             if kept.dozes {
-                self.outbound.air.has_dozed(*place, *station, time);
+                self.outbound.air.sleepers.has_dozed(*place, *station, time);
             }
         }
         for (place, network) in self.networks.iter().enumerate() {
@@ -146,7 +146,7 @@ impl<P: Port> Running<P> {
             ssid: network.ssid.clone(),
             rates: network.rates.clone(),
             units,
-            waiting: self.stations.told_of(place),
+            waiting: self.stations.table.told_of(place),
             stations: self.stations.kept(place),
         }
     }

@@ -38,12 +38,12 @@ impl<P: Port> Running<P> {
 
     /// Takes a line of a table, and answers whether it is to be shown; the stations are those of whole tables.
     pub(super) fn take_table_line(&mut self, line: &str, time: Instant) -> bool {
-        let before = self.tables.came();
+        let before = self.tables.came;
         let is_shown = self.tables.take(line, time);
-        if self.tables.came() != before {
+        if self.tables.came != before {
             for (place, table) in self.tables.last().unwrap_or_default().iter().enumerate() {
                 let known = table.stations.iter().map(|(address, (state, _))| (*address, *state)).collect();
-                self.stations.table().agree(place, &known, time);
+                self.stations.table.agree(place, &known, time);
             }
         }
         is_shown
@@ -58,7 +58,6 @@ impl<P: Port> Running<P> {
         now: Instant,
     ) -> Status<'a> {
         let (drops, left_out) = (self.drops(), self.left_out());
-        let (table, tallies) = self.stations.known();
         Status {
             phy: &manner.setting.phy,
             channel: manner.setting.channel,
@@ -66,7 +65,7 @@ impl<P: Port> Running<P> {
             radio: self.radio.status(),
             began,
             faults,
-            record: feeder.record(),
+            record: feeder.record.as_ref(),
             beacons: self.timing.delays(),
             drops,
             left_out,
@@ -75,8 +74,8 @@ impl<P: Port> Running<P> {
             updates: &self.updates,
             accounts: self.outbound.air.accounts(),
             unacknowledged: self.outbound.air.unacknowledged_by_network(),
-            table,
-            tallies,
+            table: &self.stations.table,
+            tallies: &self.stations.tallies,
             tables: &self.tables,
             now,
         }

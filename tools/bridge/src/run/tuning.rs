@@ -42,10 +42,12 @@ struct Doubt {
 /// Where the radio is, by the frames that are heard.
 #[derive(Debug)]
 pub struct Tuning {
-    wanted: u16,
+    /// The frequency that the channel has.
+    pub wanted: u16,
     believed: u16,
     doubt: Option<Doubt>,
-    heard_elsewhere: u64,
+    /// How many frames were heard on other frequencies.
+    pub heard_elsewhere: u64,
 }
 
 impl Tuning {
@@ -84,18 +86,9 @@ impl Tuning {
         self.doubt.is_some() || self.elsewhere().is_some()
     }
 
-    pub fn wanted(&self) -> u16 {
-        self.wanted
-    }
-
     /// The frequency on which the radio is believed to be, if that isn't its channel's.
     pub fn elsewhere(&self) -> Option<u16> {
         Some(self.believed).filter(|believed| *believed != self.wanted)
-    }
-
-    /// How many frames were heard on other frequencies.
-    pub fn heard_elsewhere(&self) -> u64 {
-        self.heard_elsewhere
     }
 }
 
@@ -121,7 +114,7 @@ mod tests {
             assert_eq!(tuning.look(at(time)), None);
         }
         assert_eq!((tuning.look(at(9 * SECOND)), tuning.due()), (None, None));
-        assert_eq!((tuning.elsewhere(), tuning.heard_elsewhere()), (None, 2));
+        assert_eq!((tuning.elsewhere(), tuning.heard_elsewhere), (None, 2));
     }
 
     /// Also if one frame alone is heard there.
@@ -136,7 +129,7 @@ mod tests {
             assert!(tuning.wants_each());
             assert_eq!(tuning.look(at(2 * SECOND)), Some(Found::Elsewhere(2412)));
             assert!(tuning.wants_each());
-            assert_eq!((tuning.elsewhere(), tuning.heard_elsewhere()), (Some(2412), u64::from(frames)));
+            assert_eq!((tuning.elsewhere(), tuning.heard_elsewhere), (Some(2412), u64::from(frames)));
             assert_eq!((tuning.look(at(9 * SECOND)), tuning.due()), (None, None));
         }
     }
@@ -154,7 +147,7 @@ mod tests {
         tuning.heard(2412, at(7 * SECOND));
         assert_eq!(tuning.look(at(8 * SECOND)), Some(Found::Here));
         assert!(!tuning.wants_each());
-        assert_eq!((tuning.elsewhere(), tuning.heard_elsewhere(), tuning.wanted()), (None, 3, 2412));
+        assert_eq!((tuning.elsewhere(), tuning.heard_elsewhere, tuning.wanted), (None, 3, 2412));
     }
 
     /// It looks for networks: each frequency is named for a moment.

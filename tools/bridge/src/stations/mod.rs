@@ -17,7 +17,7 @@ use crate::control::events::Happened;
 use crate::control::log::{self, Bounded};
 use crate::formats::ethernet::test_command;
 use crate::formats::frames::{Address, Frame};
-use crate::formats::radiotap::{Outcome, Reception};
+use crate::formats::radiotap::Outcome;
 use crate::network::Network;
 use crate::os::clock::{wall_now, Duration, Instant};
 use crate::restart::replay::Restored;
@@ -27,7 +27,7 @@ use crate::stations::own_frames::{
     deauthentication, departure, disassociation, is_null_of_network, null, number_beside, INACTIVITY, LEAVING,
 };
 use crate::stations::roaming::Roaming;
-use crate::stations::station::{KeptStation, Member, Move, State};
+use crate::stations::station::{KeptStation, Member, State};
 use crate::stations::table::StationTable;
 use crate::stations::tally::Tally;
 
@@ -53,14 +53,14 @@ pub enum Errand {
 #[derive(Debug)]
 pub struct Stations {
     bssids: Vec<Address>,
-    table: StationTable,
+    pub table: StationTable,
     keep_alive: KeepAlive,
     roaming: Roaming,
     log: Bounded,
     /// What happened since it was taken last, in which network, and how long after 1970.
     events: Vec<(usize, Duration, Happened)>,
-    /// Of each network.
-    tallies: Vec<Tally>,
+    /// Of each network how often stations came and went.
+    pub tallies: Vec<Tally>,
     /// Of each network the sequence number of its last frame.
     numbers: Vec<u16>,
     /// The networks whose stations have still to be told that they have to join again.
@@ -93,30 +93,6 @@ impl Stations {
         Stations { log: Bounded::quiet(networks.len()), ..Stations::new(networks, most_silence) }
     }
 
-    pub fn table(&mut self) -> &mut StationTable {
-        &mut self.table
-    }
-
-    /// The stations, and of each network how often they came and went.
-    pub fn known(&self) -> (&StationTable, &[Tally]) {
-        (&self.table, &self.tallies)
-    }
-
-    /// A frame was heard that goes on to the program. Answers whether it changes the mode of its station.
-    pub fn heard(&mut self, frame: Frame<'_>, reception: Reception, now: Instant) -> bool {
-        self.table.heard(frame, reception, now)
-    }
-
-    /// The station that dozes, as the program knows it, until it is given this frame.
-    pub fn woken_by(&self, octets: &[u8]) -> Option<Member> {
-        self.table.woken_by(octets)
-    }
-
-    /// How modes of stations changed since this was asked last, as the program knows it.
-    pub fn take_moves(&mut self) -> Vec<(Member, Move)> {
-        self.table.take_moves()
-    }
-
     /// A frame of the air is said to the program.
     pub fn fed(&mut self, octets: &[u8], now: Instant) {
         self.table.fed(octets, now);
@@ -131,7 +107,7 @@ impl Stations {
 
     /// The program has a network send a frame; answers what is to be done behind it.
     pub fn answered(&mut self, bssid: Address, octets: &[u8], now: Instant) -> Vec<Errand> {
-        let place = match self.table.place_of(&bssid) {
+        let place = match self.table.places.of(&bssid) {
             Some(place) => place,
             None => return Vec::new(),
         };
@@ -154,7 +130,7 @@ impl Stations {
 
     /// When `look_who_moved` has something to do next, or before.
     pub fn moves_due(&self) -> Instant {
-        self.roaming.look_due()
+        self.roaming.look_due
     }
 
     /// What is to be done of stations that may have moved, if that is due.
@@ -188,7 +164,7 @@ impl Stations {
 
     /// A person wants a station to be forgotten, which has to be known.
     pub fn kick(&mut self, bssid: Address, station: Address, now: Instant) -> Result<Vec<Errand>, String> {
-        let place = self.table.place_of(&bssid).ok_or_else(|| format!("{bssid} is no network of these"))?;
+        let place = self.table.places.of(&bssid).ok_or_else(|| format!("{bssid} is no network of these"))?;
         let known = self.table.station(&(place, station)).filter(|station| !station.is_leaving);
         let state = known.ok_or_else(|| format!("{bssid} has no station {station}"))?.state;
         let errand = self.word((place, station), state, WORD_RETRIES);
@@ -213,16 +189,6 @@ impl Stations {
             return Vec::new();
         }
         self.table.kept(place)
-    }
-
-    /// How often changed what a new program has to know.
-    pub fn changes(&self) -> u64 {
-        self.table.changes()
-    }
-
-    /// For how many stations of the network of this place units were kept when its last beacon was sent.
-    pub fn told_of(&self, place: usize) -> usize {
-        self.table.told_of(place)
     }
 
     /// A new program knows stations as the one before did; answers what is to be done for the others.

@@ -147,11 +147,11 @@ impl StationTable {
     }
 
     fn sender(&self, frame: Frame<'_>) -> Option<Member> {
-        Some((self.place_of(&frame.receiver())?, frame.transmitter()?))
+        Some((self.places.of(&frame.receiver())?, frame.transmitter()?))
     }
 
     fn receiver(&self, frame: Frame<'_>) -> Option<Member> {
-        Some((self.place_of(&frame.transmitter()?)?, frame.receiver()))
+        Some((self.places.of(&frame.transmitter()?)?, frame.receiver()))
     }
 
     /// Counts for how many beacons in a row units are told of; a station for which they are told of for more beacons

@@ -111,8 +111,8 @@ pub(super) struct Roaming {
     /// Of each network's wire.
     echoes: Vec<Echoes>,
     awaited: BTreeMap<Member, Awaited>,
-    /// When those are looked at next that are awaited: none of them is due before.
-    look_due: Instant,
+    /// When `look` has something to do next, or before: none of those that are awaited is due before.
+    pub(super) look_due: Instant,
     moved: VecDeque<Moved>,
     asked: (Instant, u32),
 }
@@ -178,11 +178,6 @@ impl Roaming {
             self.awaits(member, Awaited { since: now, until: station.heard + QUIET, sign: Sign::Frame });
         }
         step
-    }
-
-    /// When `look` has something to do next, or before.
-    pub(super) fn look_due(&self) -> Instant {
-        self.look_due
     }
 
     /// What is to be done of those that were awaited for long enough.

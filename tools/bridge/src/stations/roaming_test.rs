@@ -72,9 +72,9 @@ fn one_that_was_just_heard_is_asked_and_moves_soon_if_it_is_silent() {
     site.is_heard(now);
     assert_eq!(site.hint(MEMBER, &update(STATION), now + MILLISECOND), Some(Step::Ask(MEMBER)));
     let until = now + MILLISECOND + TO_ACKNOWLEDGE;
-    assert_eq!((site.roaming.look_due(), site.look(until - MILLISECOND)), (until, vec![]));
+    assert_eq!((site.roaming.look_due, site.look(until - MILLISECOND)), (until, vec![]));
     assert_eq!(site.look(until), [Step::Move(MEMBER)]);
-    assert_eq!((site.roaming.look_due(), site.look(at(60 * SECOND))), (Instant::NEVER, vec![]));
+    assert_eq!((site.roaming.look_due, site.look(at(60 * SECOND))), (Instant::NEVER, vec![]));
 }
 
 #[test]

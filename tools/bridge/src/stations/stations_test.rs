@@ -45,7 +45,7 @@ fn who_is_silent_is_asked_and_forgotten() {
     assert_eq!(behind_beacon(&mut stations, 7, at(8 * SECOND)), wanted);
     stations.fed(&departure(OURS, STATION), at(8 * SECOND));
     assert_eq!(behind_beacon(&mut stations, 8, at(30 * SECOND)), []);
-    assert_eq!(stations.table().station(&(1, STATION)), None);
+    assert_eq!(stations.table.station(&(1, STATION)), None);
 }
 
 /// Who stays is known without a word. Whoever doesn't is told to join again, and the program that those have left
@@ -69,7 +69,7 @@ fn who_is_restored_is_known_and_others_are_told() {
     ];
     assert_eq!(stations.restore(&restored, Instant::START), wanted);
     assert_eq!((stations.kept(0), stations.kept(1)), (vec![], vec![kept]));
-    assert_eq!(stations.table().take_news(), []);
+    assert_eq!(stations.table.take_news(), []);
     // Who is told to join again isn't left for the next bridge.
     stations.dismiss(&[1]);
     assert_eq!(stations.kept(1), []);
@@ -84,7 +84,7 @@ fn who_acknowledges_stays() {
     for second in 6..10 {
         assert_eq!(behind_beacon(&mut stations, 4, at(second * SECOND)), []);
     }
-    assert_eq!(stations.table().station(&(1, STATION)).unwrap().to.rate, None);
+    assert_eq!(stations.table.station(&(1, STATION)).unwrap().to.rate, None);
 }
 
 #[test]

@@ -15,7 +15,7 @@ use crate::stations::station::{Asked, KeptStation, Member, Move, State, Station,
 #[derive(Debug)]
 pub struct StationTable {
     pub(super) bssids: Vec<Address>,
-    places: Places,
+    pub(super) places: Places,
     /// Of each network.
     pub(super) stations: Vec<AddressMap<Station>>,
     pub(super) associated: HashMap<(usize, u16), Address>,
@@ -23,14 +23,15 @@ pub struct StationTable {
     unassociated: Vec<BTreeSet<(Instant, Address)>>,
     /// Of each network, for how many beacons in a row units were told of, by the station's identifier.
     pub(super) told_of: Vec<BTreeMap<u16, u32>>,
-    refusals: Vec<BTreeMap<u16, u64>>,
+    /// How often each network refused, by status.
+    pub refusals: Vec<BTreeMap<u16, u64>>,
     entered: Vec<Member>,
     left: Vec<(Member, Instant)>,
     pub(super) news: Vec<(Member, News)>,
     pub(super) moves: Vec<(Member, Move)>,
     turns: u64,
     /// How often the stations changed that are associated, or what a new program has to know of them.
-    pub(super) changes: u64,
+    pub changes: u64,
 }
 
 impl StationTable {
@@ -84,11 +85,6 @@ impl StationTable {
         found
     }
 
-    /// How often the stations changed that are associated.
-    pub fn changes(&self) -> u64 {
-        self.changes
-    }
-
     /// For how many stations of a network units were kept when its last beacon was sent.
     pub fn told_of(&self, place: usize) -> usize {
         self.told_of[place].len()
@@ -124,10 +120,6 @@ impl StationTable {
         }
     }
 
-    pub fn place_of(&self, bssid: &Address) -> Option<usize> {
-        self.places.of(bssid)
-    }
-
     pub fn station(&self, member: &Member) -> Option<&Station> {
         self.stations[member.0].get(&member.1)
     }
@@ -156,11 +148,6 @@ impl StationTable {
     /// The stations of a network that are authenticated only, with since when they are: the earliest first.
     pub fn unassociated(&self, place: usize) -> impl Iterator<Item = (Instant, Address)> + '_ {
         self.unassociated[place].iter().copied()
-    }
-
-    /// How often a network refused, by status.
-    pub fn refusals(&self, place: usize) -> &BTreeMap<u16, u64> {
-        &self.refusals[place]
     }
 
     /// The stations that were entered since this was asked last.

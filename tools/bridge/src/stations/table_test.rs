@@ -70,8 +70,8 @@ fn who_is_refused_is_not_entered() {
         ((0, STRANGER), News::SentAway { reason: 6 }),
     ];
     assert_eq!(table.take_news(), wanted);
-    assert_eq!(table.refusals(0).iter().collect::<Vec<_>>(), [(&1, &1), (&17, &1)]);
-    assert!(table.refusals(1).is_empty());
+    assert_eq!(table.refusals[0].iter().collect::<Vec<_>>(), [(&1, &1), (&17, &1)]);
+    assert!(table.refusals[1].is_empty());
 }
 
 #[test]
@@ -134,16 +134,16 @@ fn who_is_forgotten_leaves_without_a_word() {
 fn what_stations_joined_by_is_kept_while_they_are_associated() {
     let mut table = table();
     authenticated(&mut table, STATION, 0);
-    assert_eq!((table.kept(0), table.changes()), (vec![], 0));
+    assert_eq!((table.kept(0), table.changes), (vec![], 0));
     associated(&mut table, STATION, 0, 1);
     let request = frame([0, 0], OURS, STATION, &[1, 0, 2, 0]);
     let plain =
         KeptStation { address: STATION, aid: 1, listen: 2, dozes: false, has_dozed: false, request: request.clone() };
-    assert_eq!((table.kept(0), table.changes()), (vec![plain.clone()], 1));
+    assert_eq!((table.kept(0), table.changes), (vec![plain.clone()], 1));
     table.fed(&frame([0x48, 0x11], OURS, STATION, &[]), Instant::START);
     table.fed(&frame([0x48, 0x11], OURS, STATION, &[]), Instant::START);
     let dozing = KeptStation { dozes: true, has_dozed: true, ..plain.clone() };
-    assert_eq!((table.kept(0), table.changes()), (vec![dozing.clone()], 2));
+    assert_eq!((table.kept(0), table.changes), (vec![dozing.clone()], 2));
     table.fed(&frame([0x48, 0x01], OURS, STATION, &[]), Instant::START);
     assert_eq!(table.kept(0), [KeptStation { dozes: false, ..dozing }]);
     // A request that is refused changes nothing, and one that is accepted takes the place of the one before.
@@ -179,17 +179,17 @@ fn who_is_kept_stands_in_the_order_of_identifiers_and_each_change_counts() {
     for (count, (aid, station)) in stations.iter().enumerate() {
         authenticated(&mut table, *station, 0);
         associated(&mut table, *station, 0, *aid);
-        assert_eq!(table.changes(), count as u64 + 1);
+        assert_eq!(table.changes, count as u64 + 1);
     }
     let identifiers: Vec<u16> = table.kept(0).iter().map(|kept| kept.aid).collect();
     assert_eq!(identifiers, [1, 3, 5, 7, 9]);
     table.fed(&frame([0xa0, 0], OURS, stations[0].1, &[8, 0]), Instant::START);
-    assert_eq!((table.changes(), table.kept(0).len()), (6, 4));
+    assert_eq!((table.changes, table.kept(0).len()), (6, 4));
     table.fed(&departure(OURS, stations[1].1), Instant::START);
-    assert_eq!((table.changes(), table.kept(0).len()), (7, 3));
+    assert_eq!((table.changes, table.kept(0).len()), (7, 3));
     // One that authenticates again is associated no more.
     authenticated(&mut table, stations[2].1, 0);
-    assert_eq!((table.changes(), table.kept(0).len()), (8, 2));
+    assert_eq!((table.changes, table.kept(0).len()), (8, 2));
 }
 
 #[test]

@@ -127,7 +127,7 @@ fn answers_of_the_program() {
 
 /// The answers of octets that come in pieces of this length, and whether one of them isn't known.
 fn read(octets: &[u8], length: usize) -> (Vec<Answer>, bool) {
-    let mut answers = Answers::new();
+    let mut answers = Answers::default();
     let mut found = Vec::new();
     for piece in octets.chunks(length) {
         answers.take(piece);
@@ -203,7 +203,7 @@ fn the_way_to_the_air() {
         sender.flush(&mut air, &mut interfaces, due, Instant::NEVER);
     }
     let unsent: u64 = air.accounts().iter().flat_map(|account| account.unsent.values()).sum();
-    assert_eq!(air.sent() - beacons + unsent, given + air.unacknowledged().again);
+    assert_eq!(air.sent - beacons + unsent, given + air.unacknowledged().again);
     assert!(again > 1000 && monitor::is_idle(&air, &interfaces), "{again}");
     assert!(air.accounts().iter().all(|account| account.waiting == 0));
 }
@@ -235,7 +235,7 @@ fn what_the_bridge_does_by_itself() {
         match (seeded.below(4), Frame::of(&octets)) {
             (0, Some(frame)) => {
                 let reception = captured(&octets).map_or(Reception::default(), |found| found.reception);
-                stations.heard(frame, reception, time);
+                stations.table.heard(frame, reception, time);
             }
             (1, _) => stations.fed(&octets, time),
             (2, _) => {

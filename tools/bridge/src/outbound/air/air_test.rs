@@ -122,7 +122,7 @@ impl Driver {
 
     fn refused(&self) -> Counts {
         let mut counts = Counts::new();
-        self.monitor.refused().add_to(&mut counts);
+        self.monitor.refused.add_to(&mut counts);
         counts
     }
 

@@ -100,11 +100,11 @@ impl Caller {
                 true
             }
             1 => {
-                self.air.joins(place, station, now);
+                self.air.sleepers.joins(place, station, now);
                 false
             }
             2..=5 if self.air.is_asleep(place, station) => {
-                self.air.wakes(place, station, mark, now);
+                self.air.sleepers.wakes(place, station, mark, now);
                 true
             }
             2..=5 => {
@@ -113,7 +113,7 @@ impl Caller {
             }
             _ => {
                 let answered = self.marks.pop_front();
-                answered.into_iter().for_each(|mark| assert!(self.air.answered(mark, now)));
+                answered.into_iter().for_each(|mark| assert!(self.air.sleepers.answered(mark, now)));
                 false
             }
         };
@@ -182,10 +182,10 @@ impl Caller {
     /// the radio has room, and tells of all that it has at once, until nothing waits or for three seconds.
     fn finish(&mut self) {
         for (place, station) in [0, 1].into_iter().flat_map(|place| [STATION, STRANGER].map(|to| (place, to))) {
-            self.air.joins(place, station, self.now);
+            self.air.sleepers.joins(place, station, self.now);
             self.send_units(place, station);
             self.air.dozes(place, station, self.last_mark + 1, self.now);
-            self.air.joins(place, station, self.now);
+            self.air.sleepers.joins(place, station, self.now);
             self.send_units(place, station);
         }
         if self.air.is_down() {

@@ -192,7 +192,7 @@ impl Pair {
             let body = [&[0; 4][..], &[1, 6], &RATES].concat();
             let transmitter = address_of(place, receiver);
             let request = Unit { control: [0, 0], receiver: bssid(place), transmitter, body, ..Unit::default() };
-            self.air.joins(place, transmitter, self.now);
+            self.air.sleepers.joins(place, transmitter, self.now);
             self.air.restore(place, Frame::of(&request.octets()).unwrap());
         }
         self.change(place, receiver, Change::Joins);
@@ -361,7 +361,7 @@ impl Pair {
 
     /// All is answered that came before it said so: its units go back.
     fn settle(&mut self, place: Place, receiver: usize) {
-        assert!(self.air.answered(self.mark, self.now));
+        assert!(self.air.sleepers.answered(self.mark, self.now));
         self.return_all(place, receiver);
         self.change(place, receiver, Change::Settles);
         self.modes[place][receiver] = Mode::Dozes;
@@ -393,8 +393,8 @@ impl Pair {
             }
             Mode::Dozes => {
                 self.mark += 1;
-                self.air.wakes(place, station, self.mark, self.now);
-                assert!(self.air.answered(self.mark, self.now));
+                self.air.sleepers.wakes(place, station, self.mark, self.now);
+                assert!(self.air.sleepers.answered(self.mark, self.now));
                 self.change(place, receiver, Change::Wakes);
                 self.modes[place][receiver] = Mode::Awake;
             }
@@ -408,7 +408,7 @@ impl Pair {
         self.air.leaves(place, address_of(place, receiver), Some(self.mark), self.now);
         self.change(place, receiver, Change::Leaves);
         self.units_come(place, receiver, more);
-        assert!(self.air.answered(self.mark, self.now));
+        assert!(self.air.sleepers.answered(self.mark, self.now));
         self.return_all(place, receiver);
         self.modes[place][receiver] = Mode::Gone;
     }

@@ -41,7 +41,7 @@ impl Driver {
     /// The station dozes, and the program has answered that.
     fn sleeps(&mut self) {
         self.air.dozes(0, STATION, 1, self.now);
-        assert!(self.air.answered(1, self.now));
+        assert!(self.air.sleepers.answered(1, self.now));
         assert_eq!(errands(self), (vec![], true));
     }
 
@@ -73,13 +73,13 @@ fn units_of_a_station_that_dozes_go_back_in_their_order() {
     (140..143).for_each(|number| driver.send(0, numbered(number, LONG_UNIT)));
     driver.reported(0, &sent[1], 0, true);
     driver.lose(&sent[2..]);
-    assert_eq!((driver.flush(), driver.air.has_errands()), (vec![], false));
-    assert!(!driver.air.answered(4, driver.now) && driver.air.answered(5, driver.now));
+    assert_eq!((driver.flush(), driver.air.sleepers.has_next()), (vec![], false));
+    assert!(!driver.air.sleepers.answered(4, driver.now) && driver.air.sleepers.answered(5, driver.now));
     assert_eq!(errands(&mut driver), ((102..143).collect(), true));
     assert_eq!(driver.flush(), []);
     assert_eq!((driver.handed_back(), driver.air.unacknowledged()), ((41, 0), Unacknowledged::default()));
     assert!(driver.air.is_empty() && driver.air.due().is_none());
-    driver.air.wakes(0, STATION, 6, driver.now);
+    driver.air.sleepers.wakes(0, STATION, 6, driver.now);
     driver.send(0, numbered(102, LONG_UNIT));
     assert_eq!(driver.flush()[0].rate, 108);
 }
@@ -94,7 +94,7 @@ fn a_unit_that_was_to_be_sent_once_more_goes_back_first() {
     driver.lose(&sent);
     driver.send(0, numbered(101, SHORT_UNIT));
     driver.air.dozes(0, STATION, 5, driver.now);
-    driver.air.answered(5, driver.now);
+    driver.air.sleepers.answered(5, driver.now);
     assert_eq!(errands(&mut driver), (vec![100, 101], true));
 }
 
@@ -109,7 +109,7 @@ fn units_before_a_socket_without_room_go_back() {
     let sent = driver.flush();
     driver.air.dozes(0, STATION, 5, driver.now);
     driver.lose(&sent);
-    driver.air.answered(5, driver.now);
+    driver.air.sleepers.answered(5, driver.now);
     assert_eq!((sent.len(), errands(&mut driver)), (2, ((100..105).collect(), true)));
     driver.interfaces.monitor.port.room = None;
     driver.interfaces.monitor.unblock();
@@ -128,11 +128,11 @@ fn a_station_whose_unit_went_back_before_it_was_sent_is_held_no_more() {
     (100..102).for_each(|number| driver.send(0, numbered(number, SHORT_UNIT)));
     assert_eq!((driver.flush(), driver.air.awaiting_room().count()), (vec![], 1));
     driver.air.dozes(0, STATION, 5, driver.now);
-    driver.air.answered(5, driver.now);
+    driver.air.sleepers.answered(5, driver.now);
     assert_eq!(errands(&mut driver), (vec![100, 101], true));
     driver.interfaces.monitor.port.room = None;
     driver.interfaces.monitor.unblock();
-    driver.air.wakes(0, STATION, 6, driver.now);
+    driver.air.sleepers.wakes(0, STATION, 6, driver.now);
     driver.send(0, numbered(100, SHORT_UNIT));
     assert_eq!(of_station(&driver.flush()), [100]);
 }
@@ -148,7 +148,7 @@ fn units_that_waited_long_for_room_go_back() {
     driver.now += MOST_OUT;
     driver.expire(driver.now);
     driver.air.dozes(0, STATION, 5, driver.now);
-    driver.air.answered(5, driver.now);
+    driver.air.sleepers.answered(5, driver.now);
     assert_eq!((errands(&mut driver), driver.air.awaiting_room().count()), ((vec![100, 101, 102], true), 0));
 }
 
@@ -161,14 +161,14 @@ fn outcomes_are_waited_for_while_they_come() {
     let sent = driver.flush();
     driver.interfaces.monitor.port.unsent = 100;
     driver.air.dozes(0, STATION, 5, driver.now);
-    driver.air.answered(5, driver.now);
+    driver.air.sleepers.answered(5, driver.now);
     let began = driver.now;
     for seen in &sent[..4] {
         assert!(driver.air.awaits_outcomes() && driver.air.wants_outcomes(1));
         driver.now += TO_OUTCOME - MILLISECOND;
         driver.expire(driver.now);
         let is_early = driver.now < began + TO_ALL_OUTCOMES;
-        assert_eq!(driver.air.has_errands(), !is_early);
+        assert_eq!(driver.air.sleepers.has_next(), !is_early);
         if is_early {
             driver.reported(0, seen, 6, false);
             assert_eq!(driver.air.due(), Some((driver.now + TO_OUTCOME).min(began + TO_ALL_OUTCOMES)));
@@ -194,7 +194,7 @@ fn a_radio_that_tells_nothing_is_not_waited_for() {
     (100..103).for_each(|number| driver.send(0, numbered(number, LONG_UNIT)));
     assert_eq!(driver.flush().len(), 1);
     driver.air.dozes(0, STATION, 5, driver.now);
-    driver.air.answered(5, driver.now);
+    driver.air.sleepers.answered(5, driver.now);
     let (back, goes_on) = errands(&mut driver);
     assert!(goes_on && back.ends_with(&[101, 102]), "{back:?}");
 }
@@ -268,9 +268,9 @@ fn a_station_that_wakes_gets_all_that_was_kept() {
         let mut driver = driver([1, 1]);
         driver.at_54();
         driver.sleeps();
-        driver.air.wakes(0, STATION, 2, driver.now);
+        driver.air.sleepers.wakes(0, STATION, 2, driver.now);
         (0..kept).for_each(|number| driver.send(0, numbered(number, octets)));
-        driver.air.answered(2, driver.now);
+        driver.air.sleepers.answered(2, driver.now);
         (kept..kept + 40).for_each(|number| driver.send(0, numbered(number, octets)));
         let sent = driver.run(usize::MAX);
         let found: Vec<u16> = sent.iter().map(|seen| u16::from_be_bytes([seen.frame[32], seen.frame[33]])).collect();
@@ -290,9 +290,9 @@ fn what_was_kept_is_worth_sending_while_it_drains() {
     let joined = driver.flush();
     driver.reported(0, &joined[0], 0, true);
     driver.sleeps();
-    driver.air.wakes(0, STATION, 2, driver.now);
+    driver.air.sleepers.wakes(0, STATION, 2, driver.now);
     (0..200).for_each(|number| driver.send(0, numbered(number, LONG_UNIT)));
-    driver.air.answered(2, driver.now);
+    driver.air.sleepers.answered(2, driver.now);
     (200..210).for_each(|number| driver.send(0, numbered(number, LONG_UNIT)));
     let began = driver.now;
     let sent = driver.run(usize::MAX);
@@ -306,9 +306,9 @@ fn what_was_kept_for_a_station_that_is_gone_is_dropped() {
     let mut driver = driver([1, 1]);
     driver.at_54();
     driver.sleeps();
-    driver.air.wakes(0, STATION, 2, driver.now);
+    driver.air.sleepers.wakes(0, STATION, 2, driver.now);
     (0..1000).for_each(|number| driver.send(0, numbered(number, LONG_UNIT)));
-    driver.air.answered(2, driver.now);
+    driver.air.sleepers.answered(2, driver.now);
     let began = driver.now;
     while !driver.air.is_empty() && driver.now < began + 10 * SECOND {
         let sent = driver.flush();
@@ -330,12 +330,12 @@ fn what_was_kept_goes_back_where_its_station_dozes_again() {
     let mut driver = driver([1, 1]);
     driver.at_54();
     driver.sleeps();
-    driver.air.wakes(0, STATION, 2, driver.now);
+    driver.air.sleepers.wakes(0, STATION, 2, driver.now);
     (0..90).for_each(|number| driver.send(0, numbered(number, SHORT_UNIT)));
-    driver.air.answered(2, driver.now);
+    driver.air.sleepers.answered(2, driver.now);
     (90..95).for_each(|number| driver.send(0, numbered(number, SHORT_UNIT)));
     driver.air.dozes(0, STATION, 3, driver.now);
-    driver.air.answered(3, driver.now);
+    driver.air.sleepers.answered(3, driver.now);
     assert_eq!(errands(&mut driver), ((0..95).collect(), true));
 }
 
@@ -347,11 +347,11 @@ fn no_more_go_back_in_a_second_than_the_network_keeps() {
     for mark in 0..10 {
         driver.air.dozes(0, STATION, 2 * mark, driver.now);
         (0..30).for_each(|number| driver.send(0, numbered(number, SHORT_UNIT)));
-        driver.air.answered(2 * mark, driver.now);
+        driver.air.sleepers.answered(2 * mark, driver.now);
         let (numbers, goes_on) = errands(&mut driver);
         assert_eq!((numbers.len(), goes_on), ([30, 30, 30, 10, 0, 0, 0, 0, 0, 0][mark as usize], true));
-        driver.air.wakes(0, STATION, 2 * mark + 1, driver.now);
-        driver.air.answered(2 * mark + 1, driver.now);
+        driver.air.sleepers.wakes(0, STATION, 2 * mark + 1, driver.now);
+        driver.air.sleepers.answered(2 * mark + 1, driver.now);
     }
     assert_eq!((driver.unsent(0, Unsent::OverQuota), driver.handed_back()), (200, (100, 0)));
 }
@@ -365,7 +365,7 @@ fn a_unit_without_a_wired_form_is_counted() {
     driver.air.dozes(0, STATION, 5, driver.now);
     driver.send(0, formless);
     driver.send(0, numbered(101, SHORT_UNIT));
-    driver.air.answered(5, driver.now);
+    driver.air.sleepers.answered(5, driver.now);
     assert_eq!((errands(&mut driver), driver.unsent(0, Unsent::NoWiredForm)), ((vec![101], true), 1));
 }
 
@@ -377,7 +377,7 @@ fn units_for_a_station_that_left_are_dropped() {
     (100..130).for_each(|number| driver.send(0, numbered(number, SHORT_UNIT)));
     driver.air.leaves(0, STATION, Some(9), driver.now);
     driver.send(0, numbered(130, SHORT_UNIT));
-    driver.air.answered(9, driver.now);
+    driver.air.sleepers.answered(9, driver.now);
     driver.send(0, of_network(0xb0, OURS, STATION, 200, vec![0, 0, 2, 0, 0, 0]));
     let sent = driver.run(usize::MAX);
     assert_eq!((numbers(&sent), driver.unsent(0, Unsent::Left)), (vec![200], 31));
@@ -396,8 +396,8 @@ fn units_of_a_station_that_left_do_not_go_back() {
     (100..103).for_each(|number| driver.send(0, numbered(number, SHORT_UNIT)));
     driver.air.leaves(0, STATION, None, driver.now);
     assert_eq!((errands(&mut driver), driver.unsent(0, Unsent::Left)), ((vec![], true), 3));
-    driver.air.joins(0, STATION, driver.now);
-    assert!(driver.air.answered(5, driver.now));
+    driver.air.sleepers.joins(0, STATION, driver.now);
+    assert!(driver.air.sleepers.answered(5, driver.now));
     driver.send(0, numbered(110, SHORT_UNIT));
     assert_eq!(of_station(&driver.flush()), [110]);
 }

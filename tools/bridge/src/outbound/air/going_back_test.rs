@@ -27,7 +27,7 @@ fn units_that_are_about_to_go_back_do_not_where_their_station_left() {
     driver.send(0, unit(OURS, STRANGER, 7));
     for (station, mark) in [(STATION, 5), (STRANGER, 6)] {
         driver.air.dozes(0, station, mark, driver.now);
-        driver.air.answered(mark, driver.now);
+        driver.air.sleepers.answered(mark, driver.now);
     }
     assert!(matches!(driver.air.next_errand(), Some(Errand::HandBack { .. })));
     driver.air.leaves(0, STATION, None, driver.now);
@@ -44,7 +44,7 @@ fn a_lost_unit_of_a_station_that_left_is_not_sent_once_more() {
     driver.send(0, numbered(100, SHORT_UNIT));
     let sent = driver.flush();
     driver.air.leaves(0, STATION, Some(9), driver.now);
-    driver.air.answered(9, driver.now);
+    driver.air.sleepers.answered(9, driver.now);
     driver.lose(&sent);
     driver.send(0, of_network(0xb0, OURS, STATION, 200, vec![0, 0, 2, 0, 0, 0]));
     assert_eq!(numbers(&driver.flush()), [200]);
@@ -100,7 +100,7 @@ fn the_answer_to_a_poll_goes_back_behind_what_is_kept() {
     driver.at_54();
     driver.sleeps();
     for (given, number, wanted) in [(1, 30, (1, 0)), (0, 31, (2, 0)), (2, 32, (3, 1)), (0, 33, (4, 2))] {
-        (0..given).for_each(|_| driver.air.was_given(0, STATION));
+        (0..given).for_each(|_| driver.air.sleepers.was_given(0, STATION));
         driver.send(0, numbered(number, SHORT_UNIT));
         driver.now += MOST_LIFETIME + MILLISECOND;
         assert_eq!((driver.flush(), errands(&mut driver)), (vec![], (vec![number], false)));

@@ -31,11 +31,6 @@ impl Transmitter {
         self.release(place, station);
     }
 
-    /// The program was given a frame by which a station that dozed is awake, and behind it this mark.
-    pub fn wakes(&mut self, place: Place, station: Address, mark: Mark, now: Instant) {
-        self.sleepers.wakes(place, station, mark, now);
-    }
-
     /// A station isn't associated any more. If the program wasn't given more than that yet, behind it stands this mark.
     pub fn leaves(&mut self, place: Place, station: Address, mark: Option<Mark>, now: Instant) {
         let waiting = self.take_chosen(place, station).len() + self.queue.take_units(place, station).len();
@@ -45,38 +40,8 @@ impl Transmitter {
         self.release(place, station);
     }
 
-    /// A station is associated, and awake.
-    pub fn joins(&mut self, place: Place, station: Address, now: Instant) {
-        self.sleepers.joins(place, station, now);
-    }
-
-    /// A station dozes since before this bridge began.
-    pub fn has_dozed(&mut self, place: Place, station: Address, now: Instant) {
-        self.sleepers.has_dozed(place, station, now);
-    }
-
     pub fn is_asleep(&self, place: Place, station: Address) -> bool {
         matches!(self.sleepers.mode(place, station), Mode::Dozes | Mode::FallsAsleep)
-    }
-
-    /// The program was given a unit for a station, which it keeps if that dozes.
-    pub fn was_given(&mut self, place: Place, station: Address) {
-        self.sleepers.was_given(place, station);
-    }
-
-    /// How many units the program keeps at most for a station.
-    pub fn kept_at_most(&self, place: Place, station: Address) -> u32 {
-        self.sleepers.kept_at_most(place, station)
-    }
-
-    /// The program answered a mark; answers whether there is such a one.
-    pub fn answered(&mut self, mark: Mark, now: Instant) -> bool {
-        self.sleepers.answered(mark, now)
-    }
-
-    /// Whether something is to be done for stations that fell asleep.
-    pub fn has_errands(&self) -> bool {
-        self.sleepers.has_next()
     }
 
     /// What is to be done next for them.

@@ -108,8 +108,8 @@ pub(super) struct Links {
     waits: VecDeque<(Instant, Place, Address)>,
     turns: u64,
     reporting: Reporting,
-    /// Of each network.
-    unacknowledged: Vec<Unacknowledged>,
+    /// Of each network what became so far of units that nobody acknowledged.
+    pub(super) unacknowledged: Vec<Unacknowledged>,
 }
 
 impl Links {
@@ -349,20 +349,6 @@ impl Links {
     /// Whether the radio tells what becomes of frames, as far as one knows.
     pub fn is_told(&self) -> bool {
         self.reporting != Reporting::Silent
-    }
-
-    /// What became so far of units that nobody acknowledged, of each network.
-    pub fn unacknowledged_by_network(&self) -> &[Unacknowledged] {
-        &self.unacknowledged
-    }
-
-    /// The same of all networks.
-    pub fn unacknowledged(&self) -> Unacknowledged {
-        let sum = |all: Unacknowledged, one: &Unacknowledged| Unacknowledged {
-            again: all.again + one.again,
-            lost: all.lost + one.lost,
-        };
-        self.unacknowledged.iter().fold(Unacknowledged::default(), sum)
     }
 }
 

@@ -102,5 +102,5 @@ fn what_is_told_of_strangers_changes_nothing() {
             Next::Nothing
         );
     }
-    assert_eq!((links.unacknowledged(), links.due()), (Unacknowledged::default(), None));
+    assert_eq!((links.unacknowledged, links.due()), (Unacknowledged::default(), None));
 }

@@ -64,7 +64,7 @@ impl Medium {
                 driver.reported(place, &sent[0], 0, true);
             }
         }
-        let sent_before = driver.air.sent();
+        let sent_before = driver.air.sent;
         Medium {
             driver,
             radio: VecDeque::new(),
@@ -110,7 +110,7 @@ impl Medium {
         self.driver.expire(self.driver.now);
         self.give();
         for _ in 0..IN_A_ROW {
-            if !self.driver.air.wants_outcomes(self.driver.air.sent() - self.sent_before) {
+            if !self.driver.air.wants_outcomes(self.driver.air.sent - self.sent_before) {
                 break;
             }
             self.read_outcomes();
@@ -120,7 +120,7 @@ impl Medium {
 
     fn read_outcomes(&mut self) {
         self.read();
-        self.sent_before = self.driver.air.sent();
+        self.sent_before = self.driver.air.sent;
         self.driver.air.reports_read();
     }
 

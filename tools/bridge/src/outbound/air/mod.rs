@@ -204,8 +204,9 @@ pub struct Transmitter {
     /// When the radio's socket is looked at, while the radio has as much as it may have.
     look_due: Option<Instant>,
     interface: Interface,
-    sent: u64,
-    sleepers: Sleepers,
+    /// How many frames were sent.
+    pub sent: u64,
+    pub sleepers: Sleepers,
     /// Of each network whether units for the group follow its last beacon and came last.
     follows_dtim: Vec<bool>,
 }
@@ -237,23 +238,21 @@ impl Transmitter {
         self.links.is_told()
     }
 
-    pub fn sent(&self) -> u64 {
-        self.sent
-    }
-
     /// What the air was to each network.
     pub fn accounts(&self) -> &[Account] {
         &self.queue.accounts
     }
 
-    /// What became so far of units that nobody acknowledged.
-    pub fn unacknowledged(&self) -> Unacknowledged {
-        self.links.unacknowledged()
+    /// What became so far of units that nobody acknowledged, of each network.
+    pub fn unacknowledged_by_network(&self) -> &[Unacknowledged] {
+        &self.links.unacknowledged
     }
 
-    /// The same, of each network.
-    pub fn unacknowledged_by_network(&self) -> &[Unacknowledged] {
-        self.links.unacknowledged_by_network()
+    /// The same of all networks.
+    pub fn unacknowledged(&self) -> Unacknowledged {
+        let sum = |(again, lost), one: &Unacknowledged| (again + one.again, lost + one.lost);
+        let (again, lost) = self.links.unacknowledged.iter().fold((0, 0), sum);
+        Unacknowledged { again, lost }
     }
 
     /// A frame was heard that is for this network alone.

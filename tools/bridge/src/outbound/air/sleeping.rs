@@ -166,6 +166,7 @@ impl Sleepers {
         self.change(place, station, Mode::Dozes, None, now);
     }
 
+    /// The program was given a frame by which a station that dozed is awake, and behind it this mark.
     pub fn wakes(&mut self, place: Place, station: Address, mark: Mark, now: Instant) {
         self.change(place, station, Mode::Wakes, Some(mark), now);
     }
