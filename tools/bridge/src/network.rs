@@ -24,7 +24,7 @@ pub struct Network {
 
 /// The places of networks by their addresses. There are sixteen at most, and nobody else chooses their addresses: to
 /// compare them takes less time than to hash one.
-#[derive(Debug)]
+#[derive(Debug, Default)]
 pub struct Places(Vec<Address>);
 
 impl Places {

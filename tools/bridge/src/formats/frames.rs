@@ -80,13 +80,7 @@ impl fmt::Display for Address {
 
 /// A text that is no address.
 #[derive(Debug, Clone, PartialEq, Eq)]
-pub struct NoAddress(String);
-
-impl fmt::Display for NoAddress {
-    fn fmt(&self, to: &mut fmt::Formatter<'_>) -> fmt::Result {
-        write!(to, "{} is no address, as 02:00:00:00:00:01 is one", self.0)
-    }
-}
+pub struct NoAddress;
 
 impl FromStr for Address {
     type Err = NoAddress;
@@ -99,11 +93,7 @@ impl FromStr for Address {
             && octets.iter_mut().enumerate().all(|(place, octet)| {
                 hex::decode_to_slice(&bytes[3 * place..3 * place + 2], std::slice::from_mut(octet)).is_ok()
             });
-        if is_read {
-            Ok(Address(octets))
-        } else {
-            Err(NoAddress(text.to_owned()))
-        }
+        is_read.then_some(Address(octets)).ok_or(NoAddress)
     }
 }
 

@@ -12,27 +12,9 @@ const RX_FLAGS: usize = 14;
 const TX_FLAGS: usize = 15;
 const DATA_RETRIES: usize = 17;
 const MORE_PRESENT: u32 = 1 << 31;
-/// The fields up to the retries, in the order of their bits: length and alignment.
-const FIELDS: [(usize, usize); 18] = [
-    (8, 8),
-    (1, 1),
-    (1, 1),
-    (4, 2),
-    (2, 1),
-    (1, 1),
-    (1, 1),
-    (2, 2),
-    (2, 2),
-    (2, 2),
-    (1, 1),
-    (1, 1),
-    (1, 1),
-    (1, 1),
-    (2, 2),
-    (2, 2),
-    (1, 1),
-    (1, 1),
-];
+/// Of the fields up to the retries, in the order of their bits: their lengths and their alignments.
+const LENGTHS: [usize; 18] = [8, 1, 1, 4, 2, 1, 1, 2, 2, 2, 1, 1, 1, 1, 2, 2, 1, 1];
+const ALIGNMENTS: [usize; 18] = [8, 1, 1, 2, 1, 1, 1, 2, 2, 2, 1, 1, 1, 1, 2, 2, 1, 1];
 const HAS_FCS: u8 = 0x10;
 const BAD_FCS: u8 = 0x40;
 const BAD_PLCP: u16 = 0x0002;
@@ -105,7 +87,7 @@ pub struct Reception {
 /// Where the fields of a header stand: one that isn't there at `NOWHERE`, since each stands behind the start.
 struct Fields<'a> {
     header: &'a [u8],
-    places: [u16; FIELDS.len()],
+    places: [u16; LENGTHS.len()],
 }
 
 const NOWHERE: u16 = 0;
@@ -123,11 +105,11 @@ impl<'a> Fields<'a> {
             }
             place += PRESENT_LEN;
         }
-        let mut places = [NOWHERE; FIELDS.len()];
-        let mut rest = first & ((1 << FIELDS.len()) - 1);
+        let mut places = [NOWHERE; LENGTHS.len()];
+        let mut rest = first & ((1 << LENGTHS.len()) - 1);
         while rest != 0 {
             let number = rest.trailing_zeros() as usize;
-            let (length, alignment) = FIELDS[number];
+            let (length, alignment) = (LENGTHS[number], ALIGNMENTS[number]);
             // Alignments are powers of two.
             place = (place + alignment - 1) & !(alignment - 1);
             if place + length <= header.len() {

@@ -30,36 +30,26 @@ pub enum Token {
 }
 
 pub const MOST_CLIENTS: usize = 16;
-const FIRST_CLIENT: u64 = 7;
-const LAST_CLIENT: u64 = FIRST_CLIENT + MOST_CLIENTS as u64 - 1;
-const FIRST_WIRE: u64 = LAST_CLIENT + 1;
+/// Those of which there is one each, by their numbers.
+const SINGLE: [Token; 7] =
+    [Token::Control, Token::Output, Token::Input, Token::Clock, Token::Monitor, Token::Listener, Token::Acknowledged];
+const FIRST_CLIENT: u64 = SINGLE.len() as u64;
+const FIRST_WIRE: u64 = FIRST_CLIENT + MOST_CLIENTS as u64;
 
 impl Token {
     fn number(self) -> u64 {
         match self {
-            Token::Control => 0,
-            Token::Output => 1,
-            Token::Input => 2,
-            Token::Clock => 3,
-            Token::Monitor => 4,
-            Token::Listener => 5,
-            Token::Acknowledged => 6,
             Token::Client(place) => FIRST_CLIENT + place as u64,
             Token::Wire(place) => FIRST_WIRE + place as u64,
+            single => SINGLE.iter().take_while(|one| **one != single).count() as u64,
         }
     }
 
     fn of(number: u64) -> Token {
         match number {
-            0 => Token::Control,
-            1 => Token::Output,
-            2 => Token::Input,
-            3 => Token::Clock,
-            4 => Token::Monitor,
-            5 => Token::Listener,
-            6 => Token::Acknowledged,
-            FIRST_CLIENT..=LAST_CLIENT => Token::Client((number - FIRST_CLIENT) as usize),
-            _ => Token::Wire((number - FIRST_WIRE) as usize),
+            FIRST_WIRE.. => Token::Wire((number - FIRST_WIRE) as usize),
+            FIRST_CLIENT.. => Token::Client((number - FIRST_CLIENT) as usize),
+            _ => SINGLE[number as usize],
         }
     }
 }

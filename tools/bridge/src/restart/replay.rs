@@ -39,7 +39,7 @@ pub struct Restored {
 }
 
 /// What is said to a new program, and what it answers.
-#[derive(Debug)]
+#[derive(Debug, Default)]
 pub struct Replay {
     events: VecDeque<Vec<u8>>,
     has_asked: bool,
@@ -55,15 +55,7 @@ pub struct Replay {
 impl Replay {
     /// The stations of a state are to be said, as far as these networks are those that they joined.
     pub fn of(state: &State, networks: &[Network]) -> Result<Replay, NotUsed> {
-        let mut replay = Replay {
-            events: VecDeque::new(),
-            has_asked: false,
-            networks: Vec::new(),
-            reads: None,
-            ended: 0,
-            swallowed: 0,
-            unfit: Vec::new(),
-        };
+        let mut replay = Replay::default();
         let mut is_any = state.networks.is_empty();
         for (place, network) in networks.iter().enumerate() {
             let left = state.networks.iter().find(|left| left.is(network));
@@ -99,12 +91,8 @@ impl Replay {
             }
         }
         self.events.extend(left);
-        self.networks.push(NetworkReplay {
-            bssid: network.bssid,
-            wanted: stations,
-            answered: AddressMap::default(),
-            rows: AddressMap::default(),
-        });
+        let (answered, rows) = (AddressMap::default(), AddressMap::default());
+        self.networks.push(NetworkReplay { bssid: network.bssid, wanted: stations, answered, rows });
     }
 
     pub fn is_empty(&self) -> bool {

@@ -12,6 +12,7 @@ use crate::inbound::queue::InboundQueue;
 use crate::network::Network;
 use crate::os::batch::Batch;
 use crate::os::clock::{now, wall_now, Arrivals, Duration, Instant, SECOND};
+use crate::os::gate::Gate;
 use crate::os::interfaces::Interfaces;
 use crate::os::poller::Token;
 use crate::os::port::Port;
@@ -65,7 +66,7 @@ pub(super) enum FirstBeacon {
 }
 
 /// What is known of the interfaces that are read.
-#[derive(Debug)]
+#[derive(Debug, Default)]
 pub(super) struct Reading {
     /// How often the bridge was woken, and in which waking the air and each wire were read last.
     pub(super) wakings: u64,
@@ -78,20 +79,6 @@ pub(super) struct Reading {
     pub(super) awaits_acknowledged: bool,
     /// When packets came.
     pub(super) arrivals: Arrivals,
-}
-
-impl Reading {
-    /// Nothing was read yet of the air and of the wires of so many networks.
-    fn new(networks: usize) -> Reading {
-        Reading {
-            wakings: 0,
-            read_in: vec![0; 1 + networks],
-            is_behind: false,
-            sent_before: 0,
-            awaits_acknowledged: false,
-            arrivals: Arrivals::default(),
-        }
-    }
 }
 
 /// The interfaces, and what waits between them and the program.
@@ -139,9 +126,7 @@ pub struct Running<P> {
 impl<P: Port> Running<P> {
     pub(super) fn new(interfaces: Interfaces<P>, manner: &Manner) -> Running<P> {
         let (start, networks) = (now(), manner.networks.clone());
-        let networks_len = networks.len();
         let timing = BeaconTiming::new(start, manner.setting.interval);
-        let reading = Reading::new(networks.len());
         Running {
             radio: Radio::new(manner.setting.channel, networks.len(), &timing),
             interfaces,
@@ -152,17 +137,17 @@ impl<P: Port> Running<P> {
             stations: Stations::new(&networks, manner.most_silence),
             events: Events::new(networks.iter().map(|network| network.bssid).collect(), wall_now()),
             tables: Tables::new(networks.len()),
-            networks,
             timing,
             first_beacon: FirstBeacon::Awaited { until: (!manner.has_sent).then_some(start + TO_BEACON) },
             given: Given::default(),
             left_out: BTreeMap::new(),
             has_told_drops: false,
             ended: BTreeMap::new(),
-            reading,
+            reading: Reading { read_in: vec![0; 1 + networks.len()], ..Reading::default() },
             tells_wires: manner.tells_wires,
-            updates: vec![0; networks_len],
-            update_paces: vec![Pace::default(); networks_len],
+            updates: vec![0; networks.len()],
+            update_paces: vec![Pace::default(); networks.len()],
+            networks,
             hands_back: false,
             wakes: WakeTiming::new(),
             getting_ready: VecDeque::new(),
@@ -218,11 +203,7 @@ impl<P: Port> Running<P> {
     pub(super) fn unblock(&mut self, token: Token) {
         match token {
             Token::Monitor => self.interfaces.monitor.unblock(),
-            Token::Wire(place) => {
-                if let Some(wire) = self.interfaces.wire(place) {
-                    wire.unblock();
-                }
-            }
+            Token::Wire(place) => self.interfaces.wire(place).into_iter().for_each(Gate::unblock),
             _ => {}
         }
     }

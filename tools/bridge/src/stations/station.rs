@@ -6,9 +6,10 @@ use crate::os::clock::Instant;
 pub type Member = (usize, Address);
 
 /// How far a station has joined its network.
-#[derive(Debug, Clone, Copy, PartialEq, Eq)]
+#[derive(Debug, Clone, Copy, Default, PartialEq, Eq)]
 pub enum State {
     /// It is authenticated, and not associated.
+    #[default]
     Authenticated,
     /// It is associated, with this identifier.
     Associated(u16),
@@ -54,7 +55,7 @@ pub struct Asked {
     pub times: u32,
 }
 
-#[derive(Debug, Clone, PartialEq, Eq)]
+#[derive(Debug, Clone, Default, PartialEq, Eq)]
 pub struct Station {
     pub state: State,
     pub dozes: bool,

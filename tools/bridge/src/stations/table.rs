@@ -12,7 +12,7 @@ use crate::stations::news::{Forgotten, News};
 use crate::stations::station::{Asked, KeptStation, Member, Move, State, Station, Traffic};
 
 /// The stations of all networks.
-#[derive(Debug)]
+#[derive(Debug, Default)]
 pub struct StationTable {
     pub(super) bssids: Vec<Address>,
     pub(super) places: Places,
@@ -40,17 +40,11 @@ impl StationTable {
         StationTable {
             places: Places::new(bssids.iter().copied()),
             stations: bssids.iter().map(|_| AddressMap::default()).collect(),
-            associated: HashMap::new(),
             unassociated: vec![BTreeSet::new(); bssids.len()],
             told_of: vec![BTreeMap::new(); bssids.len()],
             refusals: vec![BTreeMap::new(); bssids.len()],
             bssids,
-            entered: Vec::new(),
-            left: Vec::new(),
-            news: Vec::new(),
-            moves: Vec::new(),
-            turns: 0,
-            changes: 0,
+            ..StationTable::default()
         }
     }
 
@@ -186,26 +180,7 @@ impl StationTable {
             None => {}
         }
         self.turns += 1;
-        let station = Station {
-            state: State::Authenticated,
-            dozes: false,
-            will_doze: false,
-            joins_dozing: false,
-            since: now,
-            heard: now,
-            frame_heard: now,
-            signal: None,
-            to: Traffic::default(),
-            from: Traffic::default(),
-            asked: Asked::default(),
-            is_leaving: false,
-            turn: self.turns,
-            listen: 0,
-            has_dozed: false,
-            joined_by: None,
-            wanted_listen: 0,
-            asks_by: None,
-        };
+        let station = Station { since: now, heard: now, frame_heard: now, turn: self.turns, ..Station::default() };
         self.stations[member.0].insert(member.1, station);
         self.unassociated[member.0].insert((now, member.1));
         self.entered.push(member);
