@@ -1,9 +1,8 @@
 use super::*;
 use crate::apctl::tables::Asker;
-use crate::formats::frames::Address;
 use crate::os::clock::{MILLISECOND, SECOND};
 use crate::outbound::air::account::{HandedBack, Unsent};
-use crate::testing::samples::{at, network, OTHER, OURS, STATION};
+use crate::testing::samples::{at, frame_of, made_up, network, of_network, OTHER, OURS, STATION};
 
 #[test]
 fn texts_are_escaped() {
@@ -31,12 +30,7 @@ fn stations_that_are_not_listed_are_counted() {
     const KNOWN: u16 = 1700;
     let mut known = Known::of(vec![network(OURS)]);
     for number in 0..KNOWN {
-        let [high, low] = number.to_be_bytes();
-        let station = Address::of([2, 0xaa, 0, 0, high, low]);
-        let to = |control, body: &[u8]| {
-            let head = [&[control, 0, 0, 0][..], station.octets(), OURS.octets(), OURS.octets(), &[0, 0]].concat();
-            [&head[..], body].concat()
-        };
+        let to = |control, body: &[u8]| of_network(OURS, made_up(number.into()), control, body);
         known.table.answered(0, &to(0xb0, &[0, 0, 2, 0, 0, 0]), at(SECOND));
         if number < JOINED {
             let [low, high] = (number + 1).to_le_bytes();
@@ -115,13 +109,9 @@ fn all_stands_in_one_line() {
     let of_wire = Network { wire: Some("wire1".into()), quota: 2000, ..network(OURS) };
     let mut known = Known::of(vec![of_wire, network(OTHER)]);
     let (table, tables, faults) = (&mut known.table, &mut known.tables, &mut known.faults);
-    let to = |control, body: &[u8]| {
-        let head = [&[control, 0, 0, 0][..], STATION.octets(), OURS.octets(), OURS.octets(), &[0, 0]].concat();
-        [&head[..], body].concat()
-    };
+    let to = |control, body: &[u8]| of_network(OURS, STATION, control, body);
     table.answered(0, &to(0xb0, &[0, 0, 2, 0, 0, 0]), at(SECOND));
-    let asks = [&[0, 0, 0, 0][..], OURS.octets(), STATION.octets(), OURS.octets(), &[0, 0, 1, 0, 5, 0]].concat();
-    table.fed(&asks, at(SECOND));
+    table.fed(&frame_of([0, 0], OURS, STATION, OURS, &[1, 0, 5, 0]), at(SECOND));
     table.answered(0, &to(0x10, &[1, 0, 0, 0, 3, 0xc0]), at(SECOND));
     table.answered(1, &to(0xb0, &[0, 0, 2, 0, 1, 0]), at(SECOND));
     tables.ask(Asker::Status, Instant::START);

@@ -126,9 +126,7 @@ fn of_beacons_that_were_sent_about_one_a_second_comes() {
 fn what_is_cut_goes_on() {
     let filter = monitor_filter(&[OURS], Shown::Outcomes, Drawn::Each);
     let packet = heard(&data());
-    for length in 0..18 {
-        assert_eq!(kept(&filter, &packet[..length]), ALL, "{length}");
-    }
+    (0..18).for_each(|length| assert_eq!(kept(&filter, &packet[..length]), ALL, "{length}"));
     assert_eq!(kept(&filter, &[&[1][..], &packet[1..]].concat()), ALL);
     assert_eq!(kept(&filter, &[0, 0, 0xff, 0xff, 0, 0, 0, 0, 0, 0, 0, 0]), ALL);
     assert_eq!(kept(&filter, &[0, 0, 7, 0, 0, 0, 0, 0, 0, 0, 0, 0, 0, 0, 0, 0, 0, 0, 0, 0]), ALL);

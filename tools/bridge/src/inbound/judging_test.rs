@@ -1,5 +1,5 @@
 use super::*;
-use crate::testing::samples::{data, radiotap, Unit, OTHER, OURS, STATION, STRANGER};
+use crate::testing::samples::{data, made_up, radiotap, Unit, OTHER, OURS, STATION, STRANGER};
 
 const OTHER_STATION: Address = Address::of([2, 0xaa, 0, 0, 0, 2]);
 
@@ -136,13 +136,12 @@ fn neither_frames_to_all_nor_polls_nor_short_ones_are_repeated() {
 #[test]
 fn of_many_senders_those_heard_last_are_known() {
     let air = &mut air();
-    let sender = |number: usize| Address::of([2, 0, 0, 0, (number >> 8) as u8, number as u8]);
     for number in 0..MOST_SENDERS + 10 {
-        goes_on(air, Unit { transmitter: sender(number), ..Unit::default() });
+        goes_on(air, Unit { transmitter: made_up(number), ..Unit::default() });
     }
     assert_eq!(air.last[0].numbers.len(), MOST_SENDERS);
-    assert!(!goes_on(air, Unit { transmitter: sender(MOST_SENDERS + 9), ..again() }));
-    assert!(goes_on(air, Unit { transmitter: sender(0), ..again() }));
+    assert!(!goes_on(air, Unit { transmitter: made_up(MOST_SENDERS + 9), ..again() }));
+    assert!(goes_on(air, Unit { transmitter: made_up(0), ..again() }));
 }
 
 #[test]
@@ -150,8 +149,7 @@ fn senders_to_one_network_push_none_out_of_another() {
     let air = &mut air();
     assert!(goes_on(air, Unit { receiver: OTHER, transmitter: STRANGER, ..Unit::default() }));
     for number in 0..2 * MOST_SENDERS {
-        let transmitter = Address::of([2, 0, 0, 0, (number >> 8) as u8, number as u8]);
-        goes_on(air, Unit { transmitter, ..Unit::default() });
+        goes_on(air, Unit { transmitter: made_up(number), ..Unit::default() });
     }
     assert!(!goes_on(air, Unit { receiver: OTHER, transmitter: STRANGER, ..again() }));
     assert_eq!(air.last[1].numbers.len(), 1);

@@ -3,9 +3,10 @@ use std::collections::HashMap;
 use super::*;
 use crate::formats::frames::{Address, Frame};
 use crate::inbound::frame::{Priority, LONGEST, LONGEST_OF_REQUEST, NOBODY};
+use crate::inbound::held::Holding;
 use crate::inbound::source_queue::{Why, MOST_FRAMES, MOST_OCTETS, MOST_OF_FLOW};
 use crate::os::clock::{Duration, Instant, MILLISECOND, SECOND};
-use crate::testing::samples::{at, data as unit, Seeded, Unit, NANOSECOND, OTHER, OURS, STATION, STRANGER};
+use crate::testing::samples::{at, data as unit, made_up, Seeded, Unit, NANOSECOND, OTHER, OURS, STATION, STRANGER};
 
 const AIR: Source = Source::Air(0);
 
@@ -19,10 +20,6 @@ fn data(sender: Address, arrived: Instant, mark: u8) -> InboundFrame {
 
 fn request(arrived: Instant, mark: u8) -> InboundFrame {
     of(Priority::Request, STATION, arrived, mark)
-}
-
-fn made_up(number: usize) -> Address {
-    Address::of([2, 0, 0, 0, (number >> 8) as u8, number as u8])
 }
 
 fn marks(waiting: &mut InboundQueue, now: Instant) -> Vec<(Source, u8)> {
@@ -40,9 +37,7 @@ fn dropped(waiting: &InboundQueue) -> Vec<(Source, Priority, Why, u64)> {
 fn frames_of_a_source_keep_their_order_and_sources_take_turns() {
     let mut waiting = InboundQueue::new(2);
     let (all, wire, other) = (Source::AirForAll, Source::Wire(0), Source::Air(1));
-    for mark in 0..3 {
-        waiting.push(AIR, data(STATION, Instant::START, mark));
-    }
+    (0..3).for_each(|mark| waiting.push(AIR, data(STATION, Instant::START, mark)));
     waiting.push(AIR, request(Instant::START, 3));
     waiting.push(other, request(Instant::START, 10));
     waiting.push(other, data(STATION, Instant::START, 11));
@@ -72,10 +67,8 @@ fn what_a_frame_is_is_seen() {
         (management(13), Priority::Request),
     ] {
         let frame = InboundFrame::of_air(Frame::of(&octets).unwrap(), false, Instant::from_nanos(7));
-        assert_eq!(
-            frame,
-            InboundFrame { priority: wanted, flow: (STATION, OURS), arrived: Instant::from_nanos(7), octets }
-        );
+        let arrived = Instant::from_nanos(7);
+        assert_eq!(frame, InboundFrame { priority: wanted, flow: (STATION, OURS), arrived, octets });
     }
     let mode = InboundFrame::of_air(Frame::of(&unit()).unwrap(), true, Instant::from_nanos(7));
     assert_eq!((mode.priority, mode.is_late(Instant::START + 9 * SECOND)), (Priority::Notice, false));
@@ -111,9 +104,7 @@ fn who_sends_too_much_loses_its_own_oldest_frames() {
         let mut waiting = InboundQueue::new(1);
         waiting.push(AIR, of(priority, STRANGER, Instant::START, 200));
         waiting.push(AIR, of(Priority::Request, OTHER, Instant::START, 201));
-        for mark in 0..MOST_OF_FLOW as u8 + 2 {
-            waiting.push(AIR, of(priority, STATION, Instant::START, mark));
-        }
+        (0..MOST_OF_FLOW as u8 + 2).for_each(|mark| waiting.push(AIR, of(priority, STATION, Instant::START, mark)));
         let wanted: Vec<_> = [200, 201].into_iter().chain(2..MOST_OF_FLOW as u8 + 2).map(|mark| (AIR, mark)).collect();
         assert_eq!(marks(&mut waiting, Instant::START), wanted);
         assert_eq!(dropped(&waiting), [(AIR, priority, Why::Crowded, 2)]);
@@ -301,9 +292,7 @@ fn dropping_takes_no_longer_where_many_wait() {
         let pushes = 4000;
         let waiters: Vec<_> = (0..pushes).map(|_| data(STATION, Instant::START, 0)).collect();
         let begun = crate::os::clock::now();
-        for frame in waiters {
-            queue.push(frame);
-        }
+        waiters.into_iter().for_each(|frame| queue.push(frame));
         crate::os::clock::now().since(begun) / pushes
     };
     let (few, many) = (0..9).map(|_| (time(10), time(8000))).min_by_key(|(_, many)| *many).unwrap();

@@ -7,7 +7,7 @@ use crate::os::clock::{now, Duration, Instant, SECOND};
 use crate::restart::state::{choose, NetworkState, Setting};
 use crate::restart::state_text::MOST_AID;
 use crate::stations::meaning::{from_station, FromStation};
-use crate::testing::samples::{at, network, Seeded, NANOSECOND, OTHER, OURS, STATION, STRANGER};
+use crate::testing::samples::{self, at, network, Seeded, NANOSECOND, OTHER, OURS, STATION, STRANGER};
 
 #[path = "state_test.rs"]
 mod state_tests;
@@ -156,8 +156,7 @@ impl Model {
 }
 
 fn answer(bssid: Address, station: Address, control: u8, body: &[u8]) -> Answer {
-    let head = [&[control, 0, 0, 0][..], station.octets(), bssid.octets(), bssid.octets(), &[0, 0]].concat();
-    Answer::Air(bssid, [&head[..], body].concat())
+    Answer::Air(bssid, samples::of_network(bssid, station, control, body))
 }
 
 /// What comes of a network's stations with this model.
@@ -168,9 +167,7 @@ fn restore(state: &State, ours: &Network, model: Model) -> Restored {
 /// What comes of all networks' stations, each with its model.
 fn restore_all(state: &State, networks: &[Network], mut models: Vec<Model>) -> Restored {
     let mut replay = Replay::of(state, networks).unwrap();
-    for (network, model) in networks.iter().zip(&mut models) {
-        model.max_stations = network.max_stations.into();
-    }
+    networks.iter().zip(&mut models).for_each(|(network, model)| model.max_stations = network.max_stations.into());
     while let Some(event) = replay.next() {
         for (network, model) in networks.iter().zip(&mut models) {
             let is_heard = match &event {

@@ -59,12 +59,11 @@ mod tests {
     use crate::os::clock::SECOND;
     use crate::restart::state::State;
     use crate::stations::own_frames::association_request;
-    use crate::testing::samples::{at, network, OTHER, OURS};
+    use crate::testing::samples::{at, made_up, network, OTHER, OURS};
 
     fn network_of(bssid: Address, stations: u16) -> NetworkState {
         let kept = |aid: u16| {
-            let [high, low] = aid.to_be_bytes();
-            let address = Address::of([2, 0xaa, 0, 0, high, low]);
+            let address = made_up(aid.into());
             let request = association_request(&network(bssid), address);
             KeptStation { address, aid, listen: 1, dozes: aid % 2 == 0, has_dozed: true, request }
         };

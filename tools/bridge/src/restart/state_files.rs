@@ -251,22 +251,11 @@ mod tests {
     fn what_is_longer_than_any_state_is_not_written() {
         const LONGEST_REQUEST: usize = 198;
         const NETWORKS: usize = 16;
-        let station = KeptStation {
-            address: STATION,
-            aid: MOST_AID,
-            listen: u16::MAX,
-            dozes: true,
-            has_dozed: true,
-            request: vec![0; LONGEST_REQUEST],
-        };
-        let network = NetworkState {
-            bssid: OURS,
-            ssid: vec![0; 32],
-            rates: vec![0; 20],
-            units: Some(u64::MAX),
-            waiting: usize::MAX,
-            stations: vec![station; usize::from(MOST_AID)],
-        };
+        let (listen, request) = (u16::MAX, vec![0; LONGEST_REQUEST]);
+        let station = KeptStation { address: STATION, aid: MOST_AID, listen, dozes: true, has_dozed: true, request };
+        let (ssid, rates, stations) = (vec![0; 32], vec![0; 20], vec![station; usize::from(MOST_AID)]);
+        let (units, waiting) = (Some(u64::MAX), usize::MAX);
+        let network = NetworkState { bssid: OURS, ssid, rates, units, waiting, stations };
         let setting = Setting { phy: "phy0".to_owned(), channel: 14, interval: u16::MAX };
         let state = State { setting, written: Instant::NEVER, is_last: true, networks: vec![network; NETWORKS] };
         assert!((MOST_WRITTEN / 4..MOST_WRITTEN / 2).contains(&state.text().len()));

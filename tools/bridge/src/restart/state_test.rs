@@ -37,9 +37,7 @@ fn a_state_that_says_what_can_t_be_is_damaged() {
     wrong[6].networks[0].stations[0].request[0] = 0xb0;
     wrong[7].networks[1].stations = good.networks[0].stations.clone();
     wrong[8].networks[0].stations[0].request[9] ^= 1;
-    for (number, state) in wrong.iter().enumerate() {
-        assert_eq!(State::read(&state.text()), None, "{number}");
-    }
+    wrong.iter().enumerate().for_each(|(number, state)| assert_eq!(State::read(&state.text()), None, "{number}"));
     let mut twice = good;
     twice.networks[0].stations[1] = KeptStation { aid: 3, ..twice.networks[0].stations[0].clone() };
     assert_eq!(State::read(&twice.text()), None);

@@ -1,34 +1,22 @@
 use super::*;
 use crate::formats::radiotap::Outcome;
 use crate::os::clock::Duration;
-use crate::stations::own_frames::departure;
-use crate::testing::samples::{at, OTHER, OURS, STATION, STRANGER};
+use crate::stations::own_frames::{departure, mode_of_station};
+use crate::testing::samples::{at, made_up, of_network, OTHER, OURS, STATION, STRANGER};
 
 const MOST: Duration = Duration::from_secs(300);
 
-/// A frame of a network to a station.
-fn of(bssid: Address, station: Address, control: u8, body: &[u8]) -> Vec<u8> {
-    let head = [&[control, 0, 0, 0][..], station.octets(), bssid.octets(), bssid.octets(), &[0, 0]].concat();
-    [&head[..], body].concat()
-}
-
-/// A frame of our network to a station.
-fn to(station: Address, control: u8, body: &[u8]) -> Vec<u8> {
-    of(OURS, station, control, body)
-}
-
 fn enter(table: &mut StationTable, station: Address, now: Instant) {
-    table.answered(0, &to(station, 0xb0, &[0, 0, 2, 0, 0, 0]), now);
+    table.answered(0, &of_network(OURS, station, 0xb0, &[0, 0, 2, 0, 0, 0]), now);
 }
 
 fn join(table: &mut StationTable, station: Address, now: Instant) {
     enter(table, station, now);
-    table.answered(0, &to(station, 0x10, &[1, 0, 0, 0, 1, 0xc0]), now);
+    table.answered(0, &of_network(OURS, station, 0x10, &[1, 0, 0, 0, 1, 0xc0]), now);
 }
 
 fn doze(table: &mut StationTable) {
-    let null = [&[0x48, 0x11, 0, 0][..], OURS.octets(), STATION.octets(), OURS.octets(), &[0, 0]].concat();
-    table.fed(&null, Instant::START);
+    table.fed(&mode_of_station(OURS, STATION, true), Instant::START);
 }
 
 /// What is done each tenth of a second, with the tenth in which it is.
@@ -47,11 +35,6 @@ fn gone(seconds: u32) -> Step {
 
 fn keep_alive() -> (StationTable, KeepAlive) {
     (StationTable::new(vec![OURS]), KeepAlive::new(Some(MOST), [100]))
-}
-
-fn made_up(number: u16) -> Address {
-    let [high, low] = number.to_be_bytes();
-    Address::of([2, 9, 0, 0, high, low])
 }
 
 /// The stations that are given up, with the tenth of a second, and how many are told so; each leaves at once.
@@ -95,7 +78,7 @@ fn who_answers_stays() {
     join(&mut table, STATION, Instant::START);
     assert_eq!(steps(&mut table, &mut keep_alive, 0..3001), [(3000, Step::Ask(STATION))]);
     let outcome = Outcome { is_acknowledged: true, retries: 0, rate: None };
-    table.reported(&to(STATION, 0x48, &[]), outcome, false, at(300 * SECOND));
+    table.reported(&of_network(OURS, STATION, 0x48, &[]), outcome, false, at(300 * SECOND));
     let found = steps(&mut table, &mut keep_alive, 3001..6011);
     assert_eq!(found, [(6000, Step::Ask(STATION)), (6010, Step::Ask(STATION))]);
 }
@@ -161,11 +144,10 @@ fn silent_stations_of_one_network_keep_those_of_another_from_no_question() {
         let mut table = StationTable::new(vec![OURS, OTHER]);
         let mut keep_alive = KeepAlive::new(Some(MOST), [max_known, 100]);
         for station in [STATION, STRANGER] {
-            table.answered(1, &of(OTHER, station, 0xb0, &[0, 0, 2, 0, 0, 0]), Instant::START);
-            table.answered(1, &of(OTHER, station, 0x10, &[1, 0, 0, 0, 1, 0xc0]), Instant::START);
+            table.answered(1, &of_network(OTHER, station, 0xb0, &[0, 0, 2, 0, 0, 0]), Instant::START);
+            table.answered(1, &of_network(OTHER, station, 0x10, &[1, 0, 0, 0, 1, 0xc0]), Instant::START);
         }
-        let null = [&[0x48, 0x11, 0, 0][..], OTHER.octets(), STATION.octets(), OTHER.octets(), &[0, 0]].concat();
-        table.fed(&null, Instant::START);
+        table.fed(&mode_of_station(OTHER, STATION, true), Instant::START);
         (0..1900).for_each(|number| enter(&mut table, made_up(number), at(MOST - AUTHENTICATED - SECOND)));
         let (mut asked, mut others) = (Vec::new(), 0);
         for tenth in 0..3100 {
@@ -279,9 +261,7 @@ fn entries_of_stations_that_left_do_not_pile_up() {
             number += 1;
         }
         keep_alive.look(&mut table, now);
-        for left in first..number {
-            table.fed(&departure(OURS, made_up(left)), now);
-        }
+        (first..number).for_each(|left| table.fed(&departure(OURS, made_up(left)), now));
         assert!(entries(&keep_alive) <= 100 && table.known(0) == 0, "{} entries at {tenth}", entries(&keep_alive));
     }
     keep_alive.look(&mut table, at(60 * SECOND));

@@ -136,12 +136,10 @@ fn read_tim(body: &[u8]) -> Option<Tim> {
 #[cfg(test)]
 mod tests {
     use super::*;
-    use crate::testing::samples::{Unit, OURS, STATION};
+    use crate::testing::samples::{frame_of, OURS, STATION};
 
     fn frame(control: u8, flags: u8, body: &[u8]) -> Vec<u8> {
-        let mut octets = Unit { control: [control, flags], body: body.to_vec(), ..Unit::default() }.octets();
-        octets[16..22].copy_from_slice(OURS.octets());
-        octets
+        frame_of([control, flags], OURS, STATION, OURS, body)
     }
 
     fn said_by(octets: &[u8]) -> Option<FromStation> {
@@ -150,11 +148,7 @@ mod tests {
 
     #[test]
     fn frames_of_a_station_are_read() {
-        let numbered = |control, flags, body: &[u8]| {
-            let mut octets = frame(control, flags, body);
-            octets[22] = 0x10;
-            said_by(&octets)
-        };
+        let numbered = |control, flags, body: &[u8]| said_by(&frame(control, flags, body));
         assert_eq!(numbered(0x00, 0, &[1, 0, 5, 0]), Some(FromStation::Association { listen: 5 }));
         assert_eq!(numbered(0x20, 8, &[1, 0, 0, 1, 0, 0]), Some(FromStation::Association { listen: 256 }));
         assert_eq!(numbered(0xa0, 0, &[8, 0]), Some(FromStation::Disassociation { reason: 8 }));

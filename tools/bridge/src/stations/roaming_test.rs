@@ -1,10 +1,10 @@
 use super::*;
 use crate::formats::ethernet::update;
-use crate::formats::frames::{Address, Frame};
+use crate::formats::frames::Frame;
 use crate::formats::radiotap::{Outcome, Reception};
 use crate::os::clock::MILLISECOND;
 use crate::stations::own_frames::{mode_of_station, null};
-use crate::testing::samples::{at, Unit, OTHER, OURS, STATION, STRANGER};
+use crate::testing::samples::{at, made_up, Unit, OTHER, OURS, STATION, STRANGER};
 
 const MEMBER: Member = (1, STATION);
 /// When the station was associated.
@@ -23,10 +23,9 @@ impl Site {
         Site { table, roaming: Roaming::new(2) }
     }
 
-    fn with_many(number: u32) -> (Site, Vec<Member>) {
+    fn with_many(number: usize) -> (Site, Vec<Member>) {
         let mut site = Site::new();
-        let address = |number: u32| Address::of([2, 0xcc, 0, 0, (number >> 8) as u8, number as u8]);
-        let members: Vec<Member> = (0..number).map(|number| (1, address(number))).collect();
+        let members: Vec<Member> = (0..number).map(|number| (1, made_up(number))).collect();
         members.iter().zip(1..).for_each(|(member, aid)| site.table.associate(*member, aid, at(JOINED)));
         (site, members)
     }
@@ -333,7 +332,7 @@ fn few_are_asked_at_a_time() {
 
 #[test]
 fn few_are_awaited_at_a_time() {
-    let (mut site, members) = Site::with_many(2 * MOST_AWAITED as u32);
+    let (mut site, members) = Site::with_many(2 * MOST_AWAITED);
     for (_, address) in &members {
         let null = Unit { control: [0x48, 0x01], transmitter: *address, ..Unit::default() }.octets();
         site.table.heard(Frame::of(&null).unwrap(), Reception::default(), at(10 * SECOND));

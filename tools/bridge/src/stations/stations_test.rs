@@ -3,8 +3,8 @@ use crate::control::log::Level;
 use crate::formats::ethernet::update;
 use crate::os::clock::{Instant, SECOND};
 use crate::stations::news::News;
-use crate::stations::own_frames::association_request;
-use crate::testing::samples::{at, network, OTHER, OURS, STATION, STRANGER};
+use crate::stations::own_frames::{association_request, mode_of_station};
+use crate::testing::samples::{self, at, frame_of, network, OTHER, OURS, STATION, STRANGER};
 
 /// A frame of a network, with a sequence number.
 fn of_network(control: u8, receiver: Address, number: u16, body: &[u8]) -> Vec<u8> {
@@ -81,17 +81,14 @@ fn who_acknowledges_stays() {
     assert_eq!(behind_beacon(&mut stations, 3, at(5 * SECOND)).len(), 1);
     let outcome = Outcome { is_acknowledged: true, retries: 2, rate: Some(2) };
     stations.reported(&null(OURS, STATION, 9), outcome, at(5 * SECOND));
-    for second in 6..10 {
-        assert_eq!(behind_beacon(&mut stations, 4, at(second * SECOND)), []);
-    }
+    (6..10).for_each(|second| assert_eq!(behind_beacon(&mut stations, 4, at(second * SECOND)), []));
     assert_eq!(stations.table.station(&(1, STATION)).unwrap().to.rate, None);
 }
 
 #[test]
 fn who_dozes_is_asked_by_a_unit_that_the_program_keeps() {
     let mut stations = joined();
-    let null = [&[0x48, 0x11, 0, 0][..], OURS.octets(), STATION.octets(), OURS.octets(), &[0, 0]].concat();
-    stations.fed(&null, Instant::START);
+    stations.fed(&mode_of_station(OURS, STATION, true), Instant::START);
     let wanted = [Errand::Ask { place: 1, frame: test_command(OURS, STATION) }];
     assert_eq!(stations.look(at(5 * SECOND)), wanted);
 }
@@ -134,11 +131,7 @@ fn who_joins_another_network_has_moved() {
     };
     let joins = News::Joins { aid: 1, listen: 0 };
     assert_eq!(happened(&mut stations), [(1, Happened::Station { station: STATION, news: joins })]);
-    let of_other = |control, body: &[u8]| {
-        let mut frame = of_network(control, STATION, 1, body);
-        frame[10..16].copy_from_slice(OTHER.octets());
-        frame
-    };
+    let of_other = |control, body: &[u8]| samples::of_network(OTHER, STATION, control, body);
     stations.answered(OTHER, &of_other(0xb0, &[0, 0, 2, 0, 0, 0]), Instant::START);
     stations.answered(OTHER, &of_other(0x10, &[1, 0, 0, 0, 7, 0xc0]), Instant::START);
     assert_eq!(happened(&mut stations), [(0, Happened::Moved { station: STATION, from: OURS, aid: 7, listen: 0 })]);
@@ -160,21 +153,15 @@ fn who_comes_and_goes_is_counted() {
     stations.kick(OURS, STATION, at(SECOND)).unwrap();
     stations.fed(&departure(OURS, STATION), at(SECOND));
     (0..99).for_each(|_| joins_again(&mut stations));
-    let leaves = [&[0xa0, 0, 0, 0][..], OURS.octets(), STATION.octets(), OURS.octets(), &[0, 0, 8, 0]].concat();
-    stations.fed(&leaves, at(SECOND));
+    stations.fed(&frame_of([0xa0, 0], OURS, STATION, OURS, &[8, 0]), at(SECOND));
     joins_again(&mut stations);
     assert!(stations.take_events().len() < 60);
-    let of_other = |control, body: &[u8]| {
-        let mut frame = of_network(control, STATION, 1, body);
-        frame[10..16].copy_from_slice(OTHER.octets());
-        frame
-    };
-    stations.answered(OTHER, &of_other(0x10, &[1, 0, 0, 0, 7, 0xc0]), at(SECOND));
+    let joined = samples::of_network(OTHER, STATION, 0x10, &[1, 0, 0, 0, 7, 0xc0]);
+    stations.answered(OTHER, &joined, at(SECOND));
     let claim = update(STATION);
     assert_eq!(stations.wired(1, &claim, true, at(3 * SECOND)), Some(Errand::Say(departure(OURS, STATION))));
-    let (_, tallies) = stations.known();
     let ours = Tally { joins: 101, said: 1, kicked: 1, moved_out: 1, ..Tally::default() };
-    assert_eq!(tallies, [Tally { joins: 1, moved_in: 1, ..Tally::default() }, ours]);
+    assert_eq!(stations.tallies, [Tally { joins: 1, moved_in: 1, ..Tally::default() }, ours]);
 }
 
 /// Who is silent, and who makes room in a network that is nearly full.
@@ -185,8 +172,7 @@ fn who_is_forgotten_is_counted_by_why() {
     (4..10).for_each(|number| {
         behind_beacon(&mut stations, number, at(u32::from(number) * SECOND));
     });
-    let (_, tallies) = stations.known();
-    assert_eq!(tallies[1], Tally { joins: 1, silent: 1, unassociated: 1, ..Tally::default() });
+    assert_eq!(stations.tallies[1], Tally { joins: 1, silent: 1, unassociated: 1, ..Tally::default() });
 }
 
 /// As many events as lines of the log: what is left out there is one event with their number.
@@ -194,9 +180,8 @@ fn who_is_forgotten_is_counted_by_why() {
 fn a_flood_of_a_network_is_one_event_more() {
     let mut stations = joined();
     stations.take_events();
-    for _ in 0..60 {
-        stations.answered(OURS, &of_network(0xb0, STRANGER, 3, &[0, 0, 2, 0, 13, 0]), at(SECOND));
-    }
+    let refused = of_network(0xb0, STRANGER, 3, &[0, 0, 2, 0, 13, 0]);
+    (0..60).for_each(|_| drop(stations.answered(OURS, &refused, at(SECOND))));
     assert_eq!(stations.take_events().len(), 50);
     stations.look(at(3 * SECOND));
     let happened: Vec<Happened> = stations.take_events().into_iter().map(|(_, _, happened)| happened).collect();

@@ -4,7 +4,7 @@ use crate::formats::radiotap::{Outcome, Reception};
 use crate::os::clock::SECOND;
 use crate::stations::meaning::Tim;
 use crate::stations::own_frames::departure;
-use crate::testing::samples::{at, OTHER, OURS, STATION, STRANGER};
+use crate::testing::samples::{at, frame_of, OTHER, OURS, STATION, STRANGER};
 
 const FIRST: Member = (0, STATION);
 const PLAIN: Reception = Reception { signal: Some(-40), rate: Some(22), frequency: None };
@@ -14,8 +14,7 @@ fn table() -> StationTable {
 }
 
 fn frame(control: [u8; 2], receiver: Address, sender: Address, body: &[u8]) -> Vec<u8> {
-    let head = [&[control[0], control[1], 0, 0][..], receiver.octets(), sender.octets(), OURS.octets()].concat();
-    [&head[..], &[0x10, 0], body].concat()
+    frame_of(control, receiver, sender, OURS, body)
 }
 
 fn authenticated(table: &mut StationTable, station: Address, status: u8) {
@@ -99,21 +98,15 @@ fn frames_and_acknowledgements_are_signs_of_life() {
 fn who_dozes_too_long_is_told_of_once() {
     let mut table = joined();
     let too_long = (FIRST, News::DozesTooLong { beacons: 3, listen: 2 });
-    for _ in 0..5 {
-        assert_eq!(beacon(&mut table, 0x02), Some(Tim { aids: vec![1], ..Tim::default() }));
-    }
+    (0..5).for_each(|_| assert_eq!(beacon(&mut table, 0x02), Some(Tim { aids: vec![1], ..Tim::default() })));
     assert_eq!(table.take_news(), [too_long]);
     let poll = [&[0xa4, 0x10, 1, 0xc0][..], OURS.octets(), STATION.octets()].concat();
     table.fed(&poll, at(SECOND));
-    for _ in 0..2 {
-        beacon(&mut table, 0x02);
-    }
+    (0..2).for_each(|_| drop(beacon(&mut table, 0x02)));
     beacon(&mut table, 0);
     beacon(&mut table, 0x02);
     assert_eq!(table.take_news(), []);
-    for _ in 0..3 {
-        beacon(&mut table, 0x02);
-    }
+    (0..3).for_each(|_| drop(beacon(&mut table, 0x02)));
     assert_eq!(table.take_news(), [too_long]);
 }
 
@@ -208,9 +201,7 @@ fn who_is_restored_is_there_as_before_without_a_word() {
     assert_eq!(table.kept(0), [awake]);
     table.restore(FIRST, &before[0], at(9 * SECOND));
     assert_eq!(table.kept(0), before);
-    for _ in 0..3 {
-        beacon(&mut table, 0x02);
-    }
+    (0..3).for_each(|_| drop(beacon(&mut table, 0x02)));
     assert_eq!(table.told_of(0), 1);
     assert_eq!(table.take_news(), [(FIRST, News::DozesTooLong { beacons: 3, listen: 2 })]);
 }
@@ -223,9 +214,7 @@ fn an_identifier_goes_to_another_station() {
     associated(&mut table, STRANGER, 0, 1);
     table.fed(&departure(OURS, STATION), at(SECOND));
     table.take_news();
-    for _ in 0..3 {
-        beacon(&mut table, 0x02);
-    }
+    (0..3).for_each(|_| drop(beacon(&mut table, 0x02)));
     assert_eq!(table.take_news(), [((0, STRANGER), News::DozesTooLong { beacons: 3, listen: 2 })]);
     let order: Vec<_> = table.stations_of(0).into_iter().map(|(address, _)| address).collect();
     assert_eq!(order, [STRANGER]);
@@ -253,9 +242,7 @@ fn fed_null(table: &mut StationTable, dozes: bool) {
 fn each_change_of_a_mode_is_told_once() {
     let mut table = joined();
     assert_eq!(table.take_moves(), [(FIRST, Move::Joins { dozes: false })]);
-    for dozes in [false, true, true, false] {
-        fed_null(&mut table, dozes);
-    }
+    [false, true, true, false].into_iter().for_each(|dozes| fed_null(&mut table, dozes));
     table.fed(&frame([0x08, 0x11], OURS, STATION, &[1; 10]), at(4 * SECOND));
     let wanted = [Move::Dozes, Move::Wakes, Move::Dozes].map(|change| (FIRST, change));
     assert_eq!(table.take_moves(), wanted);

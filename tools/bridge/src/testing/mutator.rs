@@ -80,9 +80,7 @@ fn packets_of_a_monitor_interface() {
             Judged::GoesOn(frame, _) => {
                 kinds[0] += 1;
                 assert!(frame.octets().len() <= MOST && !is_cut && frame.transmitter() != Some(OURS));
-                assert!(
-                    frame.receiver() == OURS || frame.receiver() == OTHER || frame.receiver().octets() == &[0xff; 6]
-                );
+                assert!([OURS, OTHER, Address::BROADCAST].contains(&frame.receiver()));
             }
             Judged::Sent(frame, _) => {
                 kinds[1] += 1;

@@ -72,6 +72,23 @@ pub fn data() -> Vec<u8> {
     Unit::default().octets()
 }
 
+/// A frame between a network and a station.
+pub fn frame_of(control: [u8; 2], receiver: Address, transmitter: Address, bssid: Address, body: &[u8]) -> Vec<u8> {
+    let addresses = [receiver, transmitter, bssid].map(|address| *address.octets()).concat();
+    [&control[..], &[0, 0], &addresses, &[0x10, 0], body].concat()
+}
+
+/// A frame of a network to a station.
+pub fn of_network(bssid: Address, station: Address, control: u8, body: &[u8]) -> Vec<u8> {
+    frame_of([control, 0], station, bssid, bssid, body)
+}
+
+/// A made-up address of this number.
+pub fn made_up(number: usize) -> Address {
+    let [.., high, low] = number.to_be_bytes();
+    Address::of([2, 9, 0, 0, high, low])
+}
+
 /// A frame as a monitor interface gives it: the first word of fields, and their octets.
 pub fn radiotap(frame: &[u8], present: u32, fields: &[u8]) -> Vec<u8> {
     let length = 8 + fields.len() as u16;

@@ -1,35 +1,28 @@
 use super::*;
 use crate::formats::frames::PROBE_REQUEST;
 use crate::outbound::air::station_requests::{requested_rates, MOST_JOINING, MOST_PROBING};
-use crate::testing::samples::network;
+use crate::testing::samples::{frame_of, made_up, network, OTHER, OURS, STATION, STRANGER};
 
-const BSSID: [u8; 6] = [2, 0, 0, 0, 1, 1];
-const STATION: [u8; 6] = [2, 0, 0, 0, 2, 0];
 const RATES: [u8; 12] = [0x82, 0x84, 0x8b, 0x96, 12, 18, 24, 36, 48, 72, 96, 108];
 
-fn frame(control: u8, to: [u8; 6], from: [u8; 6], body: &[u8]) -> Vec<u8> {
-    [&[control, 0, 0, 0][..], &to, &from, &BSSID, &[0, 0], body].concat()
+fn frame(control: u8, to: Address, from: Address, body: &[u8]) -> Vec<u8> {
+    frame_of([control, 0], to, from, OURS, body)
 }
 
-fn request(control: u8, from: [u8; 6]) -> Vec<u8> {
+fn request(control: u8, from: Address) -> Vec<u8> {
     let fixed = if control == 0 { 4 } else { 10 };
     let elements = [&[0, 1, b'a', 1, 8][..], &RATES[..8], &[50, 4], &RATES[8..]].concat();
-    frame(control, BSSID, from, &[vec![0; fixed], elements].concat())
+    frame(control, OURS, from, &[vec![0; fixed], elements].concat())
 }
 
 fn links() -> Links {
-    let network = Network { rates: RATES.to_vec(), ..network(Address::of(BSSID)) };
-    Links::new(&[network.clone(), Network { bssid: Address::of([2, 0, 0, 0, 1, 2]), ..network }])
+    let network = Network { rates: RATES.to_vec(), ..network(OURS) };
+    Links::new(&[network.clone(), Network { bssid: OTHER, ..network }])
 }
 
-fn made_up(number: usize) -> [u8; 6] {
-    let [.., high, low] = number.to_be_bytes();
-    [2, 0, 0, 9, high, low]
-}
-
-fn join(links: &mut Links, place: Place, from: [u8; 6]) {
+fn join(links: &mut Links, place: Place, from: Address) {
     links.hear(place, Frame::of(&request(0, from)).unwrap());
-    links.join(place, Address::of(from));
+    links.join(place, from);
 }
 
 #[test]
@@ -46,9 +39,9 @@ fn a_request_is_read_at_each_length_without_harm() {
 fn which_station_is_forgotten_is_no_matter_of_chance() {
     let mut links = links();
     (0..=MOST_STATIONS).rev().for_each(|number| join(&mut links, 0, made_up(number)));
-    let known = (0..=MOST_STATIONS).map(|number| links.knows(0, Address::of(made_up(number))));
+    let known = (0..=MOST_STATIONS).map(|number| links.knows(0, made_up(number)));
     assert_eq!(known.filter(|is_known| !is_known).count(), 1);
-    assert!(!links.knows(0, Address::of(made_up(1))) && links.knows(0, Address::of(made_up(0))));
+    assert!(!links.knows(0, made_up(1)) && links.knows(0, made_up(0)));
 }
 
 /// A flood in one network pushes out that network's own.
@@ -58,12 +51,12 @@ fn no_more_stations_of_a_network_are_known_than_there_is_room_for() {
     join(&mut links, 1, STATION);
     (0..=MOST_STATIONS).for_each(|number| {
         join(&mut links, 0, made_up(number));
-        let unit = Rc::new(frame(0x08, made_up(number), BSSID, &[]));
-        links.choose(0, Address::of(made_up(number)), &unit, false, Instant::START);
+        let unit = Rc::new(frame(0x08, made_up(number), OURS, &[]));
+        links.choose(0, made_up(number), &unit, false, Instant::START);
     });
     assert_eq!(links.networks[0].links.len(), MOST_STATIONS);
-    assert!(!links.knows(0, Address::of(made_up(0))) && links.knows(0, Address::of(made_up(1))));
-    assert!(links.knows(1, Address::of(STATION)) && !links.knows(0, Address::of(STATION)));
+    assert!(!links.knows(0, made_up(0)) && links.knows(0, made_up(1)));
+    assert!(links.knows(1, STATION) && !links.knows(0, STATION));
 }
 
 #[test]
@@ -72,22 +65,22 @@ fn requests_that_await_an_answer_are_bounded_by_network() {
     links.hear(1, Frame::of(&request(0, STATION)).unwrap());
     (0..=MOST_JOINING).for_each(|number| links.hear(0, Frame::of(&request(0, made_up(number))).unwrap()));
     for (place, from, is_known) in [(0, made_up(0), false), (0, made_up(1), true), (1, STATION, true)] {
-        links.join(place, Address::of(from));
-        assert_eq!(links.knows(place, Address::of(from)), is_known);
+        links.join(place, from);
+        assert_eq!(links.knows(place, from), is_known);
     }
 }
 
 #[test]
 fn who_asked_for_a_network_alone_is_answered_once() {
     let mut links = links();
-    let probe = frame(PROBE_REQUEST, BSSID, STATION, &[0, 0]);
+    let probe = frame(PROBE_REQUEST, OURS, STATION, &[0, 0]);
     (0..2).for_each(|_| links.hear(0, Frame::of(&probe).unwrap()));
-    assert!(!links.answers(1, Address::of(STATION)));
-    assert!(links.answers(0, Address::of(STATION)) && !links.answers(0, Address::of(STATION)));
+    assert!(!links.answers(1, STATION));
+    assert!(links.answers(0, STATION) && !links.answers(0, STATION));
     (0..=MOST_PROBING).for_each(|number| {
-        links.hear(0, Frame::of(&frame(PROBE_REQUEST, BSSID, made_up(number), &[])).unwrap());
+        links.hear(0, Frame::of(&frame(PROBE_REQUEST, OURS, made_up(number), &[])).unwrap());
     });
-    assert!(!links.answers(0, Address::of(made_up(0))) && links.answers(0, Address::of(made_up(1))));
+    assert!(!links.answers(0, made_up(0)) && links.answers(0, made_up(1)));
 }
 
 #[test]
@@ -95,12 +88,9 @@ fn what_is_told_of_strangers_changes_nothing() {
     let mut links = links();
     join(&mut links, 0, STATION);
     let outcome = Outcome { is_acknowledged: false, retries: 7, rate: Some(2) };
-    let stranger = frame(0x08, [2, 0, 0, 0, 9, 9], BSSID, &[]);
+    let stranger = frame(0x08, STRANGER, OURS, &[]);
     for cut in 0..=stranger.len() {
-        assert_eq!(
-            links.reported(0, Address::of([2, 0, 0, 0, 9, 9]), &stranger[..cut], outcome, true, Instant::from_nanos(1)),
-            Next::Nothing
-        );
+        assert_eq!(links.reported(0, STRANGER, &stranger[..cut], outcome, true, Instant::from_nanos(1)), Next::Nothing);
     }
-    assert_eq!((links.unacknowledged, links.due()), (Unacknowledged::default(), None));
+    assert_eq!((links.unacknowledged.as_slice(), links.due()), (&[Unacknowledged::default(); 2][..], None));
 }

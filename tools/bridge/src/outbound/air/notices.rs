@@ -124,15 +124,10 @@ mod tests {
     use super::*;
     use crate::os::clock::{MILLISECOND, SECOND};
     use crate::outbound::air::frame::FrameKind;
-    use crate::testing::samples::at;
+    use crate::testing::samples::{at, made_up};
 
-    fn address(number: u16) -> Address {
-        let [high, low] = number.to_be_bytes();
-        Address::of([2, 9, 0, 0, high, low])
-    }
-
-    fn notice(number: u16, since: Instant) -> OutboundFrame {
-        OutboundFrame { octets: Rc::new(vec![0; 26]), address: address(number), kind: FrameKind::Notice, since }
+    fn notice(number: usize, since: Instant) -> OutboundFrame {
+        OutboundFrame { octets: Rc::new(vec![0; 26]), address: made_up(number), kind: FrameKind::Notice, since }
     }
 
     /// The networks and numbers of those that go until this time, which is looked at each millisecond.
@@ -153,9 +148,9 @@ mod tests {
         let mut notices = Notices::new(1);
         let mut found = 0;
         for second in 10..15 {
-            for millisecond in 0..1000u16 {
-                let now = at(second * SECOND + u32::from(millisecond) * MILLISECOND);
-                notices.push(0, notice(millisecond, now));
+            for millisecond in 0..1000 {
+                let now = at(second * SECOND + millisecond * MILLISECOND);
+                notices.push(0, notice(millisecond as usize, now));
                 found += gone(&mut notices, now, now + MILLISECOND).len();
             }
         }
@@ -178,11 +173,11 @@ mod tests {
         let dropped = |found: Option<OutboundFrame>| found.map(|notice| notice.address);
         assert_eq!(dropped(notices.push(1, notice(1, at(SECOND)))), None);
         assert_eq!(dropped(notices.push(0, notice(1, at(SECOND)))), None);
-        assert_eq!(dropped(notices.push(1, notice(1, at(SECOND)))), Some(address(1)));
-        (2..=MOST_WAITING as u16).for_each(|number| assert!(notices.push(1, notice(number, at(SECOND))).is_none()));
-        assert_eq!(dropped(notices.push(1, notice(200, at(SECOND)))), Some(address(1)));
-        assert_eq!((notices.waiting, dropped(notices.take_of(1, address(2)))), (1 + MOST_WAITING, Some(address(2))));
-        assert_eq!((notices.waiting, dropped(notices.take_of(1, address(2)))), (MOST_WAITING, None));
+        assert_eq!(dropped(notices.push(1, notice(1, at(SECOND)))), Some(made_up(1)));
+        (2..=MOST_WAITING).for_each(|number| assert!(notices.push(1, notice(number, at(SECOND))).is_none()));
+        assert_eq!(dropped(notices.push(1, notice(200, at(SECOND)))), Some(made_up(1)));
+        assert_eq!((notices.waiting, dropped(notices.take_of(1, made_up(2)))), (1 + MOST_WAITING, Some(made_up(2))));
+        assert_eq!((notices.waiting, dropped(notices.take_of(1, made_up(2)))), (MOST_WAITING, None));
     }
 
     #[test]
@@ -194,6 +189,6 @@ mod tests {
         assert_eq!(notices.due(), Some(at(SECOND + EVERY)));
         assert!(notices.take_late(at(3 * SECOND)).is_none());
         let (place, late) = notices.take_late(at(3 * SECOND + EVERY)).unwrap();
-        assert_eq!((place, late.address, notices.is_empty()), (1, address(1), true));
+        assert_eq!((place, late.address, notices.is_empty()), (1, made_up(1), true));
     }
 }

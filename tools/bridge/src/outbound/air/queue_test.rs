@@ -6,7 +6,7 @@ use super::*;
 use crate::os::clock::Instant;
 use crate::outbound::air::backlog::MOST_KEPT;
 use crate::outbound::air::frame::{FrameKind, Urgency};
-use crate::testing::samples::{Seeded, OTHER, OURS, STATION, STRANGER};
+use crate::testing::samples::{made_up, Seeded, OTHER, OURS, STATION, STRANGER};
 
 const CALLS: usize = if cfg!(debug_assertions) { 20_000 } else { 1_000_000 };
 const CALLS_OF_A_RUN: usize = 2500;
@@ -416,21 +416,18 @@ fn answers_of_one_time_go_in_their_order_to_a_station_that_joins() {
 fn what_was_kept_for_many_stations_is_bounded() {
     const LONGEST: usize = 24 + 2304;
     let mut queue = Queue::new([1].into_iter());
-    let station = |number: u16| Address::of([2, 9, 0, 0, number.to_be_bytes()[0], number.to_be_bytes()[1]]);
     for number in 0..2007 {
         for _ in 0..2 {
             let frame = frame_for_station(FrameKind::Kept, 1);
-            let (octets, address) = (Rc::new(vec![0; LONGEST]), station(number));
+            let (octets, address) = (Rc::new(vec![0; LONGEST]), made_up(number));
             queue.push_kept(0, OutboundFrame { octets, address, ..frame });
         }
     }
-    assert_eq!(
-        (queue.accounts[0].waiting, queue.accounts[0].unsent[&Unsent::Full]),
-        (MOST_KEPT, 4014 - MOST_KEPT as u64)
-    );
+    let Account { waiting, unsent, .. } = &queue.accounts[0];
+    assert_eq!((*waiting, unsent[&Unsent::Full]), (MOST_KEPT, 4014 - MOST_KEPT as u64));
     queue.push(0, Receiver::Groups, frame_for_station(FrameKind::GroupUnit, 1));
     assert_eq!((queue.accounts[0].waiting, queue.accounts[0].octets), (MOST_KEPT + 1, 40));
-    (0..2007).for_each(|number| drop(queue.take_units(0, station(number))));
+    (0..2007).for_each(|number| drop(queue.take_units(0, made_up(number))));
     assert_eq!(queue.accounts[0].waiting, 1);
     queue.push_kept(0, frame_for_station(FrameKind::Kept, 2));
     assert_eq!(queue.accounts[0].waiting, 2);

@@ -2,7 +2,7 @@
 use super::*;
 use crate::os::clock::{Duration, MILLISECOND, SECOND};
 use crate::outbound::air::falling_asleep::TO_ALL_OUTCOMES;
-use crate::testing::samples::{network, Seeded, OTHER, OURS, STATION, STRANGER};
+use crate::testing::samples::{made_up, network, Seeded, OTHER, OURS, STATION, STRANGER};
 
 const CALLS: usize = if cfg!(debug_assertions) { 100_000 } else { 1_000_000 };
 const CALLS_OF_A_RUN: usize = 5000;
@@ -338,8 +338,7 @@ fn any_calls_leave_what_the_rules_say() {
 fn stations_that_are_awake_are_forgotten() {
     let mut sleepers = Sleepers::new(&[network(OURS)]);
     for number in 0..10_000u32 {
-        let [a, b, c, d] = number.to_be_bytes();
-        let (station, now) = (Address::of([2, 9, a, b, c, d]), Instant::START + 10 * SECOND + number * MILLISECOND);
+        let (station, now) = (made_up(number as usize), Instant::START + 10 * SECOND + number * MILLISECOND);
         sleepers.wakes(0, station, u64::from(number), now);
         assert!(sleepers.answered(u64::from(number), now));
     }
