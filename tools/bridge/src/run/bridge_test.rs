@@ -4,7 +4,7 @@ use std::os::unix::fs::{MetadataExt, OpenOptionsExt, PermissionsExt};
 use std::os::unix::io::{AsFd, BorrowedFd, OwnedFd};
 use std::os::unix::net::{UnixDatagram, UnixListener, UnixStream};
 use std::path::PathBuf;
-use std::sync::atomic::{AtomicBool, Ordering};
+use std::sync::atomic::{AtomicBool, AtomicUsize, Ordering};
 use std::sync::{Arc, Mutex};
 use std::thread;
 use std::time::Duration;
@@ -22,7 +22,7 @@ use crate::os::handed::hand;
 use crate::os::link::Link;
 use crate::os::port::Port;
 use crate::restart::state::State;
-use crate::stations::own_frames::{deauthentication, departure, INACTIVITY};
+use crate::stations::own_frames::{association_request, deauthentication, departure, INACTIVITY};
 use crate::testing::samples::{at, data, network, radiotap, Unit, OTHER, OURS, STATION};
 
 #[path = "fake_port_test.rs"]
@@ -40,13 +40,15 @@ mod staying_tests;
 #[path = "wires_test.rs"]
 mod wires;
 
-use fake_port::FakePort;
+use fake_port::{FakePort, FarEnd};
 
 const BEACON: &str = "80000000ffffffffffff020000000101020000000101";
 /// What each program begins with: how it reads and writes records.
 const PRELUDE: &str = r#"#!/usr/bin/python3
-import struct, sys, time
-OURS, OTHER, BEACON = map(bytes.fromhex, ("020000000101", "020000000102", "BEACON"))
+import itertools, struct, sys, time
+OURS, OTHER, BEACON, ANSWER, JOINED = map(bytes.fromhex, (
+    "020000000101", "020000000102", "BEACON", "b000000002aa000000010200000001010200000001011000000002000000",
+    "1000000002aa0000000102000000010102000000010120000100000001c0"))
 def write(kind, bssid, octets=b""):
     sys.stdout.buffer.write(kind + bssid + struct.pack("<H", len(octets)) + octets)
     sys.stdout.buffer.flush()
@@ -54,6 +56,9 @@ def open_networks(number):
     write(b"O", bytes([0, 0, 0, 0, 0, number]))
 def air(bssid, octets):
     write(b"A", bssid, octets)
+def unit(number, ethernet):
+    air(OURS, bytes.fromhex("08020000") + ethernet[:6] + OURS + ethernet[6:12] + struct.pack("<H", 16 * number)
+        + bytes.fromhex("aaaa03000000") + ethernet[12:])
 def wire(bssid, octets):
     write(b"W", bssid, octets)
 def tell(*lines):
@@ -89,12 +94,11 @@ for kind, octets in events():
     if kind == b"T":
         air(OURS, BEACON)
     elif kind == b"A" and octets[0] == 0xb0:
-        air(OURS, bytes.fromhex("ANSWER"))
+        air(OURS, ANSWER)
     elif kind == b"I":
         tell("network 02:00:00:00:01:01 ssid 6c", "events 7 clock 1 unread 0 lost 0 kept 0",
              "station 02:aa:00:00:00:01 authenticated", "end")
 "#;
-const ANSWER: &str = "b000000002aa000000010200000001010200000001011000000002000000";
 
 /// A program in which one station authenticates and associates, and then stands in its table.
 const JOINING: &str = r#"
@@ -105,14 +109,13 @@ for kind, octets in events():
         air(OURS, BEACON)
     elif kind == b"A" and octets[0] == 0xb0:
         time.sleep(0)
-        air(OURS, bytes.fromhex("ANSWER"))
+        air(OURS, ANSWER)
     elif kind == b"A" and octets[0] == 0x00:
-        air(OURS, bytes.fromhex("JOINED"))
+        air(OURS, JOINED)
         stations = ["station 02:aa:00:00:00:01 associated aid 1 listen 5 active kept 0"]
     elif kind == b"I":
         tell("network 02:00:00:00:01:01 ssid 6c", "events 7 clock 1 unread 0 lost 0 kept 2", *stations, "end")
 "#;
-const JOINED: &str = "1000000002aa0000000102000000010102000000010120000100000001c0";
 
 /// A program of two networks: a beacon of each for each tick, each frame heard the same on the network's wire, and
 /// tables.
@@ -133,37 +136,70 @@ fn nothing() -> OwnedFd {
     fs::File::open("/dev/null").unwrap().into()
 }
 
-/// The other ends of a bridge's ports, its requests, and what it sent.
+/// The other ends of a bridge's ports, and of its requests.
 struct Stage {
     folder: PathBuf,
     requests: UnixStream,
-    air: UnixDatagram,
-    wire: UnixDatagram,
-    sent: Arc<Mutex<Vec<Vec<u8>>>>,
-    sent_on_wire: Arc<Mutex<Vec<Vec<u8>>>>,
+    air: FarEnd,
+    wire: FarEnd,
     /// The second network's wire.
-    other_wire: UnixDatagram,
-    sent_on_other_wire: Arc<Mutex<Vec<Vec<u8>>>>,
-    other_goes_down: Arc<AtomicBool>,
-    air_goes_down: Arc<AtomicBool>,
-    air_link: Arc<Mutex<Link>>,
-    air_is_silent: Arc<AtomicBool>,
+    other_wire: FarEnd,
 }
 
 impl Stage {
     fn hear(&self, frame: &[u8]) {
-        self.air.send(&radiotap(frame, 1 << 1, &[0])).unwrap();
+        self.air.send(&radiotap(frame, 1 << 1, &[0]));
+    }
+
+    /// Our station asks to be authenticated.
+    fn authenticate(&self) {
+        self.hear(&Unit { control: [0xb0, 0], body: vec![0, 0, 1, 0, 0, 0], ..Unit::default() }.octets());
+    }
+
+    /// Our station authenticates and associates.
+    fn join(&self) {
+        self.authenticate();
+        pause(100);
+        self.hear(&own_request());
+        pause(100);
     }
 
     fn record(&self) -> Vec<String> {
         let text = fs::read_to_string(self.folder.join("record")).unwrap();
         text.lines().map(str::to_owned).collect()
     }
+
+    /// How many beacon intervals have begun.
+    fn ticks(&self) -> usize {
+        self.record().iter().filter(|line| *line == "T").count()
+    }
+
+    /// How many beacons were sent.
+    fn beacons(&self) -> usize {
+        let at = sending_header(2, 0).len();
+        self.air.sent().iter().filter(|frame| frame.get(at) == Some(&crate::formats::frames::BEACON)).count()
+    }
+
+    /// Whether the program was told of a frame that was heard.
+    fn has_told(&self, frame: &[u8]) -> bool {
+        self.record().contains(&line_of(frame))
+    }
 }
 
-/// Runs a bridge with a program of this text, and `later` beside it; gives what came of it, and the stage.
-fn run(text: &str, shows: bool, later: impl FnOnce(&mut Stage) + Send) -> (Result<(), Fault>, Stage) {
-    run_with(text, Surroundings { shows, ..Surroundings::default() }, later)
+/// The line of the record that tells of a frame that was heard.
+fn line_of(frame: &[u8]) -> String {
+    format!("A {}", hex::encode(frame))
+}
+
+fn pause(milliseconds: u64) {
+    thread::sleep(Duration::from_millis(milliseconds));
+}
+
+/// The association request of our station.
+fn own_request() -> Vec<u8> {
+    let mut octets = association_request(&network(OURS), STATION);
+    octets[26] = 5;
+    octets
 }
 
 /// What a bridge runs in.
@@ -191,23 +227,20 @@ struct Surroundings {
     state: Option<&'static str>,
 }
 
-impl Default for Surroundings {
-    fn default() -> Surroundings {
-        Surroundings {
-            shows: true,
-            has_sent: false,
-            takes: Duration::ZERO,
-            interval: 100,
-            max_known: 100,
-            quota: 100,
-            silence: 300,
-            networks: 1,
-            record: None,
-            has_other_wire: true,
-            state: None,
-        }
-    }
-}
+const PLAIN: Surroundings = Surroundings {
+    shows: true,
+    has_sent: false,
+    takes: Duration::ZERO,
+    interval: 100,
+    max_known: 100,
+    quota: 100,
+    silence: 300,
+    networks: 1,
+    record: None,
+    has_other_wire: true,
+    state: None,
+};
+const TWO_NETWORKS: Surroundings = Surroundings { networks: 2, ..PLAIN };
 
 fn files_of(state: &str) -> [OwnedFd; 2] {
     let mut options = fs::OpenOptions::new();
@@ -215,44 +248,33 @@ fn files_of(state: &str) -> [OwnedFd; 2] {
     [0, 1].map(|number| options.open(format!("{state}.{number}")).unwrap().into())
 }
 
-fn run_with(
-    text: &str,
-    surroundings: Surroundings,
-    later: impl FnOnce(&mut Stage) + Send,
-) -> (Result<(), Fault>, Stage) {
-    static NUMBER: Mutex<u32> = Mutex::new(0);
-    let number = {
-        let mut number = NUMBER.lock().unwrap();
-        *number += 1;
-        *number
-    };
+/// Runs a bridge with a program of this text, and `later` beside it, and ends it then. Gives what that found, and the
+/// stage.
+fn run<F: Send>(text: &str, surroundings: Surroundings, later: impl FnOnce(&mut Stage) -> F + Send) -> (F, Stage) {
+    let mut found = None;
+    let (outcome, stage) = run_on(text, surroundings, |stage| {
+        found = Some(later(stage));
+        stage.requests.shutdown(std::net::Shutdown::Both).unwrap();
+    });
+    assert_eq!(outcome, Ok(()));
+    (found.unwrap(), stage)
+}
+
+/// The same of a bridge that ends by itself, or that `later` ends: gives what came of it.
+fn run_on(text: &str, surroundings: Surroundings, later: impl FnOnce(&mut Stage) + Send) -> (Result<(), Fault>, Stage) {
+    static NUMBER: AtomicUsize = AtomicUsize::new(0);
+    let number = NUMBER.fetch_add(1, Ordering::SeqCst);
     let folder = std::env::temp_dir().join(format!("bridge-{}-{number}", std::process::id()));
     fs::create_dir_all(&folder).unwrap();
     let path = folder.join("program");
-    fs::write(&path, [PRELUDE, text].concat().replace("BEACON\"", &format!("{BEACON}\""))).unwrap();
+    fs::write(&path, [PRELUDE, text].concat().replace("\"BEACON\"", &format!("\"{BEACON}\""))).unwrap();
     fs::set_permissions(&path, Permissions::from_mode(0o755)).unwrap();
     let (asked, requests) = UnixStream::pair().unwrap();
-    let (monitor, air, sent) = FakePort::new("mon0");
-    let monitor = FakePort { shows: surroundings.shows, takes: surroundings.takes, ..monitor };
-    let (wire, far_wire, sent_on_wire) = FakePort::new("wire1");
-    let (other, other_wire, sent_on_other_wire) = FakePort::new("wire2");
-    let (other_goes_down, air_goes_down) = (Arc::clone(&other.goes_down), Arc::clone(&monitor.goes_down));
-    let (air_link, air_is_silent) = (Arc::clone(&monitor.link), Arc::clone(&monitor.is_silent));
-    let mut stage = Stage {
-        folder,
-        requests,
-        air,
-        wire: far_wire,
-        sent,
-        sent_on_wire,
-        other_wire,
-        sent_on_other_wire,
-        other_goes_down,
-        air_goes_down,
-        air_link,
-        air_is_silent,
-    };
-    let ports = (monitor, vec![Some(wire), Some(other)]);
+    let (mut monitor, air) = FakePort::new("mon0");
+    (monitor.shows, monitor.takes) = (surroundings.shows, surroundings.takes);
+    let ((near_wire, wire), (near_other, other_wire)) = (FakePort::new("wire1"), FakePort::new("wire2"));
+    let mut stage = Stage { folder, requests, air, wire, other_wire };
+    let ports = (monitor, vec![Some(near_wire), Some(near_other)]);
     let clients = Clients::new(UnixListener::bind(stage.folder.join("socket")).unwrap()).unwrap();
     let outcome = thread::scope(|scope| {
         let name = surroundings.record.map_or_else(|| stage.folder.join("record"), PathBuf::from);
@@ -263,7 +285,7 @@ fn run_with(
             }
             // A bridge whose program has ended at once reads it no more.
             let _ = hand(&stage.requests, b"open\n", &[nothing(), nothing(), nothing()]);
-            thread::sleep(Duration::from_millis(400));
+            pause(400);
             later(&mut stage);
         });
         serve(path.to_str().unwrap(), record, (asked, clients), ports, surroundings)
@@ -306,28 +328,21 @@ fn serve(
     })
 }
 
-fn end(stage: &mut Stage) {
-    stage.requests.shutdown(std::net::Shutdown::Both).unwrap();
-}
-
 #[test]
 fn it_runs_and_ends() {
-    let (outcome, stage) = run(ONE, true, |stage| {
+    let ((), stage) = run(ONE, PLAIN, |stage| {
         stage.hear(&data());
         stage.requests.write_all(b"tables\n").unwrap();
-        thread::sleep(Duration::from_millis(400));
-        end(stage);
+        pause(400);
     });
-    assert_eq!(outcome, Ok(()));
     let beacon = [&sending_header(2, 0)[..], &hex::decode(BEACON).unwrap()].concat();
-    let sent = stage.sent.lock().unwrap().clone();
+    let sent = stage.air.sent();
     assert!(sent.len() >= 6 && sent.iter().all(|frame| *frame == beacon), "{}", sent.len());
-    assert_eq!(*stage.sent_on_wire.lock().unwrap(), [data()]);
-    let lines = stage.record();
-    assert_eq!(lines.iter().filter(|line| *line == "T").count(), sent.len());
-    let mut others: Vec<_> = lines.iter().filter(|line| *line != "T").cloned().collect();
+    assert_eq!(stage.wire.sent(), [data()]);
+    assert_eq!(stage.ticks(), sent.len());
+    let mut others: Vec<_> = stage.record().into_iter().filter(|line| *line != "T").collect();
     others.sort();
-    assert_eq!(others, ["# I".to_owned(), format!("A {}", hex::encode(data()))]);
+    assert_eq!(others, ["# I".to_owned(), line_of(&data())]);
 }
 
 fn setting(interval: u16) -> Setting {
@@ -344,23 +359,19 @@ fn ask(stage: &Stage, question: &str) -> String {
 
 /// The status of now: one that was made before serves for a second.
 fn ask_for_new_status(stage: &Stage) -> String {
-    thread::sleep(Duration::from_millis(1001));
+    pause(1001);
     ask(stage, "status")
 }
 
 /// Whoever asks for the status within a second gets the same one; all else is answered meanwhile.
 #[test]
 fn one_status_a_second_is_made() {
-    let mut answers = Vec::new();
-    let (outcome, _) = run(&KNOWING.replace("ANSWER", ANSWER), true, |stage| {
-        thread::sleep(Duration::from_millis(300));
-        for question in ["status", "events 1", "status", "kick 02:00:00:00:01:09 02:aa:00:00:00:01", "status"] {
-            answers.push(ask(stage, question));
-        }
-        answers.push(ask_for_new_status(stage));
-        end(stage);
+    let (answers, _) = run(KNOWING, PLAIN, |stage| {
+        pause(300);
+        let questions = ["status", "events 1", "status", "kick 02:00:00:00:01:09 02:aa:00:00:00:01", "status"];
+        let answers = questions.map(|question| ask(stage, question));
+        [&answers[..], &[ask_for_new_status(stage)]].concat()
     });
-    assert_eq!(outcome, Ok(()));
     let since =
         |place: usize| answers[place].split(r#""since":"#).nth(1).unwrap().split(',').next().unwrap().to_owned();
     assert_eq!((since(2), since(4)), (since(0), since(0)));
@@ -370,17 +381,14 @@ fn one_status_a_second_is_made() {
 
 #[test]
 fn it_is_asked_by_its_socket() {
-    let mut answers = Vec::new();
-    let (outcome, stage) = run(&KNOWING.replace("ANSWER", ANSWER), true, |stage| {
-        stage.hear(&Unit { control: [0xb0, 0], body: vec![0, 0, 1, 0, 0, 0], ..Unit::default() }.octets());
-        thread::sleep(Duration::from_millis(300));
-        for question in ["status", "kick 02:00:00:00:01:01 02:aa:00:00:00:01", "hello", "events 1"] {
-            answers.push(ask(stage, question));
-        }
-        thread::sleep(Duration::from_millis(300));
-        end(stage);
+    let (answers, stage) = run(KNOWING, PLAIN, |stage| {
+        stage.authenticate();
+        pause(300);
+        let questions = ["status", "kick 02:00:00:00:01:01 02:aa:00:00:00:01", "hello", "events 1"];
+        let answers = questions.map(|question| ask(stage, question));
+        pause(300);
+        answers
     });
-    assert_eq!(outcome, Ok(()));
     let station = r#"{"address":"02:aa:00:00:00:01","state":"authenticated","aid":null,"#;
     assert!(answers[0].contains(station) && answers[0].contains(r#""events":7"#), "{}", answers[0]);
     assert!(answers[2].contains(r#"{"error":"no such question"#), "{}", answers[2]);
@@ -391,55 +399,47 @@ fn it_is_asked_by_its_socket() {
     assert_eq!(answers[1], "{\"kicked\":true}\n");
     let kicked = r#""event":"forgotten","bssid":"02:00:00:00:01:01","station":"02:aa:00:00:00:01","why":"kicked"}]}"#;
     assert!(answers[3].trim_end().ends_with(kicked), "{}", answers[3]);
-    assert!(stage.record().contains(&format!("A {}", hex::encode(departure(OURS, STATION)))));
+    assert!(stage.has_told(&departure(OURS, STATION)));
     let told = [&sending_header(2, 3)[..], &deauthentication(OURS, STATION, INACTIVITY, 2049)].concat();
-    assert!(stage.sent.lock().unwrap().contains(&told));
+    assert!(stage.air.sent().contains(&told));
 }
 
 /// Also if beacons are rare.
 #[test]
 fn who_does_not_associate_is_given_up_within_five_seconds_where_the_network_is_nearly_full() {
-    let rare = Surroundings { interval: 60_000, max_known: 1, ..Surroundings::default() };
-    let (outcome, stage) = run_with(&KNOWING.replace("ANSWER", ANSWER), rare, |stage| {
-        stage.hear(&Unit { control: [0xb0, 0], body: vec![0, 0, 1, 0, 0, 0], ..Unit::default() }.octets());
-        thread::sleep(Duration::from_millis(4900));
-        end(stage);
+    let ((), stage) = run(KNOWING, Surroundings { interval: 60_000, max_known: 1, ..PLAIN }, |stage| {
+        stage.authenticate();
+        pause(4900);
     });
-    assert_eq!(outcome, Ok(()));
-    assert!(stage.record().contains(&format!("A {}", hex::encode(departure(OURS, STATION)))));
+    assert!(stage.has_told(&departure(OURS, STATION)));
     let told = [&sending_header(2, 0)[..], &deauthentication(OURS, STATION, INACTIVITY, 2049)].concat();
-    assert!(stage.sent.lock().unwrap().contains(&told));
+    assert!(stage.air.sent().contains(&told));
 }
 
 /// Waits until this is so, for some seconds at most.
 fn wait_until(mut is_so: impl FnMut() -> bool) {
     let until = now() + 5 * SECOND;
     while !is_so() && now() < until {
-        thread::sleep(Duration::from_millis(10));
+        pause(10);
     }
 }
 
 #[test]
 fn a_radio_that_does_not_send_is_told() {
-    let (outcome, _) = run(ONE, false, |_| {});
+    let (outcome, _) = run_on(ONE, Surroundings { shows: false, ..PLAIN }, |_| {});
     assert!(outcome.unwrap_err().to_string().contains("this radio does not send beside its interfaces"));
 }
 
 #[test]
 fn a_radio_that_an_earlier_bridge_saw_send_may_be_busy_for_as_long_as_it_is() {
-    let surroundings = Surroundings { shows: false, has_sent: true, ..Surroundings::default() };
-    let (outcome, _) = run_with(ONE, surroundings, |stage| {
-        thread::sleep((TO_BEACON + SECOND / 2).into());
-        end(stage);
+    run(ONE, Surroundings { shows: false, has_sent: true, ..PLAIN }, |_| {
+        thread::sleep((TO_BEACON + SECOND / 2).into())
     });
-    assert_eq!(outcome, Ok(()));
 }
 
 #[test]
 fn a_program_that_ends_by_itself_is_told() {
-    let (outcome, _) = run(ONE, true, |stage| {
-        stage.wire.send(&[0; 14]).unwrap();
-    });
+    let (outcome, _) = run_on(ONE, PLAIN, |stage| stage.wire.send(&[0; 14]));
     assert_eq!(outcome, Err(Fault::ProgramEnded));
 }
 
@@ -455,7 +455,7 @@ fn what_a_program_says_wrongly_is_told() {
         ),
         ("open_networks(1)\nnext(events())\nair(OTHER, b'0')\nlist(events())\n", "a network that it doesn't have"),
     ] {
-        let (outcome, _) = run(text, true, |_| {});
+        let (outcome, _) = run_on(text, PLAIN, |_| {});
         assert!(outcome.as_ref().unwrap_err().to_string().contains(says), "{outcome:?}");
     }
 }

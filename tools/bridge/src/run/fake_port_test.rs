@@ -1,35 +1,60 @@
 //! A port in place of a packet socket.
 use super::*;
 
+/// What a port shares with its other end.
+pub(super) struct Shared {
+    sent: Mutex<Vec<Vec<u8>>>,
+    /// Whether it goes down once it is read.
+    pub(super) goes_down: AtomicBool,
+    pub(super) link: Mutex<Link>,
+    /// Whether a radio's sends nothing any more, and shows nothing.
+    pub(super) is_silent: AtomicBool,
+}
+
+/// The other end of a port.
+pub(super) struct FarEnd {
+    socket: UnixDatagram,
+    pub(super) shared: Arc<Shared>,
+}
+
+impl FarEnd {
+    /// What was sent by the port.
+    pub(super) fn sent(&self) -> Vec<Vec<u8>> {
+        self.shared.sent.lock().unwrap().clone()
+    }
+
+    /// The port hears a packet.
+    pub(super) fn send(&self, packet: &[u8]) {
+        self.socket.send(packet).unwrap();
+    }
+}
+
 /// A port in place of a packet socket. A radio's shows the frames that are sent by it, if `shows` says so.
 pub(super) struct FakePort {
-    pub(super) interface: &'static str,
-    pub(super) near: UnixDatagram,
-    pub(super) far: UnixDatagram,
-    pub(super) sent: Arc<Mutex<Vec<Vec<u8>>>>,
+    interface: &'static str,
+    near: UnixDatagram,
+    far: UnixDatagram,
+    shared: Arc<Shared>,
     pub(super) shows: bool,
     /// How long it takes for a frame.
     pub(super) takes: Duration,
-    /// Whether it goes down once it is read.
-    pub(super) goes_down: Arc<AtomicBool>,
-    /// How its interface is.
-    pub(super) link: Arc<Mutex<Link>>,
-    /// Whether a radio's sends nothing any more, and shows nothing.
-    pub(super) is_silent: Arc<AtomicBool>,
-    pub(super) is_closed: bool,
+    is_closed: bool,
 }
 
 impl FakePort {
-    /// One with its other end, and what is sent by it.
-    pub(super) fn new(interface: &'static str) -> (FakePort, UnixDatagram, Arc<Mutex<Vec<Vec<u8>>>>) {
-        let ((near, far), sent) = (UnixDatagram::pair().unwrap(), Arc::default());
-        let other_end = far.try_clone().unwrap();
-        let (takes, goes_down, is_silent) = (Duration::ZERO, Arc::default(), Arc::default());
-        let link = Arc::new(Mutex::new(Link::Up));
-        let (shows, is_closed) = (false, false);
-        let port = FakePort { interface, near, far, sent, shows, takes, goes_down, link, is_silent, is_closed };
-        let sent = Arc::clone(&port.sent);
-        (port, other_end, sent)
+    /// One with its other end.
+    pub(super) fn new(interface: &'static str) -> (FakePort, FarEnd) {
+        let (near, far) = UnixDatagram::pair().unwrap();
+        let (sent, goes_down, is_silent) = Default::default();
+        let shared = Arc::new(Shared { sent, goes_down, link: Mutex::new(Link::Up), is_silent });
+        let far_end = FarEnd { socket: far.try_clone().unwrap(), shared: Arc::clone(&shared) };
+        (FakePort { interface, near, far, shared, shows: false, takes: Duration::ZERO, is_closed: false }, far_end)
+    }
+
+    /// One of the same interface.
+    pub(super) fn beside(&self) -> FakePort {
+        let (near, far) = (self.near.try_clone().unwrap(), self.far.try_clone().unwrap());
+        FakePort { near, far, shared: Arc::clone(&self.shared), ..*self }
     }
 }
 
@@ -53,7 +78,7 @@ impl Port for FakePort {
     }
 
     fn receive(&mut self, batch: &mut Batch) -> io::Result<usize> {
-        if self.goes_down.swap(false, Ordering::SeqCst) {
+        if self.shared.goes_down.swap(false, Ordering::SeqCst) {
             return Err(io::Error::from_raw_os_error(libc::ENETDOWN));
         }
         batch.receive(self.near.as_fd())
@@ -61,15 +86,15 @@ impl Port for FakePort {
 
     fn send(&mut self, frames: &[&[u8]]) -> io::Result<usize> {
         assert!(!self.is_closed);
-        if *self.link.lock().unwrap() != Link::Up {
+        if self.link()? != Link::Up {
             return Err(io::Error::from_raw_os_error(libc::ENETDOWN));
         }
-        if self.is_silent.load(Ordering::SeqCst) {
+        if self.shared.is_silent.load(Ordering::SeqCst) {
             return Ok(frames.len());
         }
         for frame in frames {
             thread::sleep(self.takes);
-            self.sent.lock().unwrap().push(frame.to_vec());
+            self.shared.sent.lock().unwrap().push(frame.to_vec());
             if self.shows {
                 self.far.send(frame)?;
             }
@@ -90,20 +115,10 @@ impl Port for FakePort {
     }
 
     fn link(&self) -> io::Result<Link> {
-        Ok(*self.link.lock().unwrap())
+        Ok(*self.shared.link.lock().unwrap())
     }
 
     fn close(&mut self) {
         self.is_closed = true;
-    }
-}
-
-impl FakePort {
-    /// One of the same interface.
-    pub(super) fn beside(&self) -> FakePort {
-        let (near, far) = (self.near.try_clone().unwrap(), self.far.try_clone().unwrap());
-        let (sent, goes_down) = (Arc::clone(&self.sent), Arc::clone(&self.goes_down));
-        let (link, is_silent) = (Arc::clone(&self.link), Arc::clone(&self.is_silent));
-        FakePort { near, far, sent, goes_down, link, is_silent, ..*self }
     }
 }

@@ -2,40 +2,34 @@
 use super::*;
 use crate::formats::ethernet::test_command;
 use crate::run::moving::{HANDED_BACK_FROM, HANDED_BACK_TO};
-use crate::run::tests::staying_tests::own_request;
 use crate::stations::own_frames::mode_of_station;
 
 /// It takes some time for each frame of the wire, so that what it answers comes behind frames that it is given later.
 const KEEPING: &str = r#"
 open_networks(1)
-records, sequence, dozes, kept = 0, 16, False, []
+records, numbers, dozes, kept = 0, itertools.count(2), False, []
 stations = ["station 02:aa:00:00:00:01 associated aid 1 listen 5 active kept 0"]
-def unit(ethernet):
-    global sequence
-    sequence += 16
-    air(OURS, bytes.fromhex("08020000") + ethernet[:6] + OURS + ethernet[6:12] + struct.pack("<H", sequence)
-        + bytes.fromhex("aaaa03000000") + ethernet[12:])
 for kind, octets in events():
     records += 1
     if kind == b"T":
         air(OURS, BEACON)
     elif kind == b"A" and octets[0] == 0xb0:
-        air(OURS, bytes.fromhex("ANSWER"))
+        air(OURS, ANSWER)
     elif kind == b"A" and octets[0] == 0x00:
-        air(OURS, bytes.fromhex("JOINED"))
+        air(OURS, JOINED)
     elif kind == b"A" and octets[0] == 0xc0:
         stations.clear()
     elif kind == b"A" and octets[0] & 0x0f == 0x08:
         dozes = octets[1] & 0x10 != 0
         if not dozes:
             for one in kept:
-                unit(one)
+                unit(next(numbers), one)
             kept.clear()
     elif kind == b"W" and not octets:
         tell(f"fault L4 record {records}")
     elif kind == b"W":
         time.sleep(0.004)
-        kept.append(octets) if dozes else unit(octets)
+        kept.append(octets) if dozes else unit(next(numbers), octets)
     elif kind == b"I":
         tell("network 02:00:00:00:01:01 ssid 6c", "events 7 clock 1 unread 0 lost 0 kept 0", *stations, "end")
 "#;
@@ -44,19 +38,32 @@ fn wired(number: u8) -> Vec<u8> {
     [STATION.octets(), OTHER.octets(), &[8, 0, number][..]].concat()
 }
 
+/// The line of the record that tells of this unit of the wire.
+fn line_of_wired(number: u8) -> String {
+    format!("W 02:00:00:00:01:01 {}", hex::encode(wired(number)))
+}
+
 /// The numbers of the units that were sent to the station.
 fn units(stage: &Stage) -> Vec<u8> {
-    let sent = stage.sent.lock().unwrap();
+    let sent = stage.air.sent();
     let frames = sent.iter().filter_map(|packet| packet.get(sending_header(2, 0).len()..));
     let units = frames.filter(|frame| frame[0] == 0x08 && frame[4..10] == *STATION.octets());
     units.map(|frame| frame[32]).collect()
 }
 
-fn join(stage: &mut Stage) {
-    stage.hear(&Unit { control: [0xb0, 0], body: vec![0, 0, 1, 0, 0, 0], ..Unit::default() }.octets());
-    thread::sleep(Duration::from_millis(50));
-    stage.hear(&own_request());
+fn join(stage: &Stage) {
+    stage.join();
     wait_until(|| ask(stage, "status").contains(r#""state":"associated""#));
+}
+
+/// A frame by which the station dozes.
+fn doze() -> Vec<u8> {
+    mode_of_station(OURS, STATION, true)
+}
+
+/// A frame by which it wakes.
+fn wake() -> Vec<u8> {
+    Unit { control: [0x48, 0x01], sequence: 0x80, ..Unit::default() }.octets()
 }
 
 /// The lines of the record between its marks, without what the program is asked and without ticks.
@@ -79,30 +86,23 @@ fn handed_back(lines: &[String]) -> Vec<String> {
 /// one was given. It goes back, and what the wire brings waits behind it. Once the station wakes, it gets all in order.
 #[test]
 fn what_is_answered_after_a_station_dozes_goes_back_and_comes_in_order_when_it_wakes() {
-    let program = KEEPING.replace("ANSWER", ANSWER).replace("JOINED", JOINED);
-    let (mut before, mut status) = (Vec::new(), String::new());
-    let (outcome, stage) = run_with(&program, Surroundings::default(), |stage| {
+    let ((before, status), stage) = run(KEEPING, PLAIN, |stage| {
         join(stage);
-        (0..10).for_each(|number| assert!(stage.wire.send(&wired(number)).is_ok()));
-        thread::sleep(Duration::from_millis(15));
-        stage.hear(&mode_of_station(OURS, STATION, true));
-        (10..30).for_each(|number| assert!(stage.wire.send(&wired(number)).is_ok()));
-        thread::sleep(Duration::from_millis(500));
-        before = units(stage);
-        stage.hear(&Unit { control: [0x48, 0x01], sequence: 0x80, ..Unit::default() }.octets());
+        (0..10).for_each(|number| stage.wire.send(&wired(number)));
+        pause(15);
+        stage.hear(&doze());
+        (10..30).for_each(|number| stage.wire.send(&wired(number)));
+        pause(500);
+        let before = units(stage);
+        stage.hear(&wake());
         wait_until(|| units(stage).len() >= 30);
-        status = ask_for_new_status(stage);
-        end(stage);
+        (before, ask_for_new_status(stage))
     });
-    assert_eq!(outcome, Ok(()));
     assert!(before.len() < 10, "{before:?}");
     assert_eq!(units(&stage), (0..30).collect::<Vec<u8>>());
     let lines = stage.record();
     let back = handed_back(&lines);
-    let wanted: Vec<String> = (before.len() as u8..)
-        .take(back.len())
-        .map(|number| format!("W 02:00:00:00:01:01 {}", hex::encode(wired(number))))
-        .collect();
+    let wanted: Vec<String> = (before.len() as u8..).take(back.len()).map(line_of_wired).collect();
     assert!(back.len() > 2 && back == wanted, "{back:?}");
     assert!(status.contains(&format!(r#""handed_back":{},"handed_back_out_of_order":0"#, back.len())), "{status}");
     assert!(status.contains(r#""faults":[]"#), "{status}");
@@ -114,21 +114,17 @@ fn what_is_answered_after_a_station_dozes_goes_back_and_comes_in_order_when_it_w
 /// Whatever else comes of a station that falls asleep waits until that is over: here that it leaves.
 #[test]
 fn a_station_that_leaves_as_it_falls_asleep_gets_nothing_and_all_goes_on() {
-    let program = KEEPING.replace("ANSWER", ANSWER).replace("JOINED", JOINED);
-    let mut status = String::new();
-    let (outcome, stage) = run_with(&program, Surroundings::default(), |stage| {
+    let (status, stage) = run(KEEPING, PLAIN, |stage| {
         join(stage);
-        (0..10).for_each(|number| assert!(stage.wire.send(&wired(number)).is_ok()));
-        stage.hear(&mode_of_station(OURS, STATION, true));
+        (0..10).for_each(|number| stage.wire.send(&wired(number)));
+        stage.hear(&doze());
         stage.hear(&departure(OURS, STATION));
-        wait_until(|| stage.record().contains(&format!("A {}", hex::encode(departure(OURS, STATION)))));
-        status = ask_for_new_status(stage);
-        end(stage);
+        wait_until(|| stage.has_told(&departure(OURS, STATION)));
+        ask_for_new_status(stage)
     });
-    assert_eq!(outcome, Ok(()));
     let lines = stage.record();
     let place = |wanted: &str| lines.iter().rposition(|line| line == wanted).unwrap();
-    let left = place(&format!("A {}", hex::encode(departure(OURS, STATION))));
+    let left = place(&line_of(&departure(OURS, STATION)));
     assert!(left > place(&format!("# {HANDED_BACK_TO}")), "{lines:?}");
     assert!(status.contains(r#""known":0"#), "{status}");
 }
@@ -136,22 +132,17 @@ fn a_station_that_leaves_as_it_falls_asleep_gets_nothing_and_all_goes_on() {
 /// The program keeps the question, so that the TIM shows it. No wire brought it, and the record says so.
 #[test]
 fn a_station_that_dozes_is_asked_through_the_program() {
-    let program = KEEPING.replace("ANSWER", ANSWER).replace("JOINED", JOINED);
-    let silent = Surroundings { silence: 1, ..Surroundings::default() };
     let question = format!("W 02:00:00:00:01:01 {}", hex::encode(test_command(OURS, STATION)));
-    let (outcome, stage) = run_with(&program, silent, |stage| {
+    let ((), stage) = run(KEEPING, Surroundings { silence: 1, ..PLAIN }, |stage| {
         join(stage);
-        stage.hear(&mode_of_station(OURS, STATION, true));
+        stage.hear(&doze());
         wait_until(|| stage.record().contains(&question));
-        stage.hear(&Unit { control: [0x48, 0x01], sequence: 0x80, ..Unit::default() }.octets());
+        stage.hear(&wake());
         wait_until(|| !units(stage).is_empty());
-        end(stage);
     });
-    assert_eq!(outcome, Ok(()));
     assert_eq!(handed_back(&stage.record()), [question]);
-    let sent = stage.sent.lock().unwrap();
     let is_null = |packet: &&Vec<u8>| packet.get(sending_header(2, 0).len()) == Some(&0x48);
-    assert_eq!(sent.iter().filter(is_null).count(), 0);
+    assert_eq!(stage.air.sent().iter().filter(is_null).count(), 0);
 }
 
 /// A program that takes long for its answer to a wake, and sends the last units that it kept alone.
@@ -163,16 +154,15 @@ for kind, octets in events():
     if kind == b"T":
         air(OURS, BEACON)
     elif kind == b"A" and octets[0] == 0xb0:
-        air(OURS, bytes.fromhex("ANSWER"))
+        air(OURS, ANSWER)
     elif kind == b"A" and octets[0] == 0x00:
-        air(OURS, bytes.fromhex("JOINED"))
+        air(OURS, JOINED)
     elif kind == b"A" and octets[0] & 0x0f == 0x08:
         dozes = octets[1] & 0x10 != 0
         if not dozes:
             time.sleep(0.04 * (len(kept) > 1000))
             for number, one in enumerate(kept[-4:], 1):
-                air(OURS, bytes.fromhex("08020000") + one[:6] + OURS + one[6:12] + struct.pack("<H", 16 * number)
-                    + bytes.fromhex("aaaa03000000") + one[12:])
+                unit(number, one)
             kept.clear()
     elif kind == b"W" and not octets:
         tell(f"fault L4 record {records}")
@@ -182,6 +172,7 @@ for kind, octets in events():
         tell("network 02:00:00:00:01:01 ssid 6c", "events 7 clock 1 unread 0 lost 0 kept 0",
              "station 02:aa:00:00:00:01 associated aid 1 listen 5 active kept 0", "end")
 "#;
+const KEEPING_MANY: Surroundings = Surroundings { quota: 2000, ..PLAIN };
 
 /// The number of lines that begin a beacon interval, up to the last line of this text.
 fn ticks_before(lines: &[String], line: &str) -> Option<usize> {
@@ -189,78 +180,68 @@ fn ticks_before(lines: &[String], line: &str) -> Option<usize> {
     Some(lines[..place].iter().filter(|line| *line == "T").count())
 }
 
-/// A station joins and dozes, 1,500 units are kept for it, and a beacon interval has lasted for 60 ms. Answers how many
-/// have begun.
-fn keep_many(stage: &mut Stage) -> usize {
-    join(stage);
-    stage.hear(&mode_of_station(OURS, STATION, true));
-    thread::sleep(Duration::from_millis(200));
-    for number in 0..1500u16 {
-        assert!(stage.wire.send(&wired(number as u8)).is_ok());
+/// So many units come by the wire, with a pause of so many milliseconds behind each sixteenth.
+fn bring(stage: &Stage, units: u16, milliseconds: u64) {
+    for number in 0..units {
+        stage.wire.send(&wired(number as u8));
         if number % 16 == 0 {
-            thread::sleep(Duration::from_millis(3));
+            pause(milliseconds);
         }
     }
+}
+
+/// A station joins and dozes, 1,500 units are kept for it, and a beacon interval has lasted for 60 ms. Answers how many
+/// have begun.
+fn keep_many(stage: &Stage) -> usize {
+    join(stage);
+    stage.hear(&doze());
+    pause(200);
+    bring(stage, 1500, 3);
     let ticks = next_tick(stage);
-    thread::sleep(Duration::from_millis(60));
+    pause(60);
     ticks
 }
 
 /// Waits until a beacon interval begins, and answers how many have begun.
 fn next_tick(stage: &Stage) -> usize {
-    let count = || stage.record().iter().filter(|line| *line == "T").count();
-    let before = count();
-    wait_until(|| count() > before);
-    count()
-}
-
-fn wake() -> Vec<u8> {
-    Unit { control: [0x48, 0x01], sequence: 0x80, ..Unit::default() }.octets()
+    let before = stage.ticks();
+    wait_until(|| stage.ticks() > before);
+    stage.ticks()
 }
 
 /// If all ends no other interval begins.
 #[test]
 fn a_wake_that_waits_for_the_next_beacon_interval_is_given_before_the_end() {
-    let program = SLOW_AT_A_WAKE.replace("ANSWER", ANSWER).replace("JOINED", JOINED);
-    let surroundings = Surroundings { quota: 2000, ..Surroundings::default() };
-    let (outcome, stage) = run_with(&program, surroundings, |stage| {
+    let ((), stage) = run(SLOW_AT_A_WAKE, KEEPING_MANY, |stage| {
         keep_many(stage);
         stage.hear(&wake());
-        thread::sleep(Duration::from_millis(10));
-        end(stage);
+        pause(10);
     });
-    assert_eq!(outcome, Ok(()));
-    assert!(stage.record().contains(&format!("A {}", hex::encode(wake()))));
+    assert!(stage.has_told(&wake()));
 }
 
 /// The program would answer the wake for longer than the beacon interval still lasts: it is given the frame in the next
 /// one, and behind it what else comes of the station. What the wire brings meanwhile is kept with the rest.
 #[test]
 fn a_wake_with_much_kept_waits_for_the_next_beacon_interval() {
-    let program = SLOW_AT_A_WAKE.replace("ANSWER", ANSWER).replace("JOINED", JOINED);
-    let surroundings = Surroundings { quota: 2000, ..Surroundings::default() };
-    let wake = wake();
     let behind = Unit { control: [0x08, 0x01], sequence: 0x90, body: vec![7; 20], ..Unit::default() }.octets();
-    let (mut ticks, mut order) = (0, Vec::new());
-    let (outcome, stage) = run_with(&program, surroundings, |stage| {
-        ticks = keep_many(stage);
-        stage.hear(&wake);
+    let ((ticks, order), stage) = run(SLOW_AT_A_WAKE, KEEPING_MANY, |stage| {
+        let ticks = keep_many(stage);
+        stage.hear(&wake());
         stage.hear(&behind);
-        assert!(stage.wire.send(&wired(99)).is_ok());
+        stage.wire.send(&wired(99));
         wait_until(|| units(stage).len() >= 4);
-        order = units(stage);
-        thread::sleep(Duration::from_millis(250));
-        end(stage);
+        let order = units(stage);
+        pause(250);
+        (ticks, order)
     });
-    assert_eq!(outcome, Ok(()));
     let lines = stage.record();
-    let line = |frame: &[u8]| format!("A {}", hex::encode(frame));
-    let given = ticks_before(&lines, &line(&wake)).unwrap();
+    let given = ticks_before(&lines, &line_of(&wake())).unwrap();
     assert!(given == ticks + 1 || given == ticks + 2, "{given} {ticks}");
-    assert!(ticks_before(&lines, &line(&behind)).unwrap() >= given);
+    assert!(ticks_before(&lines, &line_of(&behind)).unwrap() >= given);
     let place = |line: &str| lines.iter().rposition(|found| found == line).unwrap();
-    assert!(place(&line(&behind)) > place(&line(&wake)));
-    assert!(place(&line(&wake)) > place(&format!("W 02:00:00:00:01:01 {}", hex::encode(wired(99)))));
+    assert!(place(&line_of(&behind)) > place(&line_of(&wake())));
+    assert!(place(&line_of(&wake())) > place(&line_of_wired(99)));
     assert_eq!(order[3], 99, "{order:?}");
 }
 
@@ -269,31 +250,23 @@ fn a_wake_with_much_kept_waits_for_the_next_beacon_interval() {
 #[test]
 fn a_wake_is_given_behind_beacons_that_always_come_late() {
     let late = "if kind == b\"T\":\n        time.sleep(0.036)\n        air";
-    let program = SLOW_AT_A_WAKE.replace("ANSWER", ANSWER).replace("JOINED", JOINED);
-    let program = program.replace("if kind == b\"T\":\n        air", late);
+    let program = SLOW_AT_A_WAKE.replace("if kind == b\"T\":\n        air", late);
     assert!(program.contains(late));
-    let surroundings = Surroundings { interval: 50, quota: 2000, ..Surroundings::default() };
-    let mut is_given = false;
-    let (outcome, stage) = run_with(&program, surroundings, |stage| {
+    let (is_given, stage) = run(&program, Surroundings { interval: 50, ..KEEPING_MANY }, |stage| {
         join(stage);
-        stage.hear(&mode_of_station(OURS, STATION, true));
-        thread::sleep(Duration::from_millis(300));
-        for number in 0..64 {
-            assert!(stage.wire.send(&wired(number)).is_ok());
-            if number % 16 == 0 {
-                thread::sleep(Duration::from_millis(60));
-            }
-        }
-        thread::sleep(Duration::from_millis(200));
+        stage.hear(&doze());
+        pause(300);
+        bring(stage, 64, 60);
+        pause(200);
         next_tick(stage);
         stage.hear(&wake());
+        let mut is_given = false;
         wait_until(|| {
-            is_given = stage.record().contains(&format!("A {}", hex::encode(wake())));
+            is_given = stage.has_told(&wake());
             is_given
         });
-        end(stage);
+        is_given
     });
-    assert_eq!(outcome, Ok(()));
     assert!(is_given);
     assert_eq!(units(&stage), [60, 61, 62, 63]);
 }

@@ -236,10 +236,8 @@ fn a_wake_with_much_kept_waits_until_the_radio_has_sent_the_beacons() {
         assert_eq!(running.next_wakes(after(1)), Some(after(2)));
         unsent.set(if is_sent { 0 } else { 500 });
         running.look(&mut batch, after(2)).unwrap();
-        assert_eq!(
-            (running.waiting.pop(after(2)).is_some(), running.next_wakes(after(2)).is_none()),
-            (is_sent, is_sent)
-        );
+        assert_eq!(running.waiting.pop(after(2)).is_some(), is_sent);
+        assert_eq!(running.next_wakes(after(2)).is_none(), is_sent);
         // A radio that sends no beacons is awaited no longer than the program.
         running.look(&mut batch, after(50)).unwrap();
         assert_eq!((running.waiting.pop(after(50)).is_some(), running.next_wakes(after(50))), (!is_sent, None));

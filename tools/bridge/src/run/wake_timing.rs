@@ -161,10 +161,7 @@ mod tests {
     fn a_wake_fits_where_its_answer_is_over_before_the_next_interval() {
         let (timing, Interval { begun, next, .. }) = (WakeTiming::new(), interval(0));
         for (units, at_latest) in [(1000, next - LEAST_OF_UNIT * 1000), (64, next - LEAST_OF_UNIT * 64)] {
-            assert!(
-                timing.fits(FIRST, units, interval(0), begun)
-                    && timing.fits(FIRST, units, interval(0), at_latest + SLACK)
-            );
+            assert!([begun, at_latest + SLACK].into_iter().all(|time| timing.fits(FIRST, units, interval(0), time)));
             assert!(!timing.fits(FIRST, units, interval(0), at_latest + SLACK + MILLISECOND));
         }
         assert!(timing.fits(FIRST, 0, interval(0), next + SECOND) && timing.fits(FIRST, 10, interval(0), next));
@@ -244,9 +241,8 @@ mod tests {
         let units = 100_000;
         assert!(timing.fits(FIRST, units, interval(0), begun));
         timing.give(FIRST, 1, 5, begun);
-        assert!(
-            !timing.fits(FIRST, units, interval(0), begun) && timing.fits(FIRST, units, interval(1), interval(1).begun)
-        );
+        assert!(!timing.fits(FIRST, units, interval(0), begun));
+        assert!(timing.fits(FIRST, units, interval(1), interval(1).begun));
     }
 
     #[test]
