@@ -133,8 +133,7 @@ mod tests {
             |is_bounded, number| not_begun("apctl", is_bounded, &io::Error::from_raw_os_error(number)).to_string();
         assert_eq!(said(false, libc::EACCES), "apctl: Permission denied");
         assert_eq!(said(true, libc::ENOENT), "apctl: No such file or directory");
-        assert!(
-            said(true, libc::EACCES).starts_with("apctl: Permission denied within its bounds: where the file system")
-        );
+        let within = "apctl: Permission denied within its bounds: where the file system";
+        assert!(said(true, libc::EACCES).starts_with(within));
     }
 }

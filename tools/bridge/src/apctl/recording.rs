@@ -277,9 +277,7 @@ mod tests {
     fn events_are_recorded_as_lines() {
         let (path, file) = file_of("lines");
         let mut record = Recording::new("today", file, None).unwrap();
-        for event in [Event::Tick, Event::Tables, Event::Air(&[1, 2])] {
-            record.write(event);
-        }
+        [Event::Tick, Event::Tables, Event::Air(&[1, 2])].into_iter().for_each(|event| record.write(event));
         record.remark("a word");
         assert_eq!(std::fs::read_to_string(&path).unwrap(), "");
         record.finish_within(LONG);

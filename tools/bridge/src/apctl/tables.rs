@@ -197,10 +197,8 @@ mod tests {
         tables.ask(Asker::Status, at(SECOND));
         assert!(!tables.are_wanted(at(SECOND + NANOSECOND)));
         take_all(&mut tables, at(SECOND + Duration::from_nanos(5)));
-        assert!(
-            tables.are_new(at(SECOND + Duration::from_nanos(6)))
-                && !tables.are_wanted(at(SECOND + Duration::from_nanos(6)))
-        );
+        let then = at(SECOND + Duration::from_nanos(6));
+        assert!(tables.are_new(then) && !tables.are_wanted(then));
         assert!(tables.are_wanted(at(2 * SECOND + Duration::from_nanos(6))));
         assert!(tables.is_late(at(SECOND), at(2 * SECOND)) && !tables.is_late(at(SECOND), at(2 * SECOND - NANOSECOND)));
     }

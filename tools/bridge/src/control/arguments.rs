@@ -185,25 +185,10 @@ mod tests {
 
     #[test]
     fn good_words_are_read() {
-        let networks = vec![
-            Network {
-                rates: vec![0x82, 0x84],
-                max_stations: 64,
-                max_known: 256,
-                quota: 500,
-                wire: Some("wire1".into()),
-                ..network(OURS)
-            },
-            Network {
-                ssid: b" ".to_vec(),
-                rates: vec![0x16],
-                max_stations: 2007,
-                max_known: 10_000,
-                quota: 0,
-                weight: 16,
-                ..network(OTHER)
-            },
-        ];
+        let (rates, wire) = (vec![0x82, 0x84], Some("wire1".into()));
+        let first = Network { rates, max_stations: 64, max_known: 256, quota: 500, wire, ..network(OURS) };
+        let (ssid, rates, max_stations, max_known) = (b" ".to_vec(), vec![0x16], 2007, 10_000);
+        let second = Network { ssid, rates, max_stations, max_known, quota: 0, weight: 16, ..network(OTHER) };
         let wanted = Arguments {
             name: "waltigon-live".into(),
             phy: "phy0".into(),
@@ -219,14 +204,13 @@ mod tests {
             record: Some((6, "r:1".into())),
             record_limit: Some(5000),
             bounds: Some(2_000_000),
-            networks,
+            networks: vec![first, second],
             program: "apctl".into(),
             config: "config".into(),
         };
         assert_eq!(read(GOOD), Ok(wanted));
         let most = "--idle 60 --no-update --socket 5 --alive --sends";
-        let fewer = read(&GOOD.replace(most, "").replace("--name waltigon-live", ""))
-            .unwrap();
+        let fewer = read(&GOOD.replace(most, "").replace("--name waltigon-live", "")).unwrap();
         assert_eq!((fewer.idle, fewer.socket, fewer.tells_alive, fewer.has_sent), (300, None, false, false));
         assert!(fewer.tells_wires);
         for (word, by) in [("active-monitors", By::ActiveMonitors), ("access-points", By::AccessPoints)] {

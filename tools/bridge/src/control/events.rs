@@ -212,40 +212,27 @@ mod tests {
 
     fn kinds() -> Vec<(Happened, &'static str)> {
         let station = |news| Happened::Station { station: STATION, news };
+        let refused = |status, is_association| station(News::Refused { status, is_association });
+        let forgotten = |why| station(News::Forgotten(why));
         vec![
-            (joined(3), r#""joined","bssid":"B","station":"S","aid":3,"listen":5"#),
+            (joined(3), r#""joined",B,S,"aid":3,"listen":5"#),
             (
                 Happened::Moved { station: STATION, from: OTHER, aid: 3, listen: 5 },
-                r#""moved","bssid":"B","station":"S","from":"02:00:00:00:01:02","aid":3,"listen":5"#,
+                r#""moved",B,S,"from":"02:00:00:00:01:02","aid":3,"listen":5"#,
             ),
-            (station(News::Leaves { reason: 8 }), r#""left","bssid":"B","station":"S","reason":8"#),
-            (
-                station(News::DozesTooLong { beacons: 6, listen: 5 }),
-                r#""dozes-too-long","bssid":"B","station":"S","beacons":6,"listen":5"#,
-            ),
-            (
-                station(News::Refused { status: 17, is_association: true }),
-                r#""refused","bssid":"B","station":"S","request":"association","status":17"#,
-            ),
-            (
-                station(News::Refused { status: 13, is_association: false }),
-                r#""refused","bssid":"B","station":"S","request":"authentication","status":13"#,
-            ),
-            (station(News::SentAway { reason: 7 }), r#""sent-away","bssid":"B","station":"S","reason":7"#),
-            (
-                station(News::Forgotten(Forgotten::Silent(300 * SECOND))),
-                r#""forgotten","bssid":"B","station":"S","why":"silent","seconds":300"#,
-            ),
-            (
-                station(News::Forgotten(Forgotten::Unassociated(3 * SECOND))),
-                r#""forgotten","bssid":"B","station":"S","why":"unassociated","seconds":3"#,
-            ),
-            (station(News::Forgotten(Forgotten::Kicked)), r#""forgotten","bssid":"B","station":"S","why":"kicked""#),
-            (station(News::Forgotten(Forgotten::Moved)), r#""forgotten","bssid":"B","station":"S","why":"moved""#),
-            (station(News::Claimed), r#""claimed","bssid":"B","station":"S""#),
-            (Happened::LeftOut { count: 7 }, r#""left-out","bssid":"B","count":7"#),
-            (Happened::WireDown { wire: "wire1".into() }, r#""wire-down","bssid":"B","wire":"wire1""#),
-            (Happened::WireUp { wire: "wire1".into() }, r#""wire-up","bssid":"B","wire":"wire1""#),
+            (station(News::Leaves { reason: 8 }), r#""left",B,S,"reason":8"#),
+            (station(News::DozesTooLong { beacons: 6, listen: 5 }), r#""dozes-too-long",B,S,"beacons":6,"listen":5"#),
+            (refused(17, true), r#""refused",B,S,"request":"association","status":17"#),
+            (refused(13, false), r#""refused",B,S,"request":"authentication","status":13"#),
+            (station(News::SentAway { reason: 7 }), r#""sent-away",B,S,"reason":7"#),
+            (forgotten(Forgotten::Silent(300 * SECOND)), r#""forgotten",B,S,"why":"silent","seconds":300"#),
+            (forgotten(Forgotten::Unassociated(3 * SECOND)), r#""forgotten",B,S,"why":"unassociated","seconds":3"#),
+            (forgotten(Forgotten::Kicked), r#""forgotten",B,S,"why":"kicked""#),
+            (forgotten(Forgotten::Moved), r#""forgotten",B,S,"why":"moved""#),
+            (station(News::Claimed), r#""claimed",B,S"#),
+            (Happened::LeftOut { count: 7 }, r#""left-out",B,"count":7"#),
+            (Happened::WireDown { wire: "wire1".into() }, r#""wire-down",B,"wire":"wire1""#),
+            (Happened::WireUp { wire: "wire1".into() }, r#""wire-up",B,"wire":"wire1""#),
         ]
     }
 
@@ -254,7 +241,8 @@ mod tests {
         for (happened, wanted) in kinds() {
             let mut events = Events::new(vec![OURS], 1_795_645_850 * SECOND);
             events.push(0, 1_795_645_851 * SECOND + 250 * MILLISECOND, happened);
-            let wanted = wanted.replace("\"B\"", "\"02:00:00:00:01:01\"").replace("\"S\"", "\"02:aa:00:00:00:01\"");
+            let wanted = wanted.replace(",B", r#","bssid":"02:00:00:00:01:01""#);
+            let wanted = wanted.replace(",S", r#","station":"02:aa:00:00:00:01""#);
             let event = format!(r#"{{"number":1,"time":"2026-11-25T22:30:51.250Z","event":{wanted}}}"#);
             let answer = format!(r#"{{"began":1795645850.000,"next":2,"dropped":null,"events":[{event}]}}"#);
             assert_eq!(events.line_from(0, Instant::START), answer);
@@ -269,9 +257,7 @@ mod tests {
     #[test]
     fn events_come_by_their_numbers_and_from_the_one_asked_for() {
         let mut events = Events::new(vec![OURS, OTHER], Duration::ZERO);
-        for number in 1..=6 {
-            events.push(number % 2, Duration::ZERO, joined(number as u16));
-        }
+        (1..=6).for_each(|number| events.push(number % 2, Duration::ZERO, joined(number as u16)));
         assert_eq!(numbers(events.line_from(1, Instant::START)), [1, 2, 3, 4, 5, 6]);
         assert_eq!(numbers(events.line_from(4, Instant::START)), [4, 5, 6]);
         assert_eq!(events.line_from(7, Instant::START), r#"{"began":0.000,"next":7,"dropped":null,"events":[]}"#);

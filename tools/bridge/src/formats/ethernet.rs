@@ -75,10 +75,8 @@ mod tests {
         }
         let longest = [&[0xaa, 0xaa, 3, 0, 0, 0, 8, 0][..], &[0; 2296]].concat();
         assert_eq!(wired_form(&unit(&longest)).map(|frame| frame.len()), Some(14 + 2296));
-        assert_eq!(
-            wired_form(&unit(&[7; 1500])).map(|frame| (frame.len(), frame[12], frame[13])),
-            Some((1514, 5, 0xdc))
-        );
+        let longest = wired_form(&unit(&[7; 1500]));
+        assert_eq!(longest.map(|frame| (frame.len(), frame[12], frame[13])), Some((1514, 5, 0xdc)));
     }
 
     #[test]

@@ -92,9 +92,7 @@ fn what_waits_for_room_at_a_wire_goes_later_and_what_is_late_is_dropped() {
 #[test]
 fn what_a_wire_refuses_is_counted_and_the_next_is_sent() {
     let mut driver = driver(Recorder { longest: Some(60), ..Recorder::default() });
-    for length in [14, 61, 61, 15] {
-        driver.outbound.send_on_wire(1, vec![0; length], Instant::START);
-    }
+    [14, 61, 61, 15].into_iter().for_each(|length| driver.outbound.send_on_wire(1, vec![0; length], Instant::START));
     driver.flush(Instant::START, Instant::NEVER);
     assert_eq!(driver.on_wire(), [vec![0; 14], vec![0; 15]]);
     assert_eq!(driver.outbound.counts()["refused by mon0: Message too long"], 2);
@@ -103,9 +101,7 @@ fn what_a_wire_refuses_is_counted_and_the_next_is_sent() {
 #[test]
 fn what_waits_for_a_wire_is_bounded_and_sent_some_at_a_time_until_a_time() {
     let mut driver = driver(Recorder::default());
-    for _ in 0..2000 {
-        driver.outbound.send_on_wire(1, vec![0; 4000], Instant::START);
-    }
+    (0..2000).for_each(|_| driver.outbound.send_on_wire(1, vec![0; 4000], Instant::START));
     let waiting = MOST_OCTETS / 4000;
     assert_eq!(driver.outbound.counts()["dropped, since no more could wait for wire2"] as usize + waiting, 2000);
     driver.flush(Instant::from_nanos(5), Instant::from_nanos(5));

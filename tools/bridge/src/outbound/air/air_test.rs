@@ -12,6 +12,7 @@ use crate::outbound::air::in_flight::MOST_OUT;
 use crate::outbound::air::queue::{MOST_FOR_STATION, MOST_OCTETS};
 use crate::outbound::counts::Counts;
 use crate::outbound::monitor::{self, MonitorSender};
+use crate::stations::own_frames::association_request;
 use crate::testing::samples::{at, network, Recorder, Unit, NANOSECOND, OTHER, OURS, STATION, STRANGER};
 
 #[path = "holding_test.rs"]
@@ -70,6 +71,13 @@ fn driver(weights: [u8; 2]) -> Driver {
     driver_of(&networks)
 }
 
+/// With a station of the first network, which is sent to at 54 Mb/s.
+fn driver_at_54() -> Driver {
+    let mut driver = driver([1, 1]);
+    driver.at_54();
+    driver
+}
+
 fn driver_of(networks: &[Network]) -> Driver {
     Driver {
         air: Transmitter::new(networks),
@@ -95,6 +103,12 @@ impl Driver {
         self.air.send(place, octets, self.now);
     }
 
+    /// Frames of the first network come: what goes on the air now.
+    fn give(&mut self, frames: impl IntoIterator<Item = Vec<u8>>) -> Vec<Seen> {
+        frames.into_iter().for_each(|octets| self.send(0, octets));
+        self.flush()
+    }
+
     /// What goes on the air now.
     fn flush(&mut self) -> Vec<Seen> {
         self.monitor.flush_beacons(&mut self.air, &mut self.interfaces);
@@ -110,6 +124,18 @@ impl Driver {
     /// What was waited for in vain until then isn't any more.
     fn expire(&mut self, now: Instant) {
         monitor::expire(&mut self.air, &self.interfaces, now);
+    }
+
+    /// So much time goes by.
+    fn pass(&mut self, time: Duration) {
+        self.now += time;
+        self.expire(self.now);
+    }
+
+    /// The radio's socket has room for all.
+    fn has_room_again(&mut self) {
+        self.interfaces.monitor.port.room = None;
+        self.interfaces.monitor.unblock();
     }
 
     fn has_room(&self) -> bool {
@@ -160,10 +186,7 @@ impl Driver {
     /// A station asks to join the first network, or the second, and is told that it is associated.
     fn ask(&mut self, place: Place, station: Address) -> Vec<Seen> {
         let bssid = medium::BSSIDS[place];
-        let elements = [&[0; 4][..], &[1, 8], &RATES[..8], &[50, 4], &RATES[8..]].concat();
-        let request =
-            Unit { control: [0, 0], receiver: bssid, transmitter: station, body: elements, ..Unit::default() };
-        self.air.heard(place, Frame::of(&request.octets()).unwrap());
+        self.air.heard(place, Frame::of(&request(bssid, station, &RATES)).unwrap());
         self.send(place, response(bssid, station, 0));
         self.flush()
     }
@@ -177,11 +200,14 @@ impl Driver {
     /// A station of the first network, which is sent to at 54 Mb/s.
     fn at_54(&mut self) {
         self.join(0, STATION);
-        for number in 0..8 {
-            self.send(0, unit(OURS, STATION, number));
-            let sent = self.flush();
-            self.reported(0, &sent[0], 0, true);
-        }
+        (0..8).for_each(|number| self.deliver(0, unit(OURS, STATION, number)));
+    }
+
+    /// A frame goes, and is acknowledged.
+    fn deliver(&mut self, place: Place, octets: Vec<u8>) {
+        self.send(place, octets);
+        let sent = self.flush();
+        self.reported(place, &sent[0], 0, true);
     }
 
     fn unsent(&self, place: Place, why: Unsent) -> u64 {
@@ -209,16 +235,19 @@ fn deauthentication(number: u16) -> Vec<u8> {
     of_network(0xc0, OURS, STATION, number, vec![8, 0])
 }
 
-fn numbers(sent: &[Seen]) -> Vec<u8> {
-    sent.iter().map(Seen::number).collect()
+fn numbers<'a>(sent: impl IntoIterator<Item = &'a Seen>) -> Vec<u8> {
+    sent.into_iter().map(Seen::number).collect()
+}
+
+/// The association request of a station that has these rates.
+fn request(bssid: Address, station: Address, rates: &[u8]) -> Vec<u8> {
+    association_request(&Network { rates: rates.to_vec(), ..network(bssid) }, station)
 }
 
 #[test]
 fn a_station_that_joined_is_sent_to_at_its_fastest_rate_soon() {
-    let mut driver = driver([1, 1]);
-    driver.at_54();
-    driver.send(0, unit(OURS, STATION, 9));
-    let sent = driver.flush();
+    let mut driver = driver_at_54();
+    let sent = driver.give([unit(OURS, STATION, 9)]);
     assert_eq!((sent[0].rate, sent[0].frame.clone()), (108, unit(OURS, STATION, 9)));
 }
 
@@ -226,16 +255,9 @@ fn a_station_that_joined_is_sent_to_at_its_fastest_rate_soon() {
 #[test]
 fn a_station_that_is_restored_is_sent_to_at_its_fastest_rate_soon() {
     let mut driver = driver([1, 1]);
-    let elements = [&[0; 4][..], &[1, 8], &RATES[..8], &[50, 4], &RATES[8..]].concat();
-    let request = Unit { control: [0, 0], body: elements, ..Unit::default() }.octets();
-    driver.air.restore(0, Frame::of(&request).unwrap());
-    for number in 0..8 {
-        driver.send(0, unit(OURS, STATION, number));
-        let sent = driver.flush();
-        driver.reported(0, &sent[0], 0, true);
-    }
-    driver.send(0, unit(OURS, STATION, 9));
-    assert_eq!(driver.flush()[0].rate, 108);
+    driver.air.restore(0, Frame::of(&request(OURS, STATION, &RATES)).unwrap());
+    (0..8).for_each(|number| driver.deliver(0, unit(OURS, STATION, number)));
+    assert_eq!(driver.give([unit(OURS, STATION, 9)])[0].rate, 108);
 }
 
 #[test]
@@ -251,8 +273,7 @@ fn one_that_was_refused_or_never_asked_is_sent_to_at_the_lowest_basic_rate() {
 
 #[test]
 fn groups_go_once_and_answers_by_what_their_tries_take() {
-    let mut driver = driver([1, 1]);
-    driver.at_54();
+    let mut driver = driver_at_54();
     let group = of_network(0x08, OURS, Address::BROADCAST, 1, vec![0; 8]);
     let answer = of_network(0xb0, OURS, STRANGER, 2, vec![0, 0, 2, 0, 0, 0]);
     for (frame, found) in
@@ -266,8 +287,7 @@ fn groups_go_once_and_answers_by_what_their_tries_take() {
 
 #[test]
 fn what_is_told_of_strangers_changes_nothing() {
-    let mut driver = driver([1, 1]);
-    driver.at_54();
+    let mut driver = driver_at_54();
     let stranger = unit(OURS, STRANGER, 1);
     let outcome = Outcome { is_acknowledged: false, retries: 7, rate: Some(2) };
     (0..=stranger.len()).for_each(|cut| driver.air.reported(0, &stranger[..cut], outcome, driver.now));
@@ -276,14 +296,12 @@ fn what_is_told_of_strangers_changes_nothing() {
 
 #[test]
 fn a_beacon_goes_before_all_that_waits_and_nothing_that_came_behind_it_before_it() {
-    let mut driver = driver([1, 1]);
-    driver.at_54();
+    let mut driver = driver_at_54();
     let group = of_network(0x08, OURS, Address::BROADCAST, 3, vec![0; 8]);
     driver.send(0, group);
     driver.send(0, of_network(BEACON, OURS, Address::BROADCAST, 4, vec![0; 30]));
     driver.interfaces.beacons.port.room = Some(0);
-    driver.send(0, unit(OURS, STATION, 5));
-    assert_eq!((driver.flush(), driver.beacons()), (vec![], vec![]));
+    assert_eq!((driver.give([unit(OURS, STATION, 5)]), driver.beacons()), (vec![], vec![]));
     driver.interfaces.beacons.port.room = None;
     let sent = driver.flush();
     assert_eq!(numbers(&driver.beacons()), [4]);
@@ -333,11 +351,9 @@ fn networks_take_turns_by_time_on_the_air() {
 
 #[test]
 fn what_a_network_used_of_the_air_is_counted_with_all_its_tries() {
-    let mut driver = driver([1, 1]);
-    driver.at_54();
+    let mut driver = driver_at_54();
     let before = driver.air.queue.accounts[0].used;
-    driver.send(0, long(OURS, STATION, 9));
-    let sent = driver.flush();
+    let sent = driver.give([long(OURS, STATION, 9)]);
     driver.reported(0, &sent[0], 6, true);
     let size = Size { octets: sent[0].frame.len(), rate: 108, is_acknowledged: true };
     assert_eq!(driver.air.queue.accounts[0].used - before, size.cost().tries(7));

@@ -96,10 +96,8 @@ mod tests {
     fn a_try_takes_its_backoff_and_its_acknowledgement_too() {
         // At 54 Mb/s: DIFS, 7.5 slots, 26 microseconds and 54 symbols, SIFS and the acknowledgement.
         assert_eq!(nanos(cost(1436, 108).tries(1)), 50_000 + 150_000 + 242_000 + 44_000);
-        assert_eq!(
-            nanos(Size { is_acknowledged: false, ..size(1436, 2) }.cost().tries(1)),
-            50_000 + 310_000 + 192_000 + 11_520_000
-        );
+        let for_all = Size { is_acknowledged: false, ..size(1436, 2) };
+        assert_eq!(nanos(for_all.cost().tries(1)), 50_000 + 310_000 + 192_000 + 11_520_000);
         assert_eq!(cost(1436, 108).tries(0), Duration::ZERO);
         // The window doubles: 31 and 63 slots.
         assert_eq!(nanos(cost(1436, 108).tries(3)), 3 * (50_000 + 286_000) + 150_000 + 310_000 + 630_000);

@@ -7,6 +7,7 @@ use crate::formats::radiotap::{Outcome, SENDING_LEN};
 use crate::os::clock::{Instant, MILLISECOND, SECOND};
 use crate::outbound::air::handing_back::Errand;
 use crate::outbound::air::sleeping::Mark;
+use crate::stations::own_frames::association_request;
 use crate::testing::samples::{network, Seeded, Unit, OTHER, OURS, STATION, STRANGER};
 
 const CALLS: usize = if cfg!(debug_assertions) { 50_000 } else { 500_000 };
@@ -69,9 +70,8 @@ impl Caller {
 
     fn hear(&mut self) {
         let (place, transmitter) = (self.seeded.below(2), RECEIVERS[self.seeded.below(2)]);
-        let body = [&[0; 4][..], &[1, 6], &RATES].concat();
-        let request = Unit { control: [0, 0], receiver: BSSIDS[place], transmitter, body, ..Unit::default() };
-        self.air.heard(place, Frame::of(&request.octets()).unwrap());
+        let network = Network { rates: RATES.to_vec(), ..network(BSSIDS[place]) };
+        self.air.heard(place, Frame::of(&association_request(&network, transmitter)).unwrap());
     }
 
     /// The radio tells of a frame, seldom of one that isn't the first.

@@ -21,6 +21,7 @@ use crate::os::clock::SECOND;
 use crate::outbound::air::account::Unsent;
 use crate::outbound::air::frame::{OutboundFrame, MOST_LIFETIME};
 use crate::outbound::air::handing_back::Errand;
+use crate::stations::own_frames::association_request;
 use crate::testing::samples::{at, network, Seeded, Unit};
 
 #[path = "downlink_model_test.rs"]
@@ -46,17 +47,10 @@ pub enum Fate {
 }
 
 impl Fate {
-    const ALL: [Fate; 9] = [
-        Fate::Goes,
-        Fate::GoesAgain,
-        Fate::Acknowledged,
-        Fate::WaitsAgain,
-        Fate::Lost,
-        Fate::HandedBack,
-        Fate::Late,
-        Fate::Crowded,
-        Fate::Left,
-    ];
+    const ALL: [Fate; 9] = {
+        use Fate::*;
+        [Goes, GoesAgain, Acknowledged, WaitsAgain, Lost, HandedBack, Late, Crowded, Left]
+    };
 
     fn is_sending(self) -> bool {
         matches!(self, Fate::Goes | Fate::GoesAgain)
@@ -189,11 +183,10 @@ impl Pair {
 
     fn join(&mut self, place: Place, receiver: usize) {
         if receiver > 0 {
-            let body = [&[0; 4][..], &[1, 6], &RATES].concat();
-            let transmitter = address_of(place, receiver);
-            let request = Unit { control: [0, 0], receiver: bssid(place), transmitter, body, ..Unit::default() };
-            self.air.sleepers.joins(place, transmitter, self.now);
-            self.air.restore(place, Frame::of(&request.octets()).unwrap());
+            let (station, network) = (address_of(place, receiver), network(bssid(place)));
+            let request = association_request(&Network { rates: RATES.to_vec(), ..network }, station);
+            self.air.sleepers.joins(place, station, self.now);
+            self.air.restore(place, Frame::of(&request).unwrap());
         }
         self.change(place, receiver, Change::Joins);
         self.modes[place][receiver] = Mode::Awake;

@@ -33,8 +33,16 @@ fn errands(driver: &mut Driver) -> (Vec<u16>, bool) {
     (numbers, goes_on)
 }
 
+/// The station dozes, and the answer to its poll waits.
+fn with_poll_answer() -> Driver {
+    let mut driver = driver_at_54();
+    driver.sleeps();
+    driver.send(0, numbered(30, SHORT_UNIT));
+    driver
+}
+
 fn of_station(sent: &[Seen]) -> Vec<u8> {
-    numbers(&sent.iter().filter(|seen| seen.frame[4..10] == *STATION.octets()).cloned().collect::<Vec<_>>())
+    numbers(sent.iter().filter(|seen| seen.frame[4..10] == *STATION.octets()))
 }
 
 impl Driver {
@@ -43,6 +51,20 @@ impl Driver {
         self.air.dozes(0, STATION, 1, self.now);
         assert!(self.air.sleepers.answered(1, self.now));
         assert_eq!(errands(self), (vec![], true));
+    }
+
+    /// The station dozes, and the program has answered all that it was given before.
+    fn dozes(&mut self) {
+        self.air.dozes(0, STATION, 5, self.now);
+        assert!(self.air.sleepers.answered(5, self.now));
+    }
+
+    /// The station dozes and wakes, and the program sends so many units that it had kept.
+    fn wakes_with(&mut self, kept: u16, octets: usize) {
+        self.sleeps();
+        self.air.sleepers.wakes(0, STATION, 2, self.now);
+        (0..kept).for_each(|number| self.send(0, numbered(number, octets)));
+        self.air.sleepers.answered(2, self.now);
     }
 
     /// Nobody acknowledges these, each after the time that its tries take.
@@ -63,10 +85,8 @@ impl Driver {
 /// that dozes, and its rate is as before.
 #[test]
 fn units_of_a_station_that_dozes_go_back_in_their_order() {
-    let mut driver = driver([1, 1]);
-    driver.at_54();
-    (100..140).for_each(|number| driver.send(0, numbered(number, LONG_UNIT)));
-    let sent = driver.flush();
+    let mut driver = driver_at_54();
+    let sent = driver.give((100..140).map(|number| numbered(number, LONG_UNIT)));
     assert!(sent.len() > 4 && sent.len() < 40, "{}", sent.len());
     driver.reported(0, &sent[0], 0, true);
     driver.air.dozes(0, STATION, 5, driver.now);
@@ -80,93 +100,73 @@ fn units_of_a_station_that_dozes_go_back_in_their_order() {
     assert_eq!((driver.handed_back(), driver.air.unacknowledged()), ((41, 0), Unacknowledged::default()));
     assert!(driver.air.is_empty() && driver.air.due().is_none());
     driver.air.sleepers.wakes(0, STATION, 6, driver.now);
-    driver.send(0, numbered(102, LONG_UNIT));
-    assert_eq!(driver.flush()[0].rate, 108);
+    assert_eq!(driver.give([numbered(102, LONG_UNIT)])[0].rate, 108);
 }
 
 /// A unit that was lost before, and waits to be sent once more, is the first one.
 #[test]
 fn a_unit_that_was_to_be_sent_once_more_goes_back_first() {
-    let mut driver = driver([1, 1]);
-    driver.at_54();
-    driver.send(0, numbered(100, SHORT_UNIT));
-    let sent = driver.flush();
+    let mut driver = driver_at_54();
+    let sent = driver.give([numbered(100, SHORT_UNIT)]);
     driver.lose(&sent);
     driver.send(0, numbered(101, SHORT_UNIT));
-    driver.air.dozes(0, STATION, 5, driver.now);
-    driver.air.sleepers.answered(5, driver.now);
+    driver.dozes();
     assert_eq!(errands(&mut driver), (vec![100, 101], true));
 }
 
 /// Frames that had their turn, and for which the socket has no room, go back too.
 #[test]
 fn units_before_a_socket_without_room_go_back() {
-    let mut driver = driver([1, 1]);
-    driver.at_54();
+    let mut driver = driver_at_54();
     driver.interfaces.monitor.port.room = Some(2);
     (100..105).for_each(|number| driver.send(0, numbered(number, SHORT_UNIT)));
-    driver.send(0, deauthentication(105));
-    let sent = driver.flush();
+    let sent = driver.give([deauthentication(105)]);
     driver.air.dozes(0, STATION, 5, driver.now);
     driver.lose(&sent);
     driver.air.sleepers.answered(5, driver.now);
     assert_eq!((sent.len(), errands(&mut driver)), (2, ((100..105).collect(), true)));
-    driver.interfaces.monitor.port.room = None;
-    driver.interfaces.monitor.unblock();
+    driver.has_room_again();
     assert_eq!(numbers(&driver.flush()), [105]);
 }
 
 /// A unit that was to be known of before the next one went goes back with that, and holds nothing any more.
 #[test]
 fn a_station_whose_unit_went_back_before_it_was_sent_is_held_no_more() {
-    let mut driver = driver([1, 1]);
-    driver.at_54();
-    driver.send(0, numbered(99, SHORT_UNIT));
-    let first = driver.flush();
+    let mut driver = driver_at_54();
+    let first = driver.give([numbered(99, SHORT_UNIT)]);
     driver.reported(0, &first[0], 1, true);
     driver.interfaces.monitor.port.room = Some(0);
     (100..102).for_each(|number| driver.send(0, numbered(number, SHORT_UNIT)));
     assert_eq!((driver.flush(), driver.air.awaiting_room().count()), (vec![], 1));
-    driver.air.dozes(0, STATION, 5, driver.now);
-    driver.air.sleepers.answered(5, driver.now);
+    driver.dozes();
     assert_eq!(errands(&mut driver), (vec![100, 101], true));
-    driver.interfaces.monitor.port.room = None;
-    driver.interfaces.monitor.unblock();
+    driver.has_room_again();
     driver.air.sleepers.wakes(0, STATION, 6, driver.now);
-    driver.send(0, numbered(100, SHORT_UNIT));
-    assert_eq!(of_station(&driver.flush()), [100]);
+    assert_eq!(of_station(&driver.give([numbered(100, SHORT_UNIT)])), [100]);
 }
 
 /// However long they had waited for room.
 #[test]
 fn units_that_waited_long_for_room_go_back() {
-    let mut driver = driver([1, 1]);
-    driver.at_54();
+    let mut driver = driver_at_54();
     driver.interfaces.monitor.port.room = Some(0);
-    (100..103).for_each(|number| driver.send(0, numbered(number, SHORT_UNIT)));
-    driver.flush();
-    driver.now += MOST_OUT;
-    driver.expire(driver.now);
-    driver.air.dozes(0, STATION, 5, driver.now);
-    driver.air.sleepers.answered(5, driver.now);
+    driver.give((100..103).map(|number| numbered(number, SHORT_UNIT)));
+    driver.pass(MOST_OUT);
+    driver.dozes();
     assert_eq!((errands(&mut driver), driver.air.awaiting_room().count()), ((vec![100, 101, 102], true), 0));
 }
 
 /// Outcomes are waited for as long as they come, and not for ever. One that comes later goes back out of order.
 #[test]
 fn outcomes_are_waited_for_while_they_come() {
-    let mut driver = driver([1, 1]);
-    driver.at_54();
-    (100..105).for_each(|number| driver.send(0, numbered(number, SHORT_UNIT)));
-    let sent = driver.flush();
+    let mut driver = driver_at_54();
+    let sent = driver.give((100..105).map(|number| numbered(number, SHORT_UNIT)));
     driver.interfaces.monitor.port.unsent = 100;
-    driver.air.dozes(0, STATION, 5, driver.now);
-    driver.air.sleepers.answered(5, driver.now);
+    driver.dozes();
     let began = driver.now;
     for seen in &sent[..4] {
         assert!(driver.air.awaits_outcomes() && driver.air.wants_outcomes(1));
-        driver.now += TO_OUTCOME - MILLISECOND;
-        driver.expire(driver.now);
+        driver.pass(TO_OUTCOME - MILLISECOND);
         let is_early = driver.now < began + TO_ALL_OUTCOMES;
         assert_eq!(driver.air.sleepers.has_next(), !is_early);
         if is_early {
@@ -186,39 +186,31 @@ fn a_radio_that_tells_nothing_is_not_waited_for() {
     let mut driver = driver([1, 1]);
     driver.ask(0, STATION);
     for _ in 0..200 {
-        driver.send(0, long(OURS, STATION, 7));
-        driver.flush();
-        driver.now += 300 * MILLISECOND;
-        driver.expire(driver.now);
+        driver.give([long(OURS, STATION, 7)]);
+        driver.pass(300 * MILLISECOND);
     }
-    (100..103).for_each(|number| driver.send(0, numbered(number, LONG_UNIT)));
-    assert_eq!(driver.flush().len(), 1);
-    driver.air.dozes(0, STATION, 5, driver.now);
-    driver.air.sleepers.answered(5, driver.now);
+    assert_eq!(driver.give((100..103).map(|number| numbered(number, LONG_UNIT))).len(), 1);
+    driver.dozes();
     let (back, goes_on) = errands(&mut driver);
     assert!(goes_on && back.ends_with(&[101, 102]), "{back:?}");
 }
 
 #[test]
 fn management_frames_go_to_a_station_that_dozes() {
-    let mut driver = driver([1, 1]);
-    driver.at_54();
+    let mut driver = driver_at_54();
     driver.interfaces.monitor.port.room = Some(0);
     driver.send(0, deauthentication(100));
-    driver.send(0, numbered(101, SHORT_UNIT));
-    driver.flush();
+    driver.give([numbered(101, SHORT_UNIT)]);
     driver.air.dozes(0, STATION, 5, driver.now);
     driver.send(0, deauthentication(102));
-    driver.interfaces.monitor.port.room = None;
-    driver.interfaces.monitor.unblock();
+    driver.has_room_again();
     assert_eq!(numbers(&driver.run(usize::MAX)), [100, 102]);
 }
 
 /// Another network's frame goes in its turn.
 #[test]
 fn the_answer_to_a_poll_goes_before_all_else_of_its_network() {
-    let mut driver = driver([1, 1]);
-    driver.at_54();
+    let mut driver = driver_at_54();
     driver.join(0, STRANGER);
     driver.sleeps();
     driver.interfaces.monitor.port.room = Some(0);
@@ -226,20 +218,16 @@ fn the_answer_to_a_poll_goes_before_all_else_of_its_network() {
     driver.send(1, unit(OTHER, STRANGER, 20));
     driver.send(0, of_network(0x08, OURS, Address::BROADCAST, 21, vec![0; 8]));
     driver.send(0, numbered(30, SHORT_UNIT));
-    driver.interfaces.monitor.port.room = None;
-    driver.interfaces.monitor.unblock();
+    driver.has_room_again();
     let sent = driver.run(usize::MAX);
-    let of_ours: Vec<u8> = numbers(&sent.iter().filter(|seen| seen.frame[15] == 1).cloned().collect::<Vec<_>>());
+    let of_ours: Vec<u8> = numbers(sent.iter().filter(|seen| seen.frame[15] == 1));
     assert_eq!(of_ours[0], 30, "{of_ours:?}");
 }
 
 /// As long as its station listens, it is sent again under its own number. Then it goes back, though others may be kept.
 #[test]
 fn the_answer_to_a_poll_is_sent_once_more_and_then_goes_back() {
-    let mut driver = driver([1, 1]);
-    driver.at_54();
-    driver.sleeps();
-    driver.send(0, numbered(30, SHORT_UNIT));
+    let mut driver = with_poll_answer();
     let sent = driver.flush();
     driver.lose(&sent);
     let again = driver.flush();
@@ -252,10 +240,7 @@ fn the_answer_to_a_poll_is_sent_once_more_and_then_goes_back() {
 /// One that waits too long goes back, and isn't dropped.
 #[test]
 fn the_answer_to_a_poll_goes_back_where_it_had_no_turn() {
-    let mut driver = driver([1, 1]);
-    driver.at_54();
-    driver.sleeps();
-    driver.send(0, numbered(30, SHORT_UNIT));
+    let mut driver = with_poll_answer();
     driver.now += MOST_LIFETIME + MILLISECOND;
     assert_eq!((driver.flush(), errands(&mut driver)), (vec![], (vec![30], false)));
     assert_eq!(driver.unsent(0, Unsent::Late), 0);
@@ -265,12 +250,8 @@ fn the_answer_to_a_poll_goes_back_where_it_had_no_turn() {
 #[test]
 fn a_station_that_wakes_gets_all_that_was_kept() {
     for (kept, octets) in [(256, SHORT_UNIT), (1000, LONG_UNIT), (1000, 2304)] {
-        let mut driver = driver([1, 1]);
-        driver.at_54();
-        driver.sleeps();
-        driver.air.sleepers.wakes(0, STATION, 2, driver.now);
-        (0..kept).for_each(|number| driver.send(0, numbered(number, octets)));
-        driver.air.sleepers.answered(2, driver.now);
+        let mut driver = driver_at_54();
+        driver.wakes_with(kept, octets);
         (kept..kept + 40).for_each(|number| driver.send(0, numbered(number, octets)));
         let sent = driver.run(usize::MAX);
         let found: Vec<u16> = sent.iter().map(|seen| u16::from_be_bytes([seen.frame[32], seen.frame[33]])).collect();
@@ -283,16 +264,9 @@ fn a_station_that_wakes_gets_all_that_was_kept() {
 #[test]
 fn what_was_kept_is_worth_sending_while_it_drains() {
     let mut driver = driver([1, 1]);
-    let elements = [&[0; 4][..], &[1, 1, 0x82]].concat();
-    let request = Unit { control: [0, 0], receiver: OURS, transmitter: STATION, body: elements, ..Unit::default() };
-    driver.air.heard(0, Frame::of(&request.octets()).unwrap());
-    driver.send(0, response(OURS, STATION, 0));
-    let joined = driver.flush();
-    driver.reported(0, &joined[0], 0, true);
-    driver.sleeps();
-    driver.air.sleepers.wakes(0, STATION, 2, driver.now);
-    (0..200).for_each(|number| driver.send(0, numbered(number, LONG_UNIT)));
-    driver.air.sleepers.answered(2, driver.now);
+    driver.air.heard(0, Frame::of(&request(OURS, STATION, &[0x82])).unwrap());
+    driver.deliver(0, response(OURS, STATION, 0));
+    driver.wakes_with(200, LONG_UNIT);
     (200..210).for_each(|number| driver.send(0, numbered(number, LONG_UNIT)));
     let began = driver.now;
     let sent = driver.run(usize::MAX);
@@ -303,17 +277,12 @@ fn what_was_kept_is_worth_sending_while_it_drains() {
 /// It costs its network some two seconds of the air.
 #[test]
 fn what_was_kept_for_a_station_that_is_gone_is_dropped() {
-    let mut driver = driver([1, 1]);
-    driver.at_54();
-    driver.sleeps();
-    driver.air.sleepers.wakes(0, STATION, 2, driver.now);
-    (0..1000).for_each(|number| driver.send(0, numbered(number, LONG_UNIT)));
-    driver.air.sleepers.answered(2, driver.now);
+    let mut driver = driver_at_54();
+    driver.wakes_with(1000, LONG_UNIT);
     let began = driver.now;
     while !driver.air.is_empty() && driver.now < began + 10 * SECOND {
         let sent = driver.flush();
-        driver.now += MILLISECOND;
-        driver.expire(driver.now);
+        driver.pass(MILLISECOND);
         for seen in sent {
             let size = Size { octets: seen.frame.len(), rate: seen.rate, is_acknowledged: true };
             driver.now += size.cost().tries(u32::from(seen.retries) + 1);
@@ -327,12 +296,8 @@ fn what_was_kept_for_a_station_that_is_gone_is_dropped() {
 /// A unit that was kept and isn't sent yet goes back with the others, when its station dozes again.
 #[test]
 fn what_was_kept_goes_back_where_its_station_dozes_again() {
-    let mut driver = driver([1, 1]);
-    driver.at_54();
-    driver.sleeps();
-    driver.air.sleepers.wakes(0, STATION, 2, driver.now);
-    (0..90).for_each(|number| driver.send(0, numbered(number, SHORT_UNIT)));
-    driver.air.sleepers.answered(2, driver.now);
+    let mut driver = driver_at_54();
+    driver.wakes_with(90, SHORT_UNIT);
     (90..95).for_each(|number| driver.send(0, numbered(number, SHORT_UNIT)));
     driver.air.dozes(0, STATION, 3, driver.now);
     driver.air.sleepers.answered(3, driver.now);
@@ -342,8 +307,7 @@ fn what_was_kept_goes_back_where_its_station_dozes_again() {
 /// Of one station as many units a second go back as its network keeps. What is beyond is lost, and counted.
 #[test]
 fn no_more_go_back_in_a_second_than_the_network_keeps() {
-    let mut driver = driver([1, 1]);
-    driver.at_54();
+    let mut driver = driver_at_54();
     for mark in 0..10 {
         driver.air.dozes(0, STATION, 2 * mark, driver.now);
         (0..30).for_each(|number| driver.send(0, numbered(number, SHORT_UNIT)));
@@ -358,8 +322,7 @@ fn no_more_go_back_in_a_second_than_the_network_keeps() {
 
 #[test]
 fn a_unit_without_a_wired_form_is_counted() {
-    let mut driver = driver([1, 1]);
-    driver.at_54();
+    let mut driver = driver_at_54();
     let formless = of_network(0x08, OURS, STATION, 100, vec![0; 2]);
     assert_eq!(wired_form(&formless), None);
     driver.air.dozes(0, STATION, 5, driver.now);
@@ -372,8 +335,7 @@ fn a_unit_without_a_wired_form_is_counted() {
 /// What waits is dropped, and so is what the program answered before. What it answers later goes.
 #[test]
 fn units_for_a_station_that_left_are_dropped() {
-    let mut driver = driver([1, 1]);
-    driver.at_54();
+    let mut driver = driver_at_54();
     (100..130).for_each(|number| driver.send(0, numbered(number, SHORT_UNIT)));
     driver.air.leaves(0, STATION, Some(9), driver.now);
     driver.send(0, numbered(130, SHORT_UNIT));
@@ -383,23 +345,20 @@ fn units_for_a_station_that_left_are_dropped() {
     assert_eq!((numbers(&sent), driver.unsent(0, Unsent::Left)), (vec![200], 31));
     (10..20).for_each(|number| driver.send(0, numbered(number, SHORT_UNIT)));
     driver.air.leaves(0, STATION, None, driver.now);
-    driver.send(0, numbered(20, SHORT_UNIT));
-    assert_eq!((numbers(&driver.flush()), driver.unsent(0, Unsent::Left)), (vec![20], 41));
+    assert_eq!((numbers(&driver.give([numbered(20, SHORT_UNIT)])), driver.unsent(0, Unsent::Left)), (vec![20], 41));
 }
 
 /// The units of one that left while it fell asleep don't go back.
 #[test]
 fn units_of_a_station_that_left_do_not_go_back() {
-    let mut driver = driver([1, 1]);
-    driver.at_54();
+    let mut driver = driver_at_54();
     driver.air.dozes(0, STATION, 5, driver.now);
     (100..103).for_each(|number| driver.send(0, numbered(number, SHORT_UNIT)));
     driver.air.leaves(0, STATION, None, driver.now);
     assert_eq!((errands(&mut driver), driver.unsent(0, Unsent::Left)), ((vec![], true), 3));
     driver.air.sleepers.joins(0, STATION, driver.now);
     assert!(driver.air.sleepers.answered(5, driver.now));
-    driver.send(0, numbered(110, SHORT_UNIT));
-    assert_eq!(of_station(&driver.flush()), [110]);
+    assert_eq!(of_station(&driver.give([numbered(110, SHORT_UNIT)])), [110]);
 }
 
 fn beacon_with(dtim_count: u8, bitmap_control: u8) -> Vec<u8> {
@@ -418,8 +377,7 @@ fn group_unit(number: u16, has_more: bool) -> Vec<u8> {
 #[test]
 fn units_for_the_group_follow_their_beacon() {
     for others in [0, 60] {
-        let mut driver = driver([1, 1]);
-        driver.at_54();
+        let mut driver = driver_at_54();
         driver.join(1, STRANGER);
         driver.send(0, group_unit(90, false));
         (0..60).for_each(|number| driver.send(0, long(OURS, STATION, number)));
@@ -430,7 +388,7 @@ fn units_for_the_group_follow_their_beacon() {
         (0..others).for_each(|number| driver.send(1, long(OTHER, STRANGER, number)));
         let with_radio = driver.on_air.len();
         let sent = driver.run(usize::MAX).split_off(with_radio);
-        let of_ours: Vec<u8> = numbers(&sent.iter().filter(|seen| seen.frame[15] == 1).cloned().collect::<Vec<_>>());
+        let of_ours: Vec<u8> = numbers(sent.iter().filter(|seen| seen.frame[15] == 1));
         assert_eq!(of_ours[..4], [101, 102, 103, 104], "{of_ours:?}");
         assert!(of_ours[4] != 105 && of_ours.contains(&105), "{of_ours:?}");
         let first_ours: usize = sent.iter().take_while(|seen| seen.frame[15] != 1).count();
@@ -442,8 +400,7 @@ fn units_for_the_group_follow_their_beacon() {
 #[test]
 fn other_units_for_the_group_have_their_turn() {
     for beacon in [beacon_with(1, 1), beacon_with(0, 0)] {
-        let mut driver = driver([1, 1]);
-        driver.at_54();
+        let mut driver = driver_at_54();
         driver.send(0, group_unit(90, false));
         driver.run(1);
         (0..10).for_each(|number| driver.send(0, unit(OURS, STATION, number)));

@@ -1,5 +1,6 @@
 //! What is dropped, and counted.
 use super::*;
+use crate::testing::samples::made_up;
 
 /// A station that is gone is not fed: it costs what was given, and what waits for it is bounded.
 #[test]
@@ -23,10 +24,7 @@ fn no_more_frames_wait_for_a_station_than_there_is_room_for_and_the_oldest_are_d
 fn of_beacons_that_find_no_room_the_last_ones_are_kept() {
     let mut driver = driver([1, 1]);
     driver.interfaces.beacons.port.room = Some(0);
-    for number in 0..50 {
-        driver.send(0, of_network(BEACON, OURS, Address::BROADCAST, number, vec![]));
-        driver.flush();
-    }
+    (0..50).for_each(|number| drop(driver.give([of_network(BEACON, OURS, Address::BROADCAST, number, vec![])])));
     driver.interfaces.beacons.port.room = None;
     driver.flush();
     assert_eq!(numbers(&driver.beacons()), [46, 47, 48, 49]);
@@ -78,8 +76,7 @@ fn what_waits_for_an_interface_that_is_down_goes_once_it_is_up_unless_it_is_late
 fn what_waits_for_room_goes_later_and_late_units_are_dropped() {
     let mut driver = driver([1, 1]);
     driver.interfaces.monitor.port.room = Some(1);
-    driver.send(0, unit(OURS, STATION, 1));
-    let first = driver.flush();
+    let first = driver.give([unit(OURS, STATION, 1)]);
     assert_eq!(numbers(&first), [1]);
     driver.reported(0, &first[0], 0, true);
     driver.send(0, unit(OURS, STATION, 2));
@@ -89,8 +86,7 @@ fn what_waits_for_room_goes_later_and_late_units_are_dropped() {
     driver.send(0, unit(OURS, STATION, 4));
     driver.now += MOST_LIFETIME + NANOSECOND;
     driver.send(0, unit(OURS, STATION, 5));
-    driver.interfaces.monitor.port.room = None;
-    driver.interfaces.monitor.unblock();
+    driver.has_room_again();
     let sent = driver.run(usize::MAX);
     let numbers = numbers(&sent);
     assert!(numbers.contains(&3) && numbers.contains(&5) && !numbers.contains(&4), "{numbers:?}");
@@ -100,8 +96,7 @@ fn what_waits_for_room_goes_later_and_late_units_are_dropped() {
 /// While others take the air for less than 300 ms nothing is lost; then what could have gone for 50 ms is dropped.
 #[test]
 fn units_that_are_late_for_a_while_go_all_the_same() {
-    let mut driver = driver([1, 1]);
-    driver.at_54();
+    let mut driver = driver_at_54();
     let mut goes_after = |wait: u32| {
         driver.send(0, unit(OURS, STATION, 1));
         driver.now += wait * MILLISECOND;
@@ -121,9 +116,9 @@ fn what_waits_of_a_network_is_bounded_and_the_longest_queue_loses_its_oldest() {
     driver.interfaces.monitor.port.room = Some(0);
     driver.send(0, of_network(0x08, OURS, STATION, 0, vec![0; 4000]));
     for number in 0..4000u16 {
-        let [high, low] = (number % 40).to_be_bytes();
-        driver.send(0, of_network(0x08, OURS, Address::of([2, 9, 0, 0, high, low]), number, vec![0; 4000]));
-        driver.send(1, of_network(0x08, OTHER, Address::of([2, 9, 0, 0, high, low]), number, vec![0; 10]));
+        let station = made_up(usize::from(number % 40));
+        driver.send(0, of_network(0x08, OURS, station, number, vec![0; 4000]));
+        driver.send(1, of_network(0x08, OTHER, station, number, vec![0; 10]));
     }
     let Account { waiting, octets, .. } = driver.air.queue.accounts[0].clone();
     assert!(octets <= MOST_OCTETS && waiting == MOST_OCTETS / 4024, "{waiting} {octets}");

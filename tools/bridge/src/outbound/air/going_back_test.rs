@@ -4,10 +4,8 @@ use super::*;
 /// The units that nobody acknowledged before their station left don't go back, and are counted.
 #[test]
 fn lost_units_of_a_station_that_left_as_it_fell_asleep_are_counted() {
-    let mut driver = driver([1, 1]);
-    driver.at_54();
-    (100..104).for_each(|number| driver.send(0, numbered(number, SHORT_UNIT)));
-    let sent = driver.flush();
+    let mut driver = driver_at_54();
+    let sent = driver.give((100..104).map(|number| numbered(number, SHORT_UNIT)));
     driver.air.dozes(0, STATION, 5, driver.now);
     driver.reported(0, &sent[0], 0, true);
     driver.lose(&sent[1..3]);
@@ -19,8 +17,7 @@ fn lost_units_of_a_station_that_left_as_it_fell_asleep_are_counted() {
 /// So are those that the program wasn't given yet, though their station had fallen asleep before.
 #[test]
 fn units_that_are_about_to_go_back_do_not_where_their_station_left() {
-    let mut driver = driver([1, 1]);
-    driver.at_54();
+    let mut driver = driver_at_54();
     driver.join(0, STRANGER);
     driver.interfaces.monitor.port.room = Some(0);
     (100..104).for_each(|number| driver.send(0, numbered(number, SHORT_UNIT)));
@@ -39,25 +36,19 @@ fn units_that_are_about_to_go_back_do_not_where_their_station_left() {
 /// A unit that the radio had when its station left isn't sent once more, and holds up nothing.
 #[test]
 fn a_lost_unit_of_a_station_that_left_is_not_sent_once_more() {
-    let mut driver = driver([1, 1]);
-    driver.at_54();
-    driver.send(0, numbered(100, SHORT_UNIT));
-    let sent = driver.flush();
+    let mut driver = driver_at_54();
+    let sent = driver.give([numbered(100, SHORT_UNIT)]);
     driver.air.leaves(0, STATION, Some(9), driver.now);
     driver.air.sleepers.answered(9, driver.now);
     driver.lose(&sent);
-    driver.send(0, of_network(0xb0, OURS, STATION, 200, vec![0, 0, 2, 0, 0, 0]));
-    assert_eq!(numbers(&driver.flush()), [200]);
+    assert_eq!(numbers(&driver.give([of_network(0xb0, OURS, STATION, 200, vec![0, 0, 2, 0, 0, 0])])), [200]);
     assert_eq!(driver.air.unacknowledged(), Unacknowledged { again: 0, lost: 1 });
 }
 
 /// It goes back like one that waits for its first turn, and isn't dropped.
 #[test]
 fn the_answer_to_a_poll_that_waits_to_be_sent_once_more_goes_back() {
-    let mut driver = driver([1, 1]);
-    driver.at_54();
-    driver.sleeps();
-    driver.send(0, numbered(30, SHORT_UNIT));
+    let mut driver = with_poll_answer();
     let sent = driver.flush();
     driver.interfaces.monitor.port.room = Some(0);
     driver.lose(&sent);
@@ -69,10 +60,7 @@ fn the_answer_to_a_poll_that_waits_to_be_sent_once_more_goes_back() {
 /// One that the interface refuses was on no air.
 #[test]
 fn the_answer_to_a_poll_that_is_refused_goes_back() {
-    let mut driver = driver([1, 1]);
-    driver.at_54();
-    driver.sleeps();
-    driver.send(0, numbered(30, SHORT_UNIT));
+    let mut driver = with_poll_answer();
     assert!(driver.air.choose(1, driver.now));
     driver.air.refused(driver.now);
     assert_eq!((errands(&mut driver), driver.unsent(0, Unsent::Refused)), ((vec![30], false), 0));
@@ -81,14 +69,10 @@ fn the_answer_to_a_poll_that_is_refused_goes_back() {
 /// So does one that waited for an interface that was down, however long.
 #[test]
 fn the_answer_to_a_poll_that_waited_for_the_interface_goes_back() {
-    let mut driver = driver([1, 1]);
-    driver.at_54();
-    driver.sleeps();
-    driver.send(0, numbered(30, SHORT_UNIT));
+    let mut driver = with_poll_answer();
     assert!(driver.air.choose(1, driver.now));
     driver.air.went_down();
-    driver.now += MOST_OUT;
-    driver.expire(driver.now);
+    driver.pass(MOST_OUT);
     driver.air.came_up(MOST_OUT, driver.now);
     assert_eq!((errands(&mut driver), driver.unsent(0, Unsent::Late)), ((vec![30], false), 0));
 }
@@ -96,8 +80,7 @@ fn the_answer_to_a_poll_that_waited_for_the_interface_goes_back() {
 /// Only what goes back behind others of its station is told as out of order.
 #[test]
 fn the_answer_to_a_poll_goes_back_behind_what_is_kept() {
-    let mut driver = driver([1, 1]);
-    driver.at_54();
+    let mut driver = driver_at_54();
     driver.sleeps();
     for (given, number, wanted) in [(1, 30, (1, 0)), (0, 31, (2, 0)), (2, 32, (3, 1)), (0, 33, (4, 2))] {
         (0..given).for_each(|_| driver.air.sleepers.was_given(0, STATION));

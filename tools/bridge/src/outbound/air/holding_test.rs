@@ -4,13 +4,10 @@ use super::*;
 
 #[test]
 fn a_lost_unit_is_sent_once_more_with_retry_and_later_ones_wait() {
-    let mut driver = driver([1, 1]);
-    driver.at_54();
-    driver.send(0, unit(OURS, STATION, 9));
-    let first = driver.flush();
+    let mut driver = driver_at_54();
+    let first = driver.give([unit(OURS, STATION, 9)]);
     driver.reported(0, &first[0], 6, false);
-    driver.send(0, unit(OURS, STATION, 10));
-    let second = driver.flush();
+    let second = driver.give([unit(OURS, STATION, 10)]);
     assert_eq!((second.len(), second[0].rate, second[0].is_again(), second[0].number()), (1, 12, true, 9));
     driver.reported(0, &second[0], 0, true);
     let third = driver.flush();
@@ -22,13 +19,10 @@ fn a_lost_unit_is_sent_once_more_with_retry_and_later_ones_wait() {
 #[test]
 fn a_station_that_loses_some_is_given_one_frame_at_a_time_while_few_wait() {
     for (waiting, given) in [(FEW, 1), (FEW + 2, 2)] {
-        let mut driver = driver([1, 1]);
-        driver.at_54();
-        driver.send(0, unit(OURS, STATION, 8));
-        let first = driver.flush();
+        let mut driver = driver_at_54();
+        let first = driver.give([unit(OURS, STATION, 8)]);
         driver.reported(0, &first[0], 1, true);
-        (9..9 + waiting as u16).for_each(|number| driver.send(0, unit(OURS, STATION, number)));
-        let sent = driver.flush();
+        let sent = driver.give((9..9 + waiting as u16).map(|number| unit(OURS, STATION, number)));
         assert_eq!(sent.len(), given);
         driver.reported(0, &sent[0], 6, false);
         let next = driver.flush();
@@ -39,10 +33,8 @@ fn a_station_that_loses_some_is_given_one_frame_at_a_time_while_few_wait() {
 
 #[test]
 fn a_unit_behind_which_others_went_is_not_sent_out_of_order() {
-    let mut driver = driver([1, 1]);
-    driver.at_54();
-    (9..12).for_each(|number| driver.send(0, unit(OURS, STATION, number)));
-    let sent = driver.flush();
+    let mut driver = driver_at_54();
+    let sent = driver.give((9..12).map(|number| unit(OURS, STATION, number)));
     assert_eq!(numbers(&sent), [9, 10, 11]);
     sent[..2].iter().for_each(|seen| driver.reported(0, seen, 6, false));
     assert_eq!(driver.flush(), []);
@@ -54,23 +46,20 @@ fn a_unit_behind_which_others_went_is_not_sent_out_of_order() {
 
 #[test]
 fn a_unit_that_is_lost_twice_is_given_up_and_the_next_goes() {
-    let mut driver = driver([1, 1]);
-    driver.at_54();
+    let mut driver = driver_at_54();
     driver.send(0, unit(OURS, STATION, 9));
     for _ in 0..2 {
         let sent = driver.flush();
         driver.reported(0, &sent[0], 1, false);
     }
-    (10..12).for_each(|number| driver.send(0, unit(OURS, STATION, number)));
-    assert_eq!(numbers(&driver.flush()), [10]);
+    assert_eq!(numbers(&driver.give((10..12).map(|number| unit(OURS, STATION, number)))), [10]);
     assert_eq!(driver.air.unacknowledged(), Unacknowledged { again: 1, lost: 1 });
 }
 
 /// Each network has its own count, which the radio's other networks don't change.
 #[test]
 fn units_that_nobody_acknowledges_count_for_their_network() {
-    let mut driver = driver([1, 1]);
-    driver.at_54();
+    let mut driver = driver_at_54();
     driver.join(1, STATION);
     for (number, place, bssid, acknowledges) in [(9, 0, OURS, true), (10, 1, OTHER, false), (11, 1, OTHER, false)] {
         driver.send(place, unit(bssid, STATION, number));
@@ -87,8 +76,7 @@ fn while_a_sample_is_on_the_air_frames_wait_in_order_and_not_for_ever() {
     let mut driver = driver([1, 1]);
     driver.join(0, STATION);
     driver.send(0, unit(OURS, STATION, 2));
-    driver.send(0, deauthentication(3));
-    assert_eq!(numbers(&driver.flush()), [2]);
+    assert_eq!(numbers(&driver.give([deauthentication(3)])), [2]);
     assert!(driver.air.awaits_outcomes());
     let due = driver.air.due().unwrap();
     assert_eq!(due, driver.now + MOST_OUT);
@@ -104,20 +92,16 @@ fn a_radio_that_tells_nothing_is_given_all_at_the_lowest_rate_as_it_sends() {
     let mut driver = driver([1, 1]);
     driver.ask(0, STRANGER);
     for number in 0..200 {
-        driver.send(0, long(OURS, STRANGER, number));
-        driver.flush();
-        driver.now += 300 * MILLISECOND;
-        driver.expire(driver.now);
+        driver.give([long(OURS, STRANGER, number)]);
+        driver.pass(300 * MILLISECOND);
     }
     (0..3).for_each(|number| driver.send(0, long(OURS, STRANGER, number)));
     driver.interfaces.monitor.port.unsent = 5000;
     assert_eq!(driver.flush().len(), 1);
-    driver.now += 10 * MILLISECOND;
-    driver.expire(driver.now);
+    driver.pass(10 * MILLISECOND);
     assert_eq!(driver.flush(), []);
     driver.interfaces.monitor.port.unsent = 0;
-    driver.now += LOOK_EVERY;
-    driver.expire(driver.now);
+    driver.pass(LOOK_EVERY);
     let sent = driver.flush();
     assert_eq!((sent.len(), sent[0].rate), (1, 2));
     driver.reported(0, &sent[0], 0, true);
@@ -129,10 +113,8 @@ fn a_radio_that_tells_nothing_is_given_all_at_the_lowest_rate_as_it_sends() {
 /// Who isn't looked for any more asks its socket nothing: that would cost a call each millisecond.
 #[test]
 fn the_socket_is_looked_at_only_while_the_radio_has_as_much_as_it_may_have() {
-    let mut driver = driver([1, 1]);
-    driver.at_54();
-    (0..40).for_each(|number| driver.send(0, deauthentication(number)));
-    let sent = driver.flush();
+    let mut driver = driver_at_54();
+    let sent = driver.give((0..40).map(deauthentication));
     assert!(driver.air.wants_look(driver.now + MOST_OUT));
     driver.reported(0, &sent[0], 0, true);
     assert!(!driver.air.wants_look(driver.now + MOST_OUT));
@@ -143,10 +125,8 @@ fn the_socket_is_looked_at_only_while_the_radio_has_as_much_as_it_may_have() {
 /// What left the radio after its outcomes were read holds its station until they are read again, which is at once.
 #[test]
 fn outcomes_are_read_again_once_a_frame_has_left_the_radio() {
-    let mut driver = driver([1, 1]);
-    driver.at_54();
-    driver.send(0, long(OURS, STATION, 9));
-    driver.flush();
+    let mut driver = driver_at_54();
+    driver.give([long(OURS, STATION, 9)]);
     driver.air.reports_read();
     assert!(!driver.air.wants_outcomes(0) && !driver.air.wants_outcomes(1) && driver.air.wants_outcomes(32));
     driver.now += 2 * MILLISECOND;
@@ -160,8 +140,7 @@ fn outcomes_are_read_again_once_a_frame_has_left_the_radio() {
 
 #[test]
 fn the_radio_has_no_more_at_once_than_it_sends_in_eight_milliseconds() {
-    let mut driver = driver([1, 1]);
-    driver.at_54();
+    let mut driver = driver_at_54();
     (0..60).for_each(|number| driver.send(0, long(OURS, STATION, number)));
     driver.run(usize::MAX);
     (0..40).for_each(|number| driver.send(0, long(OURS, STATION, number)));
@@ -184,10 +163,8 @@ fn the_radio_has_no_more_at_once_than_it_sends_in_eight_milliseconds() {
 /// nearly 4 for each behind it.
 #[test]
 fn the_radio_has_no_more_of_a_network_than_it_gives_up_within_50_milliseconds() {
-    let mut driver = driver([1, 1]);
-    driver.at_54();
-    (10..30).for_each(|number| driver.send(0, long(OURS, STATION, number)));
-    let sent = driver.flush();
+    let mut driver = driver_at_54();
+    let sent = driver.give((10..30).map(|number| long(OURS, STATION, number)));
     assert_eq!(sent.iter().map(|seen| seen.retries).collect::<Vec<_>>(), [6, 3, 3, 3, 3, 3, 3, 3]);
     assert!(!driver.has_room() && driver.air.awaits_outcomes());
     driver.reported(0, &sent[0], 0, true);
@@ -197,13 +174,10 @@ fn the_radio_has_no_more_of_a_network_than_it_gives_up_within_50_milliseconds() 
 /// A station that loses more has all tries of each, and so fewer at once.
 #[test]
 fn to_a_station_that_loses_tries_the_radio_has_few_units_with_all_of_their_tries() {
-    let mut driver = driver([1, 1]);
-    driver.at_54();
-    driver.send(0, long(OURS, STATION, 9));
-    let first = driver.flush();
+    let mut driver = driver_at_54();
+    let first = driver.give([long(OURS, STATION, 9)]);
     driver.reported(0, &first[0], 1, true);
-    (10..40).for_each(|number| driver.send(0, long(OURS, STATION, number)));
-    let sent = driver.flush();
+    let sent = driver.give((10..40).map(|number| long(OURS, STATION, number)));
     assert_eq!(sent.iter().map(|seen| (seen.rate, seen.retries)).collect::<Vec<_>>(), [(108, 6), (108, 6)]);
 }
 
@@ -213,8 +187,7 @@ fn a_station_whose_frame_is_out_too_long_is_given_nothing_more() {
     let mut driver = driver([1, 1]);
     driver.join(1, STRANGER);
     driver.at_54();
-    driver.send(0, long(OURS, STATION, 9));
-    let first = driver.flush();
+    let first = driver.give([long(OURS, STATION, 9)]);
     driver.now += 2 * MILLISECOND;
     driver.interfaces.monitor.port.unsent = 1500;
     driver.send(0, long(OURS, STATION, 10));
@@ -229,10 +202,8 @@ fn a_station_whose_frame_is_out_too_long_is_given_nothing_more() {
 /// that it told of one knows nothing, whatever its socket says.
 #[test]
 fn a_frame_that_left_the_radio_keeps_none_waiting_until_outcomes_were_looked_at() {
-    let mut driver = driver([1, 1]);
-    driver.at_54();
-    driver.send(0, long(OURS, STATION, 9));
-    let first = driver.flush();
+    let mut driver = driver_at_54();
+    let first = driver.give([long(OURS, STATION, 9)]);
     driver.now += 2 * MILLISECOND;
     driver.send(0, long(OURS, STATION, 10));
     assert!(!driver.air.in_flight.is_unknown(0, STATION));
@@ -243,8 +214,7 @@ fn a_frame_that_left_the_radio_keeps_none_waiting_until_outcomes_were_looked_at(
     driver.air.reports_read();
     assert!(!driver.air.in_flight.is_unknown(0, STATION));
     driver.now += 2 * MILLISECOND;
-    driver.send(0, long(OURS, STATION, 11));
-    assert_eq!(driver.flush(), []);
+    assert_eq!(driver.give([long(OURS, STATION, 11)]), []);
     driver.reported(0, &first[0], 0, true);
     assert_eq!(numbers(&driver.flush()), [11]);
 }
@@ -252,37 +222,30 @@ fn a_frame_that_left_the_radio_keeps_none_waiting_until_outcomes_were_looked_at(
 /// What the bridge asks a station by itself keeps nothing back once it is known what became of it.
 #[test]
 fn behind_a_question_of_the_bridge_frames_go_once_it_is_told_of() {
-    let mut driver = driver([1, 1]);
-    driver.at_54();
+    let mut driver = driver_at_54();
     driver.air.send_own(0, crate::stations::own_frames::null(OURS, STATION, 2057), 3, driver.now);
     let asked = driver.flush();
     assert_eq!((asked.len(), asked[0].rate, asked[0].retries), (1, 2, 3));
     driver.interfaces.monitor.port.unsent = 100;
     driver.now += 20 * MILLISECOND;
-    driver.send(0, of_network(0xb0, OURS, STATION, 9, vec![0, 0, 2, 0, 0, 0]));
-    assert_eq!(driver.flush(), []);
+    assert_eq!(driver.give([of_network(0xb0, OURS, STATION, 9, vec![0, 0, 2, 0, 0, 0])]), []);
     driver.reported(0, &asked[0], 0, true);
     assert_eq!(numbers(&driver.flush()), [9]);
 }
 
 #[test]
 fn frames_of_which_the_radio_never_tells_leave_it_room() {
-    let mut driver = driver([1, 1]);
-    driver.at_54();
-    (0..40).for_each(|number| driver.send(0, deauthentication(number)));
-    let sent = driver.flush().len();
+    let mut driver = driver_at_54();
+    let sent = driver.give((0..40).map(deauthentication)).len();
     driver.interfaces.monitor.port.unsent = 100;
-    driver.now += MOST_OUT - NANOSECOND;
-    driver.expire(driver.now);
+    driver.pass(MOST_OUT - NANOSECOND);
     assert_eq!(driver.flush(), []);
-    driver.now += NANOSECOND;
-    driver.expire(driver.now);
+    driver.pass(NANOSECOND);
     assert_eq!(driver.flush().len(), sent);
     driver.interfaces.monitor.port.unsent = 0;
     let mut more = Vec::new();
     for _ in 0..20 {
-        driver.now += LOOK_EVERY;
-        driver.expire(driver.now);
+        driver.pass(LOOK_EVERY);
         driver.air.reports_read();
         more.extend(driver.flush());
     }
@@ -292,15 +255,12 @@ fn frames_of_which_the_radio_never_tells_leave_it_room() {
 /// The socket may be empty before one reads what became of the frames that it had.
 #[test]
 fn what_is_told_after_the_socket_was_seen_empty_is_learned() {
-    let mut driver = driver([1, 1]);
-    driver.at_54();
-    (10..30).for_each(|number| driver.send(0, long(OURS, STATION, number)));
-    let sent = driver.flush();
+    let mut driver = driver_at_54();
+    let sent = driver.give((10..30).map(|number| long(OURS, STATION, number)));
     assert!(!driver.has_room());
     let before = driver.air.queue.accounts[0].used;
     for _ in 0..5 {
-        driver.now += 10 * MILLISECOND;
-        driver.expire(driver.now);
+        driver.pass(10 * MILLISECOND);
         driver.air.reports_read();
     }
     let last = sent.last().unwrap();
@@ -317,8 +277,7 @@ fn what_is_told_after_the_socket_was_seen_empty_is_learned() {
 #[test]
 fn what_waited_for_a_station_before_it_joined_goes_before_what_comes_behind() {
     let mut driver = driver([1, 1]);
-    driver.send(0, long(OURS, Address::of([2, 9, 9, 9, 9, 9]), 100));
-    driver.flush();
+    driver.give([long(OURS, Address::of([2, 9, 9, 9, 9, 9]), 100)]);
     driver.send(0, of_network(0xb0, OURS, STATION, 1, vec![0, 0, 2, 0, 0, 0]));
     driver.send(0, response(OURS, STATION, 0));
     (3..6).for_each(|number| driver.send(0, unit(OURS, STATION, number)));

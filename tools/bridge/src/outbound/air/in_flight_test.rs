@@ -45,10 +45,8 @@ fn one_frame_it_always_has() {
     let mut in_flight = in_flight();
     assert!(in_flight.has_room(Duration::from_secs(4), Instant::START));
     in_flight.give(name(1), (), 7 * MILLISECOND, Instant::START);
-    assert!(
-        in_flight.has_room(MILLISECOND, Instant::START)
-            && !in_flight.has_room(MILLISECOND + Duration::from_nanos(PACE_UNIT), Instant::START)
-    );
+    assert!(in_flight.has_room(MILLISECOND, Instant::START));
+    assert!(!in_flight.has_room(MILLISECOND + Duration::from_nanos(PACE_UNIT), Instant::START));
 }
 
 #[test]
@@ -72,10 +70,8 @@ fn a_frame_is_told_of_once() {
     in_flight.give(name(2), 'b', Duration::from_nanos(300), Instant::START);
     assert_eq!(in_flight.reported(name(2), Instant::from_nanos(5), |_| Duration::from_nanos(700)), Some('b'));
     assert_eq!(in_flight.reported(name(2), Instant::from_nanos(5), |_| Duration::from_nanos(700)), None);
-    assert_eq!(
-        in_flight.reported(FrameName { place: 1, ..name(1) }, Instant::from_nanos(5), |_| Duration::from_nanos(700)),
-        None
-    );
+    let others = FrameName { place: 1, ..name(1) };
+    assert_eq!(in_flight.reported(others, Instant::from_nanos(5), |_| Duration::from_nanos(700)), None);
     assert_eq!(in_flight.reported(name(1), Instant::from_nanos(5), |_| Duration::from_nanos(200)), Some('a'));
     assert_eq!((in_flight.len(), in_flight.reckoned), (0, Duration::ZERO));
 }
@@ -94,10 +90,8 @@ fn a_frame_is_overdue_after_twice_the_time_of_all_before_it() {
     assert!(!in_flight.is_overdue(0, STATION, at(2 * MILLISECOND)));
     assert!(in_flight.is_overdue(0, STATION, at(2 * MILLISECOND + NANOSECOND)));
     in_flight.forget(name(1));
-    assert!(
-        !in_flight.is_overdue(0, OTHER, at(4 * MILLISECOND))
-            && in_flight.is_overdue(0, OTHER, at(4 * MILLISECOND + NANOSECOND))
-    );
+    assert!(!in_flight.is_overdue(0, OTHER, at(4 * MILLISECOND)));
+    assert!(in_flight.is_overdue(0, OTHER, at(4 * MILLISECOND + NANOSECOND)));
     assert!(!in_flight.is_overdue(1, OTHER, at(MOST_OUT)));
 }
 
@@ -111,10 +105,8 @@ fn a_frame_is_awaited_for_longer_where_newer_ones_for_others_went_before_it() {
     assert!(in_flight.is_overdue(0, STATION, at(2 * MILLISECOND + NANOSECOND)));
     in_flight.reported(other(1), at(MILLISECOND), |_| MILLISECOND);
     in_flight.reported(other(2), at(2 * MILLISECOND), |_| MILLISECOND);
-    assert!(
-        !in_flight.is_overdue(0, STATION, at(6 * MILLISECOND))
-            && in_flight.is_overdue(0, STATION, at(6 * MILLISECOND + NANOSECOND))
-    );
+    assert!(!in_flight.is_overdue(0, STATION, at(6 * MILLISECOND)));
+    assert!(in_flight.is_overdue(0, STATION, at(6 * MILLISECOND + NANOSECOND)));
     assert_eq!(in_flight.overdue(), Some(at(2 * MILLISECOND)));
     // one for the same receiver, or one that went in its turn, changes nothing
     in_flight.give(name(4), (), MILLISECOND, at(2 * MILLISECOND));

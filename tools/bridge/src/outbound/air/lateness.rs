@@ -106,10 +106,8 @@ mod tests {
         }
         assert_eq!(lateness.links.len(), 100);
         assert!(!lateness.look(1, STATION, true, at(LASTING + Duration::from_nanos(99))));
-        assert!(
-            !lateness.look(0, STATION, true, at(LASTING + Duration::from_nanos(99)))
-                && !lateness.look(0, OTHER, false, at(LASTING + Duration::from_nanos(99)))
-        );
+        assert!(!lateness.look(0, STATION, true, at(LASTING + Duration::from_nanos(99))));
+        assert!(!lateness.look(0, OTHER, false, at(LASTING + Duration::from_nanos(99))));
         assert_eq!(lateness.links.len(), 2);
     }
 }

@@ -58,11 +58,7 @@ impl Medium {
         let mut driver = driver_of(&networks);
         for (place, station) in stations.iter().enumerate() {
             driver.join(place, *station);
-            for number in 0..8 {
-                driver.send(place, unit(BSSIDS[place], *station, number));
-                let sent = driver.flush();
-                driver.reported(place, &sent[0], 0, true);
-            }
+            (0..8).for_each(|number| driver.deliver(place, unit(BSSIDS[place], *station, number)));
         }
         let sent_before = driver.air.sent;
         Medium {

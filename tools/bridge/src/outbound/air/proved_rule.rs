@@ -91,10 +91,8 @@ mod tests {
         debts.correct(3, 5);
         debts.correct(usize::MAX, 5);
         debts.correct(2, u32::MAX);
-        assert_eq!(
-            debts.debts.iter().map(|one| one.debt).collect::<Vec<_>>(),
-            [0, 5 * 720_720, 45_045 * u64::from(u32::MAX)]
-        );
+        let found: Vec<_> = debts.debts.iter().map(|one| one.debt).collect();
+        assert_eq!(found, [0, 5 * 720_720, 45_045 * u64::from(u32::MAX)]);
         assert_eq!(NetworkDebts::new([]).choose(), None);
     }
 

@@ -131,14 +131,10 @@ impl Watch {
         self.turn[place] = if is_turn { time } else { self.turn[place] + time };
         self.most[place] = self.most[place].max(self.turn[place]);
         self.got.iter_mut().for_each(|of_one| of_one[place] += time);
-        if is_turn {
-            self.newcomer[place] = None;
-            for turns in self.newcomer.iter_mut().flatten() {
-                turns[place] += 1;
-                assert!(turns[place] <= 1, "a newcomer waits for one frame of each other network");
-            }
-        } else {
-            self.newcomer[place] = None;
+        self.newcomer[place] = None;
+        for turns in self.newcomer.iter_mut().flatten().filter(|_| is_turn) {
+            turns[place] += 1;
+            assert!(turns[place] <= 1, "a newcomer waits for one frame of each other network");
         }
     }
 
@@ -270,9 +266,7 @@ fn who_wants_all_gets_its_share() {
     let mut scheduler = Scheduler::new([1, 2, 3]);
     let (costs, mut got) = ([12_000, 500, 1700], [0u64; 3]);
     for _ in 0..30_000 {
-        for place in 0..3 {
-            scheduler.push(place, 0u8, place);
-        }
+        [0, 1, 2].map(|place| scheduler.push(place, 0u8, place));
         let place = scheduler.first().unwrap().0;
         got[place] += u64::from(costs[place]);
         assert_eq!(scheduler.serve(place, costs[place]), Some(place));
@@ -289,9 +283,7 @@ fn what_was_told_later_counts_too() {
     let mut scheduler = Scheduler::new([1, 1]);
     let mut turns = [0u64; 2];
     for _ in 0..10_000 {
-        for place in 0..2 {
-            scheduler.push(place, 0u8, place);
-        }
+        [0, 1].map(|place| scheduler.push(place, 0u8, place));
         let place = next(&mut scheduler, 100).unwrap();
         turns[place] += 1;
         if place == 0 {
@@ -304,12 +296,8 @@ fn what_was_told_later_counts_too() {
 #[test]
 fn receivers_of_a_network_take_turns_by_time() {
     let mut scheduler = Scheduler::new([1]);
-    for _ in 0..9 {
-        scheduler.push(0, 'a', 3);
-    }
-    for _ in 0..9 {
-        scheduler.push(0, 'b', 1);
-    }
+    [(); 9].map(|_| scheduler.push(0, 'a', 3));
+    [(); 9].map(|_| scheduler.push(0, 'b', 1));
     let order: Vec<u32> = std::iter::from_fn(|| {
         let cost = *scheduler.first()?.2;
         next(&mut scheduler, cost)
@@ -321,13 +309,9 @@ fn receivers_of_a_network_take_turns_by_time() {
 #[test]
 fn idle_time_earns_nothing() {
     let mut scheduler = Scheduler::new([1, 1]);
-    for _ in 0..50 {
-        scheduler.push(0, 'a', 'a');
-    }
+    [(); 50].map(|_| scheduler.push(0, 'a', 'a'));
     (0..40).for_each(|_| assert_eq!(next(&mut scheduler, 10), Some('a')));
-    for _ in 0..50 {
-        scheduler.push(1, 'b', 'b');
-    }
+    [(); 50].map(|_| scheduler.push(1, 'b', 'b'));
     let order: String = std::iter::from_fn(|| next(&mut scheduler, 10)).take(8).collect();
     assert_eq!(order, "babababa");
 }
@@ -335,9 +319,7 @@ fn idle_time_earns_nothing() {
 #[test]
 fn a_held_receiver_waits_and_keeps_its_order() {
     let mut scheduler = Scheduler::new([1]);
-    for frame in [1, 2] {
-        scheduler.push(0, 'a', frame);
-    }
+    [1, 2].map(|frame| scheduler.push(0, 'a', frame));
     scheduler.hold(0, 'a');
     assert_eq!((scheduler.first(), scheduler.has_ready(), scheduler.is_empty()), (None, false, false));
     scheduler.push_first(0, 'a', 0);
@@ -390,9 +372,7 @@ fn what_is_hurried_goes_before_all_else_of_its_network() {
 #[test]
 fn frames_are_taken_out_by_what_they_are() {
     let mut scheduler = Scheduler::new([1]);
-    for frame in 0..6 {
-        scheduler.push(0, 'a', frame);
-    }
+    [0, 1, 2, 3, 4, 5].map(|frame| scheduler.push(0, 'a', frame));
     assert_eq!(scheduler.longest(0), Some('a'));
     assert_eq!(scheduler.take_all(0, 'a', |frame| frame % 2 == 0), [0, 2, 4]);
     assert_eq!([(); 4].map(|_| next(&mut scheduler, 1)), [Some(1), Some(3), Some(5), None]);
@@ -464,10 +444,8 @@ fn receivers_that_owe_nothing_are_forgotten() {
     }
     let most = 2 * MOST_RESTING + FEW + 1;
     assert!((FEW..=most).contains(&scheduler.networks[0].receivers.len()), "{}", scheduler.networks[0].receivers.len());
-    for _ in 0..2 {
-        scheduler.push(0, 7, ());
-    }
-    (0..2).for_each(|_| assert_eq!(next(&mut scheduler, 5), Some(())));
+    [(); 2].map(|_| scheduler.push(0, 7, ()));
+    assert_eq!([(); 2].map(|_| next(&mut scheduler, 5)), [Some(()); 2]);
     scheduler.networks[0].forget_rested();
     assert_eq!(scheduler.networks[0].receivers.len(), 1);
 }

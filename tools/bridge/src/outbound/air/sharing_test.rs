@@ -66,11 +66,9 @@ fn the_rate_and_the_tries_that_the_radio_tells_are_charged() {
         (Some(108), 255, at_54(7)),
         (Some(2), 255, at_one(7)),
     ] {
-        let mut driver = driver([1, 1]);
-        driver.at_54();
+        let mut driver = driver_at_54();
         let before = driver.air.queue.accounts[0].used;
-        driver.send(0, long(OURS, STATION, 9));
-        let sent = driver.flush();
+        let sent = driver.give([long(OURS, STATION, 9)]);
         assert_eq!((sent[0].rate, sent[0].retries), (108, 6));
         let outcome = Outcome { is_acknowledged: true, retries, rate };
         driver.air.reported(0, &sent[0].frame, outcome, driver.now);
@@ -153,22 +151,18 @@ impl Vanishing {
         let (medium, mut seeded) = (Medium::new(seed, &[STRANGER, STATION]), Seeded(seed));
         let start = medium.driver.now;
         let mut after = |most: usize| start + Duration::from_micros(seeded.below(most) as u64);
-        let (next_guest, next_office, next_beacon) = (after(8000), after(5000), after(100_000));
-        let (vanishes, end) = (after(8000) + SECOND, start + 2 * SECOND);
-        let (worst, silent) = (Duration::ZERO, Duration::ZERO);
-        let (since, last_beacon, office) = (Default::default(), start, 0);
         Vanishing {
             medium,
-            vanishes,
-            end,
-            next_guest,
-            next_office,
-            next_beacon,
-            since,
-            last_beacon,
-            worst,
-            silent,
-            office,
+            next_guest: after(8000),
+            next_office: after(5000),
+            next_beacon: after(100_000),
+            vanishes: after(8000) + SECOND,
+            end: start + 2 * SECOND,
+            since: Default::default(),
+            last_beacon: start,
+            worst: Duration::ZERO,
+            silent: Duration::ZERO,
+            office: 0,
         }
     }
 

@@ -126,9 +126,7 @@ impl Scene {
             Heard::Data(from) => answer(DEAUTHENTICATION, from, &[6, 0]),
             Heard::Authentication(from) => answer(AUTHENTICATION, from, &[0, 0, 2, 0, 0, 0]),
             Heard::Association(from) => {
-                let elements = [&[0; 4][..], &[1, 8], &RATES[..8], &[50, 4], &RATES[8..]].concat();
-                let request = Unit { control: [0, 0], transmitter: from, body: elements, ..Unit::default() };
-                self.driver.air.heard(0, Frame::of(&request.octets()).unwrap());
+                self.driver.air.heard(0, Frame::of(&request(OURS, from, &RATES)).unwrap());
                 answer(ASSOCIATION_RESPONSE, from, &[0, 0, 0, 0, 1, 0xc0])
             }
         };
