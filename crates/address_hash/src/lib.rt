@@ -7,6 +7,20 @@
 //!
 //! Where it starts is fixed, as it is for std's `FoldHasher`: whoever chooses many addresses can choose them so that
 //! they collide, and a map is slower then. A limit on how many keys a map has is left to its owner.
+//!
+//! A map finds a name by an address:
+//!
+//! ```
+//! use address_hash::AddressHashes;
+//! use indexmap::IndexMap;
+//! use mac_frame::MacAddr;
+//!
+//! let printer = MacAddr::new([2, 0xaa, 0, 0, 0, 1]);
+//! let mut names = IndexMap::with_hasher(rt.alloc(), AddressHashes::new());
+//! names.insert(printer, "printer")?;
+//! assert_eq!(rt; names.get(&printer), Some(&"printer"));
+//! assert_eq!(rt; names.get(&MacAddr::BROADCAST), None);
+//! ```
 #![tactic(auto)]
 
 ghost use Rattle.std.specs.Prelude.{◌≡◌};

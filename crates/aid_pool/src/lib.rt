@@ -5,6 +5,19 @@
 //! is the law that there is such an identifier.
 //!
 //! Which station has which number, and how one is written into a frame, is left to the crates above.
+//!
+//! Two identifiers are taken, and one comes back:
+//!
+//! ```
+//! use aid_pool::AidPool;
+//!
+//! let mut pool = AidPool::new(2);
+//! assert_eq!(rt; pool.take(), Some(1));
+//! assert_eq!(rt; pool.take(), Some(2));
+//! assert_eq!(rt; pool.take(), None);
+//! pool.give(1);
+//! assert_eq!(rt; pool.take(), Some(1));
+//! ```
 #![tactic(auto)]
 
 mod marks;

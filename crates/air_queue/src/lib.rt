@@ -11,6 +11,24 @@
 //! between threads none does.
 //!
 //! Which frames are pushed, and when, is left to the crates above.
+//!
+//! A frame of one network goes in by its pass, and leaves by that of the radio:
+//!
+//! ```
+//! use air_queue::AirQueue;
+//! use events::AirItem;
+//! use mac_frame::Octets;
+//!
+//! let (queue, mut nets, mut radio) = AirQueue::open(rt.alloc(), 64, 1)?;
+//! let [pass] = nets.as_mut_slice() else {
+//!     panic!(rt; "another number of passes");
+//! };
+//! let octets = Octets::from_slice(rt.alloc(), &[0x80, 0])?;
+//! assert!(rt; queue.push(&rt, pass, AirItem { place: 0, octets }).is_ok());
+//! radio.reserve(1)?;
+//! assert!(rt; queue.pop(&rt, &mut radio));
+//! assert_eq!(rt; radio.left().len(), 1);
+//! ```
 #![tactic(auto)]
 
 mod closing;

@@ -7,6 +7,21 @@
 //! [`told`]. [`Share`] keeps the lanes of a radio, with the frames that wait.
 //!
 //! How much air a frame takes is left to the callers: here are no clock, no octets and no 802.11.
+//!
+//! The first of two networks has twice the share of the other:
+//!
+//! ```
+//! use air_share::Share;
+//!
+//! let mut share = Share::new(rt.alloc(), &[2, 1])?;
+//! share.push(0, 11, 300)?;
+//! share.push(0, 12, 300)?;
+//! share.push(1, 21, 300)?;
+//! for ticket in [11, 21, 12] {
+//!     let turn = share.next().ok_or("nothing waits")?;
+//!     assert_eq!(rt; turn.ticket, ticket);
+//! }
+//! ```
 #![tactic(auto)]
 
 mod lane;

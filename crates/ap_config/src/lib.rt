@@ -5,6 +5,20 @@
 //! one network sees of it: its own configuration, and the channel and the beacon interval of its radio.
 //!
 //! Reading a configuration from a text is left to the crates above.
+//!
+//! A configuration of one network, before and after it gets a fault:
+//!
+//! ```
+//! use ap_config::{ConfigFault, RadioConfig};
+//! use fixtures::lab;
+//! use mac_frame::List;
+//!
+//! let networks = List::from_vec(vec![in rt.alloc(); lab::config(rt.alloc(), 100)?]?);
+//! let mut config = RadioConfig { channel: 6, interval: 100, queue: 64, networks };
+//! assert_eq!(rt; config.check(), None);
+//! config.channel = 15;
+//! assert_eq!(rt; config.check(), Some(ConfigFault::of_radio(4)));
+//! ```
 #![tactic(auto)]
 
 mod checking;

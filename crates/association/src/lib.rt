@@ -10,6 +10,25 @@
 //!
 //! Whether there is room for a station, which identifier it is given, when a notice is sent, and what becomes of a unit
 //! or a poll, is left to the network.
+//!
+//! A station asks to authenticate itself, and is answered:
+//!
+//! ```
+//! use association::{Request, auth_status, read, write_auth};
+//! use mac_frame::{MacAddr, Octets};
+//!
+//! let network = MacAddr::new([2, 0, 0, 0, 0, 1]);
+//! let frame = [
+//!     0xb0, 0, 0, 0, 2, 0, 0, 0, 0, 1, 2, 9, 0, 0, 0, 1, 2, 0, 0, 0, 0, 1, 0, 0, 0, 0, 1, 0, 0, 0,
+//! ];
+//! let Request::Auth { from, algorithm, step } = read(network, &frame)? else {
+//!     panic!(rt; "another request");
+//! };
+//! let status = auth_status(algorithm, step, true);
+//! let mut answer = Octets::new(rt.alloc());
+//! write_auth(&mut answer, from, network, 0, algorithm, status)?;
+//! assert!(rt; answer.as_slice().ends_with(&[0, 0, 2, 0, 0, 0]));
+//! ```
 #![tactic(auto)]
 
 mod authentication;

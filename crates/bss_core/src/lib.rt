@@ -7,6 +7,22 @@
 //! What one network does stands in `network`, what goes in and comes out in `events`, and which configurations are
 //! sound in `ap_config`. What callers of a radio need of these is re-exported here. When frames leave, and where events
 //! come from, is left to the crates above.
+//!
+//! A beacon goes from a network to the queue, and leaves:
+//!
+//! ```
+//! use bss_core::{Event, Handed, Radio};
+//! use config_text::read_config;
+//! use fixtures::texts::CONFIGURATION;
+//!
+//! let config = read_config(rt.alloc(), CONFIGURATION.as_bytes())?;
+//! let mut radio = Radio::new(rt.alloc(), config)?;
+//! assert_eq!(rt; radio.networks(), 1);
+//! radio.take(0, Event::Tick)?;
+//! assert_eq!(rt; radio.hand(0), Handed::Moved);
+//! let beacon = radio.leave().ok_or("nothing left")?;
+//! assert!(rt; beacon.place == 0 && beacon.octets.as_slice().starts_with(&[0x80, 0]));
+//! ```
 #![tactic(auto)]
 
 mod laws;

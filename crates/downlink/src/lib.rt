@@ -8,6 +8,21 @@
 //! [`ReceiverQueue`]. A caller keeps the octets, and knows each [`Frame`] by its ticket.
 //!
 //! Times are numbers that callers bring, and so is the air that a frame took. Rates and the radio are left to them.
+//!
+//! A unit comes for the only receiver of a network, goes, and is acknowledged:
+//!
+//! ```
+//! use downlink::{Fate, NetworkQueue, RadioQueue, StationChange};
+//!
+//! let mut radio = RadioQueue::new(rt.alloc());
+//! radio.add(1, NetworkQueue::new(rt.alloc(), &[8])?)?;
+//! assert!(rt; radio.change(0, 0, StationChange::Joins));
+//! assert!(rt; radio.comes(0, 0, 7, true, 50, 0)?.is_none());
+//! let sent = radio.next(1)?.ok_or("nothing goes")?;
+//! assert_eq!(rt; sent.answer.answer.fate, Fate::Goes);
+//! let told = radio.told(0, 0, 7, true).ok_or("nothing went")?;
+//! assert_eq!(rt; told.answer.answer.fate, Fate::Acknowledged);
+//! ```
 #![tactic(auto)]
 
 mod answer;

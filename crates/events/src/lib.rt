@@ -8,6 +8,20 @@
 //! of one network on its way out.
 //!
 //! What a network makes of its events is left to the crates above.
+//!
+//! An acknowledgement to one network is an event to that alone, and a beacon interval to each:
+//!
+//! ```
+//! use events::{LentEvent, LentLine};
+//! use mac_frame::MacAddr;
+//!
+//! let lab = MacAddr::new([2, 0, 0, 0, 0, 1]);
+//! let guest = MacAddr::new([2, 0, 0, 0, 0, 2]);
+//! let line = LentLine::Air(&[0xd4, 0, 0, 0, 2, 0, 0, 0, 0, 1]);
+//! assert!(rt; matches!(line.event_for(0, lab), Some(LentEvent::Air(_))));
+//! assert!(rt; line.event_for(1, guest).is_none());
+//! assert!(rt; matches!(LentLine::Tick.event_for(1, guest), Some(LentEvent::Tick)));
+//! ```
 #![tactic(auto)]
 
 mod air_item;

@@ -19,6 +19,24 @@
 //! held back when the source is asked for more ([`answers_come_before_reads`]).
 //!
 //! Where the input comes from, and where the answers go, is left to the program.
+//!
+//! A line of no known kind is answered by its fault, and the end of the input by the tables:
+//!
+//! ```
+//! use config_text::read_config;
+//! use fixtures::texts::CONFIGURATION;
+//! use live::Live;
+//! use text_io::Counted;
+//!
+//! let config = read_config(rt.alloc(), CONFIGURATION.as_bytes())?;
+//! let mut live = Live::new(rt.alloc(), config)?;
+//! let mut out = Counted::new(Vec::new(rt.alloc()));
+//! live.feed(b"X\n", &mut out)?;
+//! live.end(&mut out)?;
+//! let text = b"fault L1 line 1\nnetwork 02:00:00:00:00:01 ssid 6c6162\n\
+//!     events 0 clock 0 unread 0 lost 0 kept 0\nend\n";
+//! assert_eq!(rt; out.into_inner().as_slice(), text.as_slice());
+//! ```
 #![tactic(auto)]
 
 mod face;

@@ -5,6 +5,24 @@
 //! are the values that every crate above passes on.
 //!
 //! It knows no network and no station: what a body holds, and what an answer is, is left to the crates above.
+//!
+//! A station leaves a network, which reads its frame. Another network refuses it:
+//!
+//! ```
+//! use mac_frame::{DEAUTHENTICATION, MacAddr, Rx, Unread, decode};
+//!
+//! let network = MacAddr::new([2, 0, 0, 0, 0, 1]);
+//! let other = MacAddr::new([2, 0, 0, 0, 0, 2]);
+//! let frame = [
+//!     0xc0, 0, 0, 0, 2, 0, 0, 0, 0, 1, 2, 0xaa, 0, 0, 0, 1, 2, 0, 0, 0, 0, 1, 0, 0, 3, 0,
+//! ];
+//! let Rx::Mgmt { subtype, body, .. } = decode(network, &frame)? else {
+//!     panic!(rt; "another kind of frame");
+//! };
+//! assert_eq!(rt; subtype, DEAUTHENTICATION);
+//! assert_eq!(rt; body, [3, 0].as_slice());
+//! assert_eq!(rt; decode(other, &frame).err(), Some(Unread::Address));
+//! ```
 #![tactic(auto)]
 
 mod address;

@@ -9,6 +9,21 @@
 //! what [`Bss::give_back`] put back, which may be any octets.
 //!
 //! Several networks, when frames leave, and where events come from, are left to the crates above.
+//!
+//! A network hears a probe request, and sends its answer:
+//!
+//! ```
+//! use events::Event;
+//! use fixtures::{PROBE_REQUEST, lab, octets};
+//! use network::Bss;
+//!
+//! let mut network = Bss::new(rt.alloc(), 6, 100, lab::config(rt.alloc(), 100)?)?;
+//! network.take(Event::Air(octets(rt.alloc(), PROBE_REQUEST)?))?;
+//! let sent = network.take_front().ok_or("no answer")?;
+//! let response = octets(rt.alloc(), lab::PROBE_RESPONSE)?;
+//! assert_eq!(rt; sent.as_slice(), response.as_slice());
+//! assert_eq!(rt; network.counts().events, 1);
+//! ```
 #![tactic(auto)]
 
 mod announced_setting;

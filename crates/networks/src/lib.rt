@@ -8,6 +8,24 @@
 //! whatever the rest of them are.
 //!
 //! What is done with the frames is left to the crates above, and so are histories, a radio and threads.
+//!
+//! A beacon interval begins for the one network of a configuration, and its frames are kept:
+//!
+//! ```
+//! use config_text::read_config;
+//! use events::LentLine;
+//! use fixtures::texts::CONFIGURATION;
+//! use networks::{KeepFrames, NetworkWithFrames, Networks};
+//!
+//! let config = read_config(rt.alloc(), CONFIGURATION.as_bytes())?;
+//! let mut networks = Networks::<NetworkWithFrames>::open(rt.alloc(), config)?;
+//! networks.take(&KeepFrames, LentLine::Tick, &mut ())?;
+//! let [lab] = networks.networks() else {
+//!     panic!(rt; "another number of networks");
+//! };
+//! let (lengths, _) = lab.air.parts();
+//! assert!(rt; lab.network.clock() == 1 && lengths == [56].as_slice());
+//! ```
 #![tactic(auto)]
 
 mod dispatch;

@@ -14,6 +14,24 @@
 //! event, and what left in its order: a [`Finished`]. It asks a [`Gate`] before each line. The definitions say what a
 //! `Finished` promises (`Sections`, `Givers`, `Played`), also one of callers that are no sources; a [`PlayFault`] says
 //! why there is none. Nothing here promises which thread is served when, that a thread gets on, or time.
+//!
+//! One source says that a beacon interval began:
+//!
+//! ```
+//! use config_text::read_config;
+//! use events::LentLine;
+//! use fixtures::texts::CONFIGURATION;
+//! use play::{LineLog, play_with_frames};
+//!
+//! let config = read_config(rt.alloc(), CONFIGURATION.as_bytes())?;
+//! let mut source = LineLog::new(rt.alloc());
+//! source.push(LentLine::Tick)?;
+//! let networks = play_with_frames(&rt, rt.alloc(), config, &[source])?;
+//! let [lab] = networks.as_slice() else {
+//!     panic!(rt; "another number of networks");
+//! };
+//! assert_eq!(rt; lab.network.clock(), 1);
+//! ```
 #![tactic(auto)]
 
 mod batch;

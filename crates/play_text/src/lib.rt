@@ -8,6 +8,21 @@
 //!
 //! How lines are played is left to `play`. Where the texts come from, and where the report goes, is left to the
 //! program.
+//!
+//! Of two traces one is empty, so the report is that of the other:
+//!
+//! ```
+//! use fixtures::texts::{ANSWERED_REPORT, CONFIGURATION, PROBE_LINE};
+//! use mac_frame::Octets;
+//! use play_text::play_text;
+//! use text_io::Counted;
+//!
+//! let probe = Octets::from_slice(rt.alloc(), PROBE_LINE.as_bytes())?;
+//! let traces = [probe, Octets::new(rt.alloc())];
+//! let mut out = Counted::new(Vec::new(rt.alloc()));
+//! play_text(&rt, rt.alloc(), CONFIGURATION.as_bytes(), &traces, &mut out)?;
+//! assert_eq!(rt; out.into_inner().as_slice(), ANSWERED_REPORT.as_bytes());
+//! ```
 #![tactic(auto)]
 
 mod fault;

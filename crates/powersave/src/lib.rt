@@ -6,6 +6,23 @@
 //! [`Unit`]s of others.
 //!
 //! Who dozes, which unit is kept or lost, and when one is sent, is left to the network.
+//!
+//! A unit is kept for a station that dozes, and taken out:
+//!
+//! ```
+//! use mac_frame::{MacAddr, Octets};
+//! use powersave::{Keep, Unit, Whom};
+//!
+//! let to = MacAddr::new([2, 0xaa, 0, 0, 0, 1]);
+//! let source = MacAddr::new([2, 0xbb, 0, 0, 0, 1]);
+//! let body = Octets::from_slice(rt.alloc(), &[0xaa, 0xaa, 3])?;
+//! let mut keep = Keep::new(rt.alloc(), 8);
+//! keep.put(Whom::One(to), Unit { to, source, body, at: 5 })?;
+//! assert_eq!(rt; keep.count_for(Whom::One(to)), 1);
+//! assert_eq!(rt; keep.count_for(Whom::Group), 0);
+//! let unit = keep.oldest(Whom::One(to)).ok_or("nothing is kept")?;
+//! assert!(rt; unit.at == 5 && keep.is_empty());
+//! ```
 #![tactic(auto)]
 
 mod keep;

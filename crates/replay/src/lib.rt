@@ -14,6 +14,18 @@
 //! standard input. Both answer one definition, `answer_of`, with the same faults.
 //!
 //! Where the texts come from, and where the report goes, is left to the program.
+//!
+//! A network hears a probe request, and the report has its answer:
+//!
+//! ```
+//! use fixtures::texts::{ANSWERED_REPORT, CONFIGURATION, PROBE_LINE};
+//! use replay::run_text;
+//! use text_io::Counted;
+//!
+//! let mut out = Counted::new(Vec::new(rt.alloc()));
+//! run_text(rt.alloc(), CONFIGURATION.as_bytes(), PROBE_LINE.as_bytes(), &mut out)?;
+//! assert_eq!(rt; out.into_inner().as_slice(), ANSWERED_REPORT.as_bytes());
+//! ```
 #![tactic(auto)]
 
 mod check;

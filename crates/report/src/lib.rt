@@ -19,6 +19,24 @@
 //! write failed or memory ran out. How a section is put together is said once, by [`put_section_in`]. It takes whatever
 //! is [`Reported`], a section or a network that the crates above keep, in either [`LineForm`]. What the lines tell is
 //! left to the networks, and where they go to `text_io`.
+//!
+//! The report of a network that took no event:
+//!
+//! ```
+//! use fixtures::lab;
+//! use mac_frame::List;
+//! use network::Bss;
+//! use report::write_report;
+//! use text_io::Counted;
+//!
+//! let network = Bss::new(rt.alloc(), 6, 100, lab::config(rt.alloc(), 100)?)?;
+//! let section = network.into_section(List::from_vec(Vec::new(rt.alloc())))?;
+//! let mut out = Counted::new(Vec::new(rt.alloc()));
+//! write_report(rt.alloc(), &[section], &mut out)?;
+//! let text = b"network 02:00:00:00:00:01 ssid 6c6162\n\
+//!     events 0 clock 0 unread 0 lost 0 kept 0\nend\n";
+//! assert_eq!(rt; out.into_inner().as_slice(), text.as_slice());
+//! ```
 #![tactic(auto)]
 
 mod count;

@@ -5,6 +5,22 @@
 //! walks over the table. A [`Keeping`] says what becomes of the units: which leave, and which one comes.
 //!
 //! Which units are kept, and what is answered to a station, is left to the crates above.
+//!
+//! A station is associated, and no unit is kept for it:
+//!
+//! ```
+//! use mac_frame::MacAddr;
+//! use roster::{Keeping, Roster};
+//! use stations::Change;
+//!
+//! let addr = MacAddr::new([2, 0xaa, 0, 0, 0, 1]);
+//! let joins = Change::Associate { addr, listen: 10 };
+//! let mut roster = Roster::new(rt.alloc(), 8, 16);
+//! roster.carry_out(Change::Authenticate(addr), Keeping::nothing(), false, 0)?;
+//! roster.carry_out(joins, Keeping::nothing(), false, 0)?;
+//! assert_eq!(rt; roster.stations().aid_of(addr), Some(1));
+//! assert!(rt; roster.kept().is_empty() && !roster.traffic().has(1));
+//! ```
 #![tactic(auto)]
 
 mod aging_clocks;

@@ -5,6 +5,16 @@
 //! in which state, and what is sent to the station if one is not.
 //!
 //! Which requests move a station from one state to another, and which class a request has, is left to the crates above.
+//!
+//! A station sends data, which is of class 3, before it is associated, and after:
+//!
+//! ```
+//! use station_state::{Class, INVALID_CLASS_3_FRAME, Notice, Standing, fault};
+//!
+//! let notice = fault(Standing::Authenticated, Class::Three);
+//! assert_eq!(rt; notice, Some(Notice::Disassociate(INVALID_CLASS_3_FRAME)));
+//! assert_eq!(rt; fault(Standing::Associated, Class::Three), None);
+//! ```
 #![tactic(auto)]
 
 mod class;

@@ -6,6 +6,23 @@
 //! station is found in it by its address, with no walk over the others.
 //!
 //! The units that are kept for stations, and what is answered to them, are left to the crates above.
+//!
+//! A station comes, and leaves:
+//!
+//! ```
+//! use mac_frame::MacAddr;
+//! use station_state::Standing;
+//! use stations::{Stations, standing_with};
+//!
+//! let station = MacAddr::new([2, 0xaa, 0, 0, 0, 1]);
+//! let mut stations = Stations::new(rt.alloc(), 8);
+//! stations.authenticate(station)?;
+//! assert_eq!(rt; standing_with(stations.state_of(station)), Standing::Authenticated);
+//! stations.associate(station, 10);
+//! assert_eq!(rt; stations.aid_of(station), Some(1));
+//! stations.forget(station);
+//! assert_eq!(rt; stations.len(), 0);
+//! ```
 #![tactic(auto)]
 
 mod laws;

@@ -9,6 +9,21 @@
 //!
 //! Files are those of any [`FileSystem`]. It promises nothing of those of the system, [`HostFiles`], nor of the lines
 //! of other faults: what the built program does shows them (`tests/`). Its tests are the crate `text_files_tests`.
+//!
+//! A configuration is not there, and a line says so:
+//!
+//! ```
+//! use text_files::{HostFiles, check_file, show_fault};
+//! use text_io::Counted;
+//!
+//! let mut out = Counted::new(Vec::new(rt.alloc()));
+//! let mut files = HostFiles::new(&rt);
+//! let Err(fault) = check_file(&mut files, rt.alloc(), "absent.toml", &mut out) else {
+//!     panic!(rt; "it is there");
+//! };
+//! assert_eq!(rt; show_fault(rt.alloc(), &fault, &mut out)?, 4);
+//! assert_eq!(rt; out.into_inner().as_slice(), b"fault file absent.toml\n".as_slice());
+//! ```
 #![tactic(auto)]
 
 mod answering;

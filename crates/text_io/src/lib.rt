@@ -9,6 +9,18 @@
 //!
 //! What the octets say is left to the crates above. How a call can end (well, refused by a fault, a read or a write
 //! failed, out of memory) is said here once for all of them. So is what its sink and its source did then.
+//!
+//! A vector takes two texts, as any writer does:
+//!
+//! ```
+//! use text_io::{Counted, Sink, write_all};
+//!
+//! let mut out = Counted::new(Vec::new(rt.alloc()));
+//! write_all(&mut out, b"ok 1\n")?;
+//! write_all(&mut out, b"end\n")?;
+//! assert_eq!(rt; out.failures(), 0);
+//! assert_eq!(rt; out.into_inner().as_slice(), b"ok 1\nend\n".as_slice());
+//! ```
 #![tactic(auto)]
 
 mod buffer;

@@ -5,6 +5,22 @@
 //! an element shows. [`write_tim`] writes an element, and [`read_tim`] reads one.
 //!
 //! Whose units wait, and when a beacon is sent, is left to the crates above.
+//!
+//! A TIM shows two stations, and is read again:
+//!
+//! ```
+//! use mac_frame::Octets;
+//! use tim::{Bitmap, read_tim, write_tim};
+//!
+//! let mut waiting = Bitmap::new();
+//! waiting.set(1);
+//! waiting.set(10);
+//! let mut element = Octets::new(rt.alloc());
+//! write_tim(&mut element, 0, 3, false, &waiting)?;
+//! assert_eq!(rt; element.as_slice(), [5, 5, 0, 3, 0, 2, 4].as_slice());
+//! let tim = read_tim(element.as_slice()).ok_or("no TIM")?;
+//! assert!(rt; tim.period == 3 && tim.bits.has(1) && tim.bits.has(10) && !tim.bits.has(2));
+//! ```
 #![tactic(auto)]
 
 mod bitmap;

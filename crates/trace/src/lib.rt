@@ -8,6 +8,21 @@
 //! go in and out `text_io`. Of these it gives on what a caller needs from a text to a report: [`read_config`],
 //! [`write_report`], and [`Counted`] to read from and write to. Which lines a network hears, and what it does about
 //! them, is left to the networks.
+//!
+//! A trace of two lines, and one whose second line is of no known kind (L1):
+//!
+//! ```
+//! use fixtures::texts::{CONFIGURATION, PROBE_LINE};
+//! use text_io::ReadFault;
+//! use trace::{LineFault, read_config, read_trace};
+//!
+//! let config = read_config(rt.alloc(), CONFIGURATION.as_bytes())?;
+//! let text = format!(in rt.alloc(); "T\n{PROBE_LINE}")?;
+//! let lines = read_trace(rt.alloc(), &config, text.as_bytes())?;
+//! assert_eq!(rt; lines.len(), 2);
+//! let fault = read_trace(rt.alloc(), &config, b"T\nX\n").err();
+//! assert_eq!(rt; fault, Some(ReadFault::At(LineFault::UnknownKind.at(2))));
+//! ```
 #![tactic(auto)]
 
 mod fault;

@@ -13,6 +13,25 @@
 //! Nothing here promises that a call gets its lock, the order of calls of different callers, fairness, progress or
 //! time. Tests show that networks have locks of their own, and that an event changes its network at once. [`ApName`]
 //! says which access point it is, for proofs alone.
+//!
+//! A caller tells the networks that a beacon interval began, and the beacon of one leaves:
+//!
+//! ```
+//! use config_text::read_config;
+//! use fixtures::texts::CONFIGURATION;
+//! use std::marker::Brand;
+//! use workers::{Ap, Parts};
+//!
+//! let parts = Parts::open(rt.alloc(), read_config(rt.alloc(), CONFIGURATION.as_bytes())?, 1)?;
+//! let (ap, mut callers, mut transmitter) = Ap::<Brand>::start(rt.alloc(), parts)?;
+//! let [caller] = callers.as_mut_slice() else {
+//!     panic!(rt; "another number of callers");
+//! };
+//! ap.tick(&rt, caller)?;
+//! assert_eq!(rt; ap.pump(&rt, 0), 1);
+//! assert!(rt; ap.leave(&rt, &mut transmitter)?);
+//! assert_eq!(rt; ap.finish(&rt, callers, transmitter)?.left.as_slice().len(), 1);
+//! ```
 #![tactic(auto)]
 
 mod ap;
