@@ -96,9 +96,9 @@ apctl: ## proves the program and builds it, as build/apctl
 documents: ## checks links, paths and names in the documents
 	@.ci/documents
 
-# Tries the whole programs of docs/LIBRARY.md as they stand there, without any proof. The last line is
-# 'N passed, M failed'.
-library: ## tries the programs of docs/LIBRARY.md, without any proof
+# Tries the whole programs of docs/LIBRARY.md as they stand there, and what the openings of the crates show, without any
+# proof. The last line is 'N passed, M failed'.
+library: ## tries the programs of docs/LIBRARY.md and of the crates' openings, without any proof
 	@tests/library
 
 # Tests the tools of tools/, as the gate does. Takes Debian's packages of tools/dev/install, and installs those that are
