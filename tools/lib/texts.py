@@ -5,6 +5,7 @@ import sys
 import tomllib
 from typing import NamedTuple, Optional
 
+import toml_text
 from frames import address_of, address_text
 
 SEPARATOR = "---"
@@ -158,7 +159,7 @@ def read_config(text):
     if SEPARATOR not in lines:
         return None
     try:
-        return tomllib.loads("\n".join(lines[:lines.index(SEPARATOR)]))
+        return toml_text.loads("\n".join(lines[:lines.index(SEPARATOR)]))
     except tomllib.TOMLDecodeError as fault:
         raise TextError(f"the configuration is no TOML: {fault}") from None
 
@@ -175,7 +176,7 @@ def join_texts(config, trace):
 def is_config(text):
     """Whether a text is a configuration alone."""
     try:
-        return SEPARATOR not in text.split("\n") and "network" in tomllib.loads(text)
+        return SEPARATOR not in text.split("\n") and "network" in toml_text.loads(text)
     except tomllib.TOMLDecodeError:
         return False
 

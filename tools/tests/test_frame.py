@@ -99,6 +99,7 @@ WRITTEN = [
     (f"disassoc 02:aa:00:00:00:01 {LAB}", heard("a000 0000", "0300")),
     (f"deauth 02:aa:00:00:00:01 {LAB} --reason 8", heard("c000 0000", "0800")),
     ("wired 02:aa:00:00:00:01 lab --config my.toml", f"W {LAB} {STATION} 02bb00000001 0800 01"),
+    ("--config my.toml wired 02:aa:00:00:00:01 lab", f"W {LAB} {STATION} 02bb00000001 0800 01"),
     (f"wired all {LAB} --from 02:cc:00:00:00:01 --payload 0806", f"W {LAB} ffffffffffff 02cc00000001 0806"),
 ]
 # Words that write nothing, and what is said.

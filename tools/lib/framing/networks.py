@@ -3,6 +3,7 @@ import tomllib
 from dataclasses import dataclass
 from typing import Any
 
+import toml_text
 from frames import BROADCAST, address_of, address_text
 from texts import SEPARATOR, TextError, read_text
 from writing import USUAL_RATES
@@ -42,7 +43,7 @@ class Networks:
         lines = read_text(path).split("\n")
         text = "\n".join(lines[:lines.index(SEPARATOR)] if SEPARATOR in lines else lines)
         try:
-            return cls([network_of(table) for table in tomllib.loads(text)["network"]])
+            return cls([network_of(table) for table in toml_text.loads(text)["network"]])
         except (tomllib.TOMLDecodeError, KeyError, TypeError, AttributeError, ValueError) as fault:
             raise TextError(f"{path}: no configuration with networks: {fault}") from None
 
