@@ -292,7 +292,9 @@ fn dropping_takes_no_longer_where_many_wait() {
         let pushes = 4000;
         let waiters: Vec<_> = (0..pushes).map(|_| data(STATION, Instant::START, 0)).collect();
         let begun = crate::os::clock::now();
-        waiters.into_iter().for_each(|frame| queue.push(frame));
+        for frame in waiters {
+            queue.push(frame);
+        }
         crate::os::clock::now().since(begun) / pushes
     };
     let (few, many) = (0..9).map(|_| (time(10), time(8000))).min_by_key(|(_, many)| *many).unwrap();
