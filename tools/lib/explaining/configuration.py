@@ -57,6 +57,26 @@ class Config:
         return self.place(value)
 
 
+@dataclass(frozen=True)
+class Keys:
+    """What a network's configuration says, and where."""
+
+    table: NetworkTable | None = None
+    config: Source | None = None
+
+    def number(self, key: str) -> int | None:
+        """A whole number."""
+        return number_of(self.table.entries.get(key)) if self.table else None
+
+    def where(self, key: str) -> str:
+        """The file and the line of a key, as ` in my.toml, line 12`; nothing where they aren't known."""
+        entry = self.table.entries.get(key) if self.table else None
+        if entry is None or self.config is None:
+            return ""
+        line = self.config.first + self.config.at(entry.begin, entry.end).line - 1
+        return f" in {self.config.name}, line {line}"
+
+
 def keys_of(entries: list[Entry]) -> dict[str, Entry]:
     """Entries by the first part of their keys."""
     return {entry.key[0]: entry for entry in entries}

@@ -4,7 +4,7 @@ from collections.abc import Iterable
 from explaining.line_by_line import Step
 from explaining.source import Finding, Source
 from explaining.spans import also_in
-from frames import BEACON, Frame, address_text
+from frames import BEACON, DATA, HEADER_LEN, PLAIN_DATA, Frame, address_text, is_group
 from texts import Line, Section
 
 
@@ -25,6 +25,13 @@ def runs_of(lines: Iterable[Line]) -> list[list[Line]]:
     return [run for run in runs if run]
 
 
+def is_for_group(line: Line) -> bool:
+    """Whether a line has a unit for the group, which waits for some number of intervals."""
+    frame = Frame(line.octets)
+    return line.kind == "W" and is_group(line.octets[:6]) or line.kind == "A" and len(line.octets) >= HEADER_LEN and \
+        frame.type == DATA and frame.subtype == PLAIN_DATA and is_group(frame.third)
+
+
 def of_each_network(trace: Source, lines: list[Line], idle: set[int], sections: list[Section]) -> list[Finding]:
     """As many lines `T` together as there are networks, each time, of which all but the first bring beacons alone; or
     lines `T` with a remark before each that names a network. `idle` are the numbers of lines that bring these alone."""
@@ -33,7 +40,8 @@ def of_each_network(trace: Source, lines: list[Line], idle: set[int], sections: 
     more = [line for run in runs for line in run[1:]]
     if len(sections) < 2 or not more or not all(line.number in idle for line in more):
         return []
-    if len(named) < 2 and not all(len(run) == len(sections) for run in runs):
+    is_one_each = all(len(run) == len(sections) for run in runs) and not any(map(is_for_group, lines))
+    if len(named) < 2 and not is_one_each:
         return []
     first = more[0]
     remark = ": a remark names a network for it" * (first in named)

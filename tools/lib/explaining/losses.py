@@ -1,4 +1,5 @@
 """Which of three causes a loss has: the quota, age, or that a unit has no wired form."""
+from explaining.configuration import Keys
 from explaining.nothing import Looked
 from explaining.reason import Reason
 from frames import HEADER_LEN, address_text
@@ -6,12 +7,12 @@ from in_words import address_word, octets_text
 from reading import LEAST_LENGTH, MOST_LENGTH, SNAP, Unit, request_of, unit_from_wire, wired_form
 
 
-def losses(looked: Looked, relays: bool, quota: int | None) -> list[Reason]:
-    """The reasons of the units that a line lost."""
-    line = looked.step.line
+def losses(looked: Looked, relays: bool, keys: Keys) -> list[Reason]:
+    """The reasons of the units that a line lost; `keys` are those of the network."""
+    line, quota = looked.step.line, keys.number("quota")
     lost = looked.step.after[looked.bssid].lost - looked.section.lost
     if line.kind == "T":
-        return [of_age(looked)] if lost > 0 else []
+        return [of_age(looked, keys)] if lost > 0 else []
     unit = unit_of(looked)
     if lost <= 0 or unit is None:
         return []
@@ -22,9 +23,9 @@ def losses(looked: Looked, relays: bool, quota: int | None) -> list[Reason]:
     if lost > len(found):
         whom = address_text(unit.destination) if is_here else "the group"
         found.append(Reason(f"with `quota = 0` no unit is kept, and this is one for {whom}: 0 isn't no bound", None,
-                            "write how many may wait, as `quota = 64`") if quota == 0 else
+                            f"write how many may wait, as `quota = 64`{keys.where('quota')}") if quota == 0 else
                      Reason(f"the unit for {whom} is above the quota: `quota = {quota}` units are kept already, of all "
-                            "stations and the group", None, "a larger `quota` keeps more"))
+                            "stations and the group", None, f"a larger `quota`{keys.where('quota')} keeps more"))
     return found
 
 
@@ -37,14 +38,15 @@ def unit_of(looked: Looked) -> Unit | None:
     return request.unit if request else None
 
 
-def of_age(looked: Looked) -> Reason:
+def of_age(looked: Looked, keys: Keys) -> Reason:
     """Units that were kept for too long."""
     after = {row.address: row.kept for row in looked.step.after[looked.bssid].stations}
     old = [f"{address_text(row.address)} ({row.kept - after[row.address]}, listen interval {row.listen})"
            for row in looked.section.stations if row.kept > after.get(row.address, 0)]
     return Reason("units that waited longer than their station sleeps are too old (`aging = true`): of "
                   f"{', '.join(old)}",
-                  None, "the listen interval stands in the association request")
+                  None, "the listen interval stands in the association request" +
+                  (f", `aging`{where}" if (where := keys.where("aging")) else ""))
 
 
 def of_form(unit: Unit, octets: bytes) -> Reason:

@@ -6,11 +6,12 @@ from collections.abc import Collection
 
 from explaining.elements_cut import is_followed
 from explaining.reason import Reason
-from frames import HEADER_LEN, SSID, Frame, elements, first_of
+from frames import HEADER_LEN, REASSOCIATION_REQUEST, SSID, Frame, elements, first_of
 from in_words import ssid_text
 from reading import FIXED_LEN
 
 MOST_NAME, LIKE, MOST_NAMED = 32, 0.6, 4
+CURRENT_AT = 28  # where Current AP Address begins in a reassociation request
 QUOTES = (b'"', b"'", b"`")
 BLANKS = b" \t\r\n\0"
 WIDE = ("utf-16-le", "utf-16-be")
@@ -22,6 +23,9 @@ def name_reason(octets: bytes, names: dict[bytes, bytes], bssid: bytes, homes: C
     frame = Frame(octets)
     begin = HEADER_LEN + FIXED_LEN[frame.subtype]
     asked = first_of(elements(octets[begin:]) or [], SSID)
+    missing = without_current(frame, begin) if asked is None else None
+    if missing:
+        return missing
     if asked is None:
         return Reason("it has no SSID element, by which a network is named", (begin, len(octets)),
                       f"write `{element(names[bssid])}` for {ssid_text(names[bssid])}")
@@ -46,6 +50,20 @@ def name_reason(octets: bytes, names: dict[bytes, bytes], bssid: bytes, homes: C
         return Reason(f"it names {ssid_text(asked)}, the network {owner.hex(':')}, and is to {bssid.hex(':')}, "
                       f"{ssid_text(names[bssid])}", span, advice)
     return unknown_name(asked, sorted(set(names.values())), span)
+
+
+def without_current(frame: Frame, begin: int) -> Reason | None:
+    """A reassociation request whose elements begin where its Current AP Address stands: an SSID element of six octets
+    is read as the address."""
+    address = frame.octets[CURRENT_AT:begin]
+    if not frame.is_management(REASSOCIATION_REQUEST) or address[0] != SSID or \
+            not is_followed(frame.octets[CURRENT_AT:]):
+        return None
+    name = first_of(elements(frame.octets[CURRENT_AT:]) or [], SSID) or b""
+    return Reason(f"the Current AP Address of a reassociation request is missing before its elements: the six octets "
+                  f"`{address.hex()}`, of the element SSID ({ssid_text(name)}), are read as the address",
+                  (CURRENT_AT, begin), "write the BSSID of the access point that the station comes from before them; "
+                  "an association request, which has no such field, begins with `0000`")
 
 
 def seen_of(name: bytes) -> bytes:

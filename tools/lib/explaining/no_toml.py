@@ -11,6 +11,7 @@ from explaining.no_key import FOR_YAML, REMARK, is_yaml, of_key, remark_mark, re
 from explaining.no_value import QUOTES, in_form, of_value
 from explaining.other_programs import of_other_program, without_keys
 from explaining.pasted import entity, foreign
+from explaining.same_again import with_others
 from explaining.source import Finding, Place, Source, odd_blank, quoted
 from explaining.toml_scan import NoToml, scan
 
@@ -34,7 +35,8 @@ def explain(source: Source, wants_trace: bool) -> list[Finding]:
     try:
         scan(source.text)
     except NoToml as fault:
-        return [of_line(source, fault, wants_trace)]
+        return [with_others(source, of_line(source, fault, wants_trace),
+                            lambda other: of_line(source, other, wants_trace))]
     except RecursionError:
         return []
     return of_library(source)

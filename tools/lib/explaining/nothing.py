@@ -180,10 +180,20 @@ def poll(looked: Looked, frame: Frame) -> Reason | None:
     group = "; a unit for the group is kept, and no poll brings one: it follows the beacon of a DTIM" * (of_group > 0)
     if station.kept:
         return None
+    return of_empty(looked, station, emptied, missed, group)
+
+
+def of_empty(looked: Looked, station: Station, emptied: str, missed: str, group: str) -> Reason:
+    """A poll of a station that dozes, and for which no unit is kept: by what came before, or comes only later."""
+    past = looked.past
     unit, dozing = line_in(missed), line_in(past.dozing.get((looked.bssid, station.address), ""))
     is_late = not emptied and "sent at once" in missed and dozing > unit
-    return Reason(f"no unit is kept for the station{emptied or missed}{group}", (2, 4),
-                  f"write line {dozing}, by which the station dozes, before line {unit}" if is_late else None)
+    coming = past.next_unit(looked.bssid, station.address, looked.step.line.number)
+    later = "" if coming is None or is_late else f"; {'the next one' if emptied or missed else 'the unit for it'} " \
+        f"comes after this poll, in line {coming}"
+    advice = f"write line {dozing}, by which the station dozes, before line {unit}" if is_late else \
+        f"write the poll behind line {coming}" if later else None
+    return Reason(f"no unit is kept for the station{emptied or missed}{later}{group}", (2, 4), advice)
 
 
 def mode(looked: Looked, frame: Frame) -> Reason | None:

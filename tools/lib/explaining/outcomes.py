@@ -8,7 +8,7 @@ from enum import Enum
 
 from explaining.changes import has_effect
 from explaining.check_sequences import ends_with_fcs
-from explaining.configuration import NetworkTable
+from explaining.configuration import Keys, NetworkTable
 from explaining.intervals import brings_beacons_alone
 from explaining.line_by_line import Step
 from explaining.losses import losses
@@ -18,7 +18,7 @@ from explaining.nothing import Looked, nothing
 from explaining.notices import notice
 from explaining.past import Past, station_in
 from explaining.reason import Lack, Reason
-from explaining.refused import limit, refusal_of, refused
+from explaining.refused import refusal_of, refused
 from explaining.source import Finding, Place, Source
 from explaining.spans import place_of_octets
 from explaining.unheard import unheard
@@ -148,12 +148,12 @@ class Outcomes:
 
     def of_answers(self, step: Step, looked: Looked) -> Iterator[Said]:
         """What a network refused or lost."""
-        table = self.tables.get(looked.bssid)
+        keys = Keys(self.tables.get(looked.bssid), self.config)
         for sent in step.sent:
             refusal = None if sent.is_wired or sent.bssid != looked.bssid else refusal_of(sent.octets)
             if refusal and step.line.kind == "A":
                 station = Frame(step.line.octets).transmitter
-                reason = refused(refusal, step.line.octets, table, looked.names(), looked.bssid, looked.homes(station),
+                reason = refused(refusal, step.line.octets, keys, looked.names(), looked.bssid, looked.homes(station),
                                  looked.left()) if refusal.is_status else notice(refusal, looked, station)
                 if reason and refusal.is_status:
                     self.past.refusals[looked.bssid, station] = (
@@ -161,17 +161,14 @@ class Outcomes:
                 if reason:
                     yield Said(What.REFUSED, f"{network_text(looked)}: {refusal.what()}, of {address_text(station)}",
                                reason)
-        for reason in losses(looked, self.relay(looked).is_on, limit(table, "quota")):
+        for reason in losses(looked, self.relay(looked).is_on, keys):
             yield Said(What.LOST, f"{network_text(looked)} loses a unit", reason)
 
     def relay(self, looked: Looked) -> Relay:
         """Whether a network relays between its stations, and where that is said."""
-        table = self.tables.get(looked.bssid)
-        entry = table.entries.get("relay") if table else None
-        if entry is None or self.config is None:
-            return Relay(entry is None or entry.value.worth is not False)
-        line = self.config.first + self.config.at(entry.begin, entry.end).line - 1
-        return Relay(entry.value.worth is not False, f" in {self.config.name}, line {line},")
+        keys = Keys(self.tables.get(looked.bssid), self.config)
+        entry, where = keys.table.entries.get("relay") if keys.table else None, keys.where("relay")
+        return Relay(entry is None or entry.value.worth is not False, where and f"{where},")
 
     def numbers_told(self, what: What) -> set[int]:
         """The numbers of the lines of which this is said."""

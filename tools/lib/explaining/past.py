@@ -42,9 +42,10 @@ class Past:
         self.units: dict[bytes, list[int]] = {}
         for line in lines:
             if line.kind == "W":
-                self.units.setdefault(line.octets[:6], []).append(line.number)
+                self.units.setdefault((line.bssid or b"") + line.octets[:6], []).append(line.number)
             elif line.kind == "A" and len(line.octets) >= LEAST_LENGTH and Frame(line.octets).type == DATA:
-                self.units.setdefault(Frame(line.octets).third, []).append(line.number)
+                unit = Frame(line.octets)
+                self.units.setdefault(unit.receiver + unit.third, []).append(line.number)
         self.remarks = {(frame.octets[4:10], frame.transmitter, frame.subtype): number for number, frame in remarks
                         if frame.type == MANAGEMENT}
         self.before: dict[bytes, int] = {}
@@ -84,9 +85,9 @@ class Past:
                      if other < number and earlier.octets[0] == frame.octets[0] and
                      earlier.sequence_control == frame.sequence_control), None) if frame.retry else None
 
-    def next_unit(self, station: bytes, number: int) -> int | None:
-        """The line behind this one that has the next unit for a station."""
-        numbers = self.units.get(station, [])
+    def next_unit(self, bssid: bytes, station: bytes, number: int) -> int | None:
+        """The line behind this one that has the next unit for a station of a network."""
+        numbers = self.units.get(bssid + station, [])
         at = bisect_right(numbers, number)
         return self.line_number(numbers[at]) if at < len(numbers) else None
 

@@ -4,7 +4,7 @@ from collections.abc import Callable, Collection, Mapping
 from dataclasses import dataclass
 from types import MappingProxyType
 
-from explaining.configuration import NetworkTable, number_of
+from explaining.configuration import Keys
 from explaining.names import name_reason
 from explaining.reason import Reason
 from explaining.values import BASIC, UNITS
@@ -64,28 +64,32 @@ def refusal_of(octets: bytes) -> Refusal | None:
     return Refusal(kind, code) if code else None
 
 
-def refused(refusal: Refusal, octets: bytes, table: NetworkTable | None, names: dict[bytes, bytes],
+def refused(refusal: Refusal, octets: bytes, keys: Keys, names: dict[bytes, bytes],
             bssid: bytes, homes: Collection[bytes] = (), left: Mapping[bytes, int] = EMPTY) -> Reason | None:
     """Why a request is refused with a status; `names` are the networks' SSIDs, `homes` those that know its sender,
     `left` the stations that disassociated, and are known, each with the number of the line by which it did."""
     parts: dict[tuple[int, int], Callable[[], Reason]] = {
-        (AUTHENTICATION, 1): lambda: of_full_table(limit(table, "max_known"), left),
+        (AUTHENTICATION, 1): lambda: of_full_table(keys, left),
         (AUTHENTICATION, 13): lambda: of_algorithm(octets), (AUTHENTICATION, 14): lambda: of_number(octets),
         (ASSOCIATION_RESPONSE, 1): lambda: name_reason(octets, names, bssid, homes),
         (ASSOCIATION_RESPONSE, 17): lambda: Reason(
-            f"`max_stations = {limit(table, 'max_stations')}` is reached", SENDER,
-            "`max_stations` in the configuration says how many are associated at once; one that leaves makes room"),
-        (ASSOCIATION_RESPONSE, 18): lambda: of_rates(octets, table)}
+            f"`max_stations = {keys.number('max_stations')}` is reached", SENDER, "`max_stations`" +
+            (keys.where("max_stations") or " in the configuration") +
+            " says how many are associated at once; one that leaves makes room"),
+        (ASSOCIATION_RESPONSE, 18): lambda: of_rates(octets, keys)}
     part = parts.get((refusal.kind, refusal.code))
     return part() if part else None
 
 
-def of_full_table(known: int | None, left: Mapping[bytes, int]) -> Reason:
+def of_full_table(keys: Keys, left: Mapping[bytes, int]) -> Reason:
     """A network that knows as many stations as it may, among them perhaps some that disassociated."""
     named = ", ".join(f"{address.hex(':')} (line {number})" for address, number in list(left.items())[:MOST_NAMED])
+    known, where = keys.number("max_known"), keys.where("max_known")
+    stands = f"`max_known` stands{where}" if where else None
     return Reason(f"`max_known = {known}` is reached, and a station stays known until it deauthenticates" +
                   (f"; {named} left by a disassociation, and {'are' if len(left) > 1 else 'is'} known" if left else ""),
-                  SENDER, "a deauthentication begins with `c000`, a disassociation with `a000`" if left else None)
+                  SENDER, "; ".join(filter(None, ("a deauthentication begins with `c000`, a disassociation with "
+                                                  "`a000`" if left else None, stands))) or None)
 
 
 def as_megabits(rates: set[int]) -> list[set[int]]:
@@ -94,11 +98,6 @@ def as_megabits(rates: set[int]) -> list[set[int]]:
     decimal = {int(digits) if (digits := f"{rate:x}").isdecimal() else rate for rate in rates}
     return [{ELEVEN_HALVES if rate == CUT_RATE else MEGABIT * rate for rate in written} for written in (rates, decimal)
             if written <= MEGABITS and not rates <= UNITS]
-
-
-def limit(table: NetworkTable | None, key: str) -> int | None:
-    """A number of a configuration."""
-    return number_of(table.entries.get(key)) if table else None
 
 
 def of_exchanged(octets: bytes) -> Reason | None:
@@ -139,10 +138,10 @@ def of_number(octets: bytes) -> Reason:
                   "write `0100`")
 
 
-def of_rates(octets: bytes, table: NetworkTable | None) -> Reason:
+def of_rates(octets: bytes, keys: Keys) -> Reason:
     """A request without a basic rate."""
     frame = Frame(octets)
-    entry = table.entries.get("rates") if table else None
+    entry = keys.table.entries.get("rates") if keys.table else None
     wanted = bytes.fromhex(entry.value.text) if entry and entry.value.text else b""
     listed = elements(frame.body[FIXED_LEN[frame.subtype]:]) or []
     told = [octets for identifier, octets in listed if identifier in OF_RATES]
@@ -152,7 +151,7 @@ def of_rates(octets: bytes, table: NetworkTable | None) -> Reason:
     begin = HEADER_LEN + FIXED_LEN[frame.subtype]
     at = place_of_rates(octets, begin, [], lambda identifier: identifier in OF_RATES)
     span = (at, at + 2 + octets[at + 1]) if at else None
-    write = f"add `{bytes(missing).hex()}` to its rates, or take the high bit off them in `rates`"
+    write = f"add `{bytes(missing).hex()}` to its rates, or take the high bit off them in `rates`{keys.where('rates')}"
     if told and any(set(missing) <= units for units in as_megabits(has)):
         meant = bytes(rate & ~BASIC for rate in wanted)
         return Reason(f"its rates `{b''.join(told).hex()}` are written in Mb/s, and stand in units of 500 kb/s: it "

@@ -8,10 +8,10 @@ from explaining.file_kinds import is_binary, other_file
 from explaining.digits_meant import is_like, octets_from, of_digits, with_returns
 from explaining.joined import of_fields, of_several_intervals, of_table, of_two_words
 from explaining.no_key import INCLUDE, REMARK, remark_of
-from explaining.no_toml import REPORT_LINE
 from explaining.notations import behind_words, over_lines, shown_frame, whole_frame
 from explaining.other_programs import of_other_program, without_words
 from explaining.pasted import copied_from_page, foreign, foreign_to_trace, unfilled
+from explaining.report_lines import kind_of, of_report
 from explaining.source import Finding, Source, in_full, odd_blank, plain_letter, plain_text, quoted
 from explaining.unheard import is_slip
 
@@ -121,11 +121,11 @@ def of_first_word(source: Source, number: int, line: str, bssids: list[str]) -> 
     bare = re.sub(r"^[^\w#]+|[^\w#]+$", "", first)
     word = OTHER_WORDS.get(bare.upper())
     rest = rest.rstrip("\"'`\u201d\u2019],;") if bare != first.rstrip(":,;.-") else rest
-    if word == "W" and word != first.upper() and DIGITS.match(rest):
+    if word == "W" and word != first.upper() and DIGITS.match(rest) and not kind_of(line):
         return Finding(f"{quoted(first)} is no word of a trace; for a frame on a wire it is `W`, and then the BSSID of "
                        "the network whose wire it is", place,
                        f"write {in_full(f'W {bssids[0] if bssids else SAMPLE} {rest}')}; {having(bssids)}")
-    if word and word != first.upper() and not REPORT_LINE.fullmatch(line):
+    if word and word != first.upper() and not kind_of(line):
         return Finding(f"{quoted(first)} is no word of a trace; `{word}` is: `A` for a frame on the air, `W` for one "
                        "on a wire, `T` for a beacon interval", place,
                        f"write {in_full((word + ' ' + rest.strip()).strip() if word != 'T' else 'T')}")
@@ -187,10 +187,9 @@ def of_other_text(source: Source, number: int, line: str, bssids: list[str]) -> 
     if REMARK.match(line):
         return Finding("a remark begins with `#`", source.place(number, 1, 2),
                        f"write {in_full('# ' + remark_of(line))}")
-    if REPORT_LINE.fullmatch(line) or re.match(r"station [0-9a-f:]{17} |end$", line):
-        return Finding("this is a line of a report, and no trace", place,
-                       f"where the report was written over the trace, as by `> {source.name}`, which empties a file "
-                       "before it is read, take the trace from a copy, and write the report to another file")
+    report = of_report(source, number)
+    if report:
+        return report
     if re.match(r"[a-z_]+ *= *\S|\[\[?network", line):
         return Finding("this is a line of a configuration, and no trace", place,
                        "a configuration stands before the line `---`, or in a file of its own: `run CONFIG TRACE`")
