@@ -2,6 +2,7 @@
 octets longer than they say."""
 import zlib
 
+from explaining.values import BASIC, UNITS
 from frames import CONTROL, DATA, HEADER_LEN, MANAGEMENT, NULL, PLAIN_DATA, PS_POLL, Frame, elements
 from reading import FIXED_LEN, POLL_LEN, SNAP
 
@@ -35,9 +36,16 @@ def said_length(octets: bytes) -> int | None:
 
 def length_by_elements(octets: bytes, begin: int) -> int | None:
     """How long a frame is whose elements go on to its end, or to four octets before that."""
-    ends = (end for end in (len(octets), len(octets) - FCS_LEN)
-            if end >= begin and elements(octets[begin:end]) is not None)
-    return next(ends, None)
+    if elements(octets[begin:]) is not None:
+        return len(octets)
+    end = len(octets) - FCS_LEN
+    return None if end < begin or elements(octets[begin:end]) is None or is_rates(octets[end:]) else end
+
+
+def is_rates(octets: bytes) -> bool:
+    """Whether octets are rates of 802.11b and g, each once, and so those of an element and no check sequence."""
+    rates = [rate & ~BASIC for rate in octets]
+    return bool(rates) and set(rates) <= UNITS and len(set(rates)) == len(rates)
 
 
 def length_by_packet(octets: bytes) -> int | None:

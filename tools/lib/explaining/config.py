@@ -8,7 +8,7 @@ from explaining.answers import Fault
 from explaining.configuration import Config, NetworkTable, number_of
 from explaining.cut_short import cut_short, usual_value
 from explaining.in_remarks import header_in_remark, key_in_remark, of_header
-from explaining.keys import NETWORK_KEYS, NETWORK_LIMITS, OPTIONS, RADIO_KEYS, RADIO_LIMITS, SAMPLES, meant
+from explaining.keys import LISTED, NETWORK_KEYS, NETWORK_LIMITS, OPTIONS, RADIO_KEYS, RADIO_LIMITS, SAMPLES, meant
 from explaining.numbers_meant import number_finding
 from explaining.rates_meant import rates_fault, rates_in
 from explaining.source import Finding, Place, Source, is_odd_blank, odd_blank, quoted
@@ -76,6 +76,14 @@ def dotted_key(config: Config, fault: Fault) -> Finding | None:
         return None
     return Finding(f"`{'.'.join(found.key)}` is no key: `{found.key[0]}` alone is one", config.place(found),
                    f"write {line_with(config, found, found.key[0])}: no dot and no name stand behind a key")
+
+
+def dotted_keys(config: Config, dotted: list[Entry]) -> Finding:
+    """Keys with a name and a dot before them, as lists of properties have them."""
+    first, others = dotted[0], len(dotted) - 1
+    also = f"; so in {others} more line{'s' * (others > 1)}" if others else ""
+    return Finding(f"`{'.'.join(first.key)}` is no key: `{first.key[-1]}` alone is one{also}", config.place(first),
+                   f"write {line_with(config, first, first.key[-1])}: no dots and no name stand before a key")
 
 
 def in_network(config: Config, network: NetworkTable) -> str:
@@ -163,11 +171,13 @@ def version_findings(config: Config) -> list[Finding]:
     """C2."""
     entry = config.top.get("version")
     if entry is None:
-        if not config.top and not config.networks and not config.single:
+        if not config.top and not config.networks and not config.single and not config.strange:
             emptied = f"; `> {config.source.name}` empties a file before it is read" * is_empty_file(config.source)
             return [Finding("the configuration is empty", config.source.place(1), "it begins with `version = 2` ("
                             f"{called.document('FORMATS.md')}, \"Configuration\"){emptied}")]
-        return [missing(config, config.top, "version", "at the top", config.source.place(1))]
+        dotted = [entry for entry in config.at_top if len(entry.key) > 1 and entry.key[-1] in LISTED]
+        return [dotted_keys(config, dotted) if dotted else
+                missing(config, config.top, "version", "at the top", config.source.place(1))]
     if entry.value.kind != "integer":
         digits = str(entry.value.worth)
         return [wrong_kind(config, entry, "version", "the whole number 1 or "
@@ -332,4 +342,4 @@ def option_findings(config: Config, network: NetworkTable) -> list[Finding]:
             finding = wrong_kind(config, entry, key, "`true` or `false`, without quotes", write)
             findings.append(replace(finding, advice=f"{finding.advice}: a unit is kept as long as its station's listen "
                                     "interval says") if seconds else finding)
-    return findings
+    return list(dict.fromkeys(findings))

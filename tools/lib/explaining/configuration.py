@@ -23,6 +23,7 @@ class Config:
     def __init__(self, source: Source) -> None:
         self.source = source
         top, *tables = scan(source.text)
+        self.at_top = top.entries  # each of them, where several keys begin with one name and a dot
         self.top = {entry.key[0]: entry for entry in top.entries}
         self.networks: list[NetworkTable] = []
         self.single: Table | None = None
@@ -68,13 +69,14 @@ class Keys:
         """A whole number."""
         return number_of(self.table.entries.get(key)) if self.table else None
 
-    def where(self, key: str) -> str:
-        """The file and the line of a key, as ` in my.toml, line 12`; nothing where they aren't known."""
+    def where(self, key: str, mark: str = "") -> str:
+        """The file and the line of a key, as ` in my.toml, line 12`, and a mark behind; nothing where they aren't
+        known."""
         entry = self.table.entries.get(key) if self.table else None
         if entry is None or self.config is None:
             return ""
         line = self.config.first + self.config.at(entry.begin, entry.end).line - 1
-        return f" in {self.config.name}, line {line}"
+        return f" in {self.config.name}, line {line}{mark}"
 
 
 def keys_of(entries: list[Entry]) -> dict[str, Entry]:

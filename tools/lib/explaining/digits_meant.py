@@ -271,7 +271,8 @@ def of_odd_digits(source: Source, number: int, line: str, begin: int, bssids: li
                        source.place(number, second + 1, len(line) - second),
                        f"write {in_full(line[second:])} in the next line")
     following = source.line(number + 1).strip()
-    if re.fullmatch("[0-9A-Fa-f ]+", following) and len(following.replace(" ", "")) % 2:
+    if re.fullmatch("[0-9A-Fa-f ]+", following) and not following.startswith("A ") and \
+            len(following.replace(" ", "")) % 2:
         return Finding("the frame goes on in the next line, and a frame is one line",
                        source.place(number, begin + 1, len(line) - begin),
                        f"write {in_full(following)} behind this line, without a space between")

@@ -1,5 +1,5 @@
 """Which element of a body has the wrong length, where they don't fill the body to its last octet."""
-from explaining.check_sequences import FCS_LEN
+from explaining.check_sequences import FCS_LEN, is_rates
 from explaining.reason import Reason
 from explaining.source import quoted
 from explaining.values import BASIC, UNITS
@@ -42,12 +42,6 @@ def is_name(octets: bytes, place: int, length: int) -> bool:
     """Whether an SSID of this length has letters alone."""
     name = octets[place + 2:place + 2 + length]
     return octets[place] == SSID and bool(name) and name.isascii() and name.decode().isprintable()
-
-
-def is_rates(octets: bytes) -> bool:
-    """Whether octets are rates of 802.11b and g, each once."""
-    rates = [rate & ~BASIC for rate in octets]
-    return bool(rates) and set(rates) <= UNITS and len(set(rates)) == len(rates)
 
 
 def exchanged(octets: bytes, place: int) -> Reason | None:

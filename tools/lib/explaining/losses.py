@@ -25,7 +25,7 @@ def losses(looked: Looked, relays: bool, keys: Keys) -> list[Reason]:
         found.append(Reason(f"with `quota = 0` no unit is kept, and this is one for {whom}: 0 isn't no bound", None,
                             f"write how many may wait, as `quota = 64`{keys.where('quota')}") if quota == 0 else
                      Reason(f"the unit for {whom} is above the quota: `quota = {quota}` units are kept already, of all "
-                            "stations and the group", None, f"a larger `quota`{keys.where('quota')} keeps more"))
+                            "stations and the group", None, f"a larger `quota`{keys.where('quota', ',')} keeps more"))
     return found
 
 

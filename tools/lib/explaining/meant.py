@@ -17,13 +17,13 @@ from frames import (ASSOCIATION_REQUEST, AUTHENTICATION, DATA, DEAUTHENTICATION,
                     EXTENDED_SUPPORTED_RATES, HEADER_LEN, MANAGEMENT, PLAIN_DATA, PROBE_REQUEST, REASSOCIATION_REQUEST,
                     SSID, Frame, address_text, elements, is_group, number)
 from in_words import ssid_text
-from reading import FIXED_LEN, LEAST_TYPE, SNAP
+from reading import FIXED_LEN, LEAST_TYPE, SNAP, is_poll
 
 WITH_FIELDS = (ASSOCIATION_REQUEST, REASSOCIATION_REQUEST, DISASSOCIATION, DEAUTHENTICATION)
 WITH_NAMES = (ASSOCIATION_REQUEST, REASSOCIATION_REQUEST, PROBE_REQUEST)
 TURNED = {"capability": "says no ESS", "beacon intervals": "is {value:,} beacon intervals",
           "reason": "is the reason {value}"}
-LLC_LEN, TYPE_LEN = 3, 2
+LLC_LEN, TYPE_LEN, HIGH_BITS = 3, 2, 0xC000
 UNNUMBERED = 0x03
 MOST_BEFORE, MOST_WRONG = 8, 2  # octets before LLC and SNAP, and wrong ones within them
 # Pairs of service access points of other protocols (IEEE Std 802, LLC): STP, IPX, NetBIOS, ISO, raw IPX.
@@ -74,9 +74,29 @@ def doubtful(looked: Looked, relay: Relay) -> Reason | None:
             of_disassociation(looked, frame)
     if frame.type == MANAGEMENT:
         return of_status(frame) or of_authentication(looked, frame) or second_name(frame) or dropped or of_mode(frame)
+    if is_poll(frame):
+        return of_identifier(frame)
     if frame.type != DATA or frame.subtype != PLAIN_DATA:
         return with_data(frame)
-    return of_destination(looked, frame, relay) or of_unit(frame.body) or of_waking(looked, frame)
+    return of_destination(looked, frame, relay) or of_unit(frame.body) or of_waking(looked, frame) or \
+        of_copy(looked, frame)
+
+
+def of_identifier(frame: Frame) -> Reason | None:
+    """A poll whose identifier lacks the two high bits that a station sets (9.2.4.2), and that nothing looks at here."""
+    written = number(frame.octets[2:4])
+    meant = (written | HIGH_BITS).to_bytes(2, "little").hex()
+    return None if written & HIGH_BITS == HIGH_BITS else Reason(
+        f"the identifier of the poll, `{frame.octets[2:4].hex()}`, lacks its two high bits, which a station sets; a "
+        "network here reads the low 14 bits alone", (2, 4), f"write `{meant}`")
+
+
+def of_copy(looked: Looked, frame: Frame) -> Reason | None:
+    """Data that came before, octet for octet, of a station that counts its frames: duplicates aren't looked for."""
+    same = looked.past.before.get(frame.octets)
+    return None if same is None or not frame.sequence_control or frame.retry else Reason(
+        f"this line is a copy of line {same}, octet for octet, Sequence Control `{frame.octets[22:24].hex()}` too: "
+        "the unit is passed on a second time", (22, 24), "leave the line out, or give a new frame a number of its own")
 
 
 def of_status(frame: Frame) -> Reason | None:

@@ -20,6 +20,7 @@ REPORT_LINE = re.compile(r"network [0-9a-f:]{17} ssid [0-9a-f]*|(?:air|wire) [0-
 SEPARATOR_LIKE = re.compile(r"\s*(?:-\s*){2,}\r?|\s*-*[\u2010-\u2015\u2212][-\u2010-\u2015\u2212]*\s*"
                             r"|\s*={3,}\s*|\s*-{3,}\s*#.*")
 NETWORK_OF_NAME = re.compile(r"^[ \t]*(\[\[? *network *\.[^\]\n]*\]\]?)", re.MULTILINE)
+NAMED_HEADER = re.compile(r"\s*\[+ *network[ :=\"'-]+(\w[\w .-]*?)[\"']? *\]*\s*")
 LEAST_KEYS = 3  # of a network, by which it is told from a key that was written twice
 # A key with its value, and right behind it the beginning of what should be the next line.
 JOINED = re.compile(r"(\s*[\w-]+\s*=\s*(?:true|false|[0-9]+(?!T)|\"[^\"]*\"|'[^']*'))\s*"
@@ -62,6 +63,10 @@ def other_text(source: Source) -> Finding | None:
     line = source.line(first).strip()
     if REPORT_LINE.fullmatch(line):
         return Finding("this is a report of the program, and no configuration", source.place(first, 1, len(line)))
+    if re.match(r"\{\s*[\w-]+\s*=", source.text.strip()):
+        return Finding("braces stand around the keys, as Nix, libconfig and other languages have them, and TOML has "
+                       "none there", source.place(first), "write `channel = 6`, without braces and `;`, a line for "
+                       "each key")
     if line.startswith("{"):
         return Finding("this is JSON, and a configuration is TOML", source.place(first),
                        "write `channel = 6`, without braces, a line for each key")
@@ -114,7 +119,10 @@ def of_line(source: Source, fault: NoToml, wants_trace: bool) -> Finding:
     if "control character" in fault.expected:
         return Finding(f"a control character, {ord(source.text[fault.begin]):02x}; {fault.expected}", place)
     if fault.expected.startswith("`]"):
-        return Finding(f"a header ends with {fault.expected.split()[0]}" if line.lstrip().startswith("[")
+        named = NAMED_HEADER.fullmatch(line)
+        return Finding(f"{quoted(line.strip())} begins no network: a network begins with a line `[[network]]`", place,
+                       f"write `[[network]]`: a network has its name as `ssid = \"{named[1]}\"`") if named else \
+            Finding(f"a header ends with {fault.expected.split()[0]}" if line.lstrip().startswith("[")
                        else f"{fault.expected} is missing", place,
                        "write `[[network]]`" if "network" in line else None)
     return Finding(f"expected: {fault.expected}", place)

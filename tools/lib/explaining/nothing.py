@@ -62,7 +62,15 @@ class Looked:
         like = nearest(address, [station.address for station in self.section.stations])
         if like is not None and state == "unknown" and not self.past.is_own(self.bssid, address):
             return f"{address_text(like)} is one of this network, and nearly the same"
-        return "it joined before the trace begins, or never" if state == "unknown" else "it never asked to associate"
+        if state == "unknown":
+            return self.before_trace(address)
+        return "it never asked to associate" if self.past.never_joins(self.bssid, address) else \
+            "it didn't ask to associate before"
+
+    def before_trace(self, address: bytes) -> str:
+        """Why a station is unknown of which no line before tells."""
+        return f"no line before has it authenticate to {self.section.name}" if self.bssid + address in self.past.asking \
+            else "it joined before the trace begins, or never"
 
     def left(self) -> dict[bytes, int]:
         """The stations that disassociated, and are known, each with the number of the line by which it did."""
@@ -166,7 +174,8 @@ def poll(looked: Looked, frame: Frame) -> Reason | None:
         turned = int.from_bytes(frame.octets[2:4], "big") & IDENTIFIER == station.aid
         why = ": its octets stand the wrong way round" if turned else \
             ": it stands where other frames have Duration" if aid == 0 else ""
-        return Reason(f"the poll names the identifier {aid}, and the station has {station.aid}{why}", (2, 4),
+        owner = "" if why else owner_of(looked, aid)
+        return Reason(f"the poll names the identifier {aid}{owner}, and the station has {station.aid}{why}", (2, 4),
                       f"write `{own}`")
     past = looked.past
     woken, emptied, overlooked, missed = (told.get((looked.bssid, station.address), "") for told in (
@@ -183,6 +192,12 @@ def poll(looked: Looked, frame: Frame) -> Reason | None:
     return of_empty(looked, station, emptied, missed, group)
 
 
+def owner_of(looked: Looked, aid: int) -> str:
+    """Which station of a network has an identifier."""
+    owner = next((row.address for row in looked.section.stations if row.aid == aid), None)
+    return f", that of {address_text(owner)}" if owner else ""
+
+
 def of_empty(looked: Looked, station: Station, emptied: str, missed: str, group: str) -> Reason:
     """A poll of a station that dozes, and for which no unit is kept: by what came before, or comes only later."""
     past = looked.past
@@ -191,9 +206,11 @@ def of_empty(looked: Looked, station: Station, emptied: str, missed: str, group:
     coming = past.next_unit(looked.bssid, station.address, looked.step.line.number)
     later = "" if coming is None or is_late else f"; {'the next one' if emptied or missed else 'the unit for it'} " \
         f"comes after this poll, in line {coming}"
+    strayed = "" if emptied or missed or later else past.unit_elsewhere(looked.bssid, station.address,
+                                                                        looked.step.line.number)
     advice = f"write line {dozing}, by which the station dozes, before line {unit}" if is_late else \
         f"write the poll behind line {coming}" if later else None
-    return Reason(f"no unit is kept for the station{emptied or missed}{later}{group}", (2, 4), advice)
+    return Reason(f"no unit is kept for the station{emptied or missed}{later}{strayed}{group}", (2, 4), advice)
 
 
 def mode(looked: Looked, frame: Frame) -> Reason | None:

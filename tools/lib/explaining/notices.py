@@ -2,13 +2,15 @@
 "Stations that come and go"), and what would have come before it."""
 import re
 
-from explaining.nothing import JOINING, Looked
+from explaining.nothing import IDENTIFIER, JOINING, Looked, owner_of
 from explaining.past import home_of, whereabouts
 from explaining.reason import Lack, Reason
 from explaining.refused import Refusal
 from explaining.unheard import nearest
-from frames import (ASSOCIATION_REQUEST, DATA, DEAUTHENTICATION, MANAGEMENT, REASSOCIATION_REQUEST, Frame, address_text)
+from frames import (ASSOCIATION_REQUEST, DATA, DEAUTHENTICATION, MANAGEMENT, REASSOCIATION_REQUEST, Frame, address_text,
+                    number)
 from in_words import kind_text, name_in
+from reading import is_poll
 
 ASSOCIATIONS = (ASSOCIATION_REQUEST, REASSOCIATION_REQUEST)
 UNMASK = "take the `#` of that line away"
@@ -29,12 +31,15 @@ def notice(refusal: Refusal, looked: Looked, station: bytes) -> Reason:
     remark = looked.past.remark_of(looked.bssid, station, JOINING[1:] if is_known else JOINING)
     if is_known:
         return Reason(f"{said}: {looked.why_not_there(station, 'authenticated')}", SENDER,
-                      UNMASK if remark else why_in_vain(looked, station) or "it has to associate before")
+                      UNMASK if remark else why_in_vain(looked, station) or "it has to associate before",
+                      Lack(looked.bssid, station, True))
+    owner = owner_of(looked, number(frame.octets[2:4]) & IDENTIFIER) if is_poll(frame) else ""
     home = home_of(looked.step, looked.bssid, station)
     is_to_other = home is not None and frame.type == MANAGEMENT and looked.past.of(looked.bssid, station) is None
     span = RECEIVER if is_to_other else SENDER
     told = whereabouts(looked.step, looked.bssid, station, looked.past)
-    return Reason(f"{said}: {why_unknown(looked, frame)}", span, UNMASK if remark else what_first(looked, frame, home),
+    whose = f"; the identifier that it names is{owner.removeprefix(',')}" if owner else ""
+    return Reason(f"{said}: {why_unknown(looked, frame)}{whose}", span, UNMASK if remark else what_first(looked, frame, home),
                   None if told else Lack(looked.bssid, station, frame.type == DATA))
 
 
@@ -48,7 +53,7 @@ def why_unknown(looked: Looked, frame: Frame) -> str:
     if remark:
         return remark.removeprefix("; ")
     said = f"no line before has it authenticate to {here}" if frame.type == MANAGEMENT else \
-        looked.past.answered.get((looked.bssid, station), "it joined before the trace begins, or never")
+        looked.past.answered.get((looked.bssid, station)) or looked.before_trace(station)
     like = alike(looked, frame)
     return said + (f"; {address_text(like)} is one of this network, and nearly the same" if like else "")
 

@@ -6,7 +6,7 @@ from typing import NamedTuple
 
 import called
 from explaining.configuration import Config
-from explaining.keys import NETWORK_KEYS, RADIO_KEYS, meant
+from explaining.keys import NETWORK_KEYS, OPTIONS, RADIO_KEYS, called_elsewhere, meant
 from explaining.source import Finding, Source
 
 OPENWRT = re.compile(r"\s*(?:config\s+[\w-]+(?:\s+'[^']*'|\s+[\w-]+)?|option\s+\w+\s+.*|list\s+\w+\s+.*)")
@@ -17,7 +17,7 @@ MARKUP = re.compile(r"<[?!/]?[A-Za-z][\w:-]*(?: +[\w:-]+=[\"'][^>]*| */?)>|<[?!]
 COMMAND = re.compile(r"(?:tools/|waltigon-)?frame +(?:probe|auth|(?:re)?join|disassoc|deauth|data|null|poll|wired)\b")
 DUMP_HEAD = re.compile(r"(?:\d{4}-\d\d-\d\d )?\d\d:\d\d:\d\d\.\d{3,9} ")
 ADDRESS = r"[0-9A-Fa-f]{2}(?::[0-9A-Fa-f]{2}){5}"
-LEAST_LINES = 2
+LEAST_LINES, LEAST_KEYS = 2, 2
 
 
 class Writer(NamedTuple):
@@ -130,10 +130,12 @@ def of_capture() -> str:
 
 def of_uci(source: Source, number: int) -> Finding | None:
     """What `uci show` of OpenWrt prints."""
-    line = re.compile(r"(?:wireless|network)\.[\w@\[\].-]+=.*")
-    if not any(line.fullmatch(text.rstrip()) for text in source.lines):
+    line = re.compile(r"(?P<command>(?:uci +(?:-q +)?)?(?:set|add_list) +)?(?:wireless|network)\.[\w@\[\].-]+=.*")
+    found = next((match for text in source.lines if (match := line.fullmatch(text.rstrip()))), None)
+    if found is None:
         return None
-    return Finding("this is what `uci show` of OpenWrt prints, and the program has its own keys, in TOML",
+    what = "a command of `uci` of OpenWrt" if found["command"] else "what `uci show` of OpenWrt prints"
+    return Finding(f"this is {what}, and the program has its own keys, in TOML",
                    whole_of(source, number), from_openwrt())
 
 
@@ -156,15 +158,21 @@ def without_keys(source: Source, number: int) -> Finding | None:
     """A text that can't be a configuration: it has several lines, and none of them is one of the program's keys."""
     keys = "|".join(RADIO_KEYS + NETWORK_KEYS)
     lines = [line for line in source.lines if line.strip()]
-    if len(lines) < LEAST_LINES or re.search(rf"\b(?:{keys})\b[\"']?\s*[=:]|\[\[? *network", source.text):
+    if len(lines) < LEAST_LINES or re.search(rf"(?i)\b(?:{keys})\b[\"']?\s*[=:]|\[\[? *network", source.text):
         return None
+    if sum(bool(MARKUP.match(line.strip())) for line in lines) >= LEAST_LINES:
+        return Finding("this is XML or HTML, and a configuration is TOML", whole_of(source, number), own_sample())
     return of_no_key(source, number)
 
 
 def without_listed(config: Config) -> Finding | None:
     """A text of TOML that can't be a configuration: it has keys or tables, and none of them is one of the program's."""
     of_networks = config.networks or config.single
-    if of_networks or not config.top and not config.strange or any(meant(key, RADIO_KEYS) for key in config.top):
+    inside = [part for table in (config.at_top, *(table.entries for table in config.strange))
+              for entry in table for part in entry.key]
+    own = sum(called_elsewhere(part, RADIO_KEYS + NETWORK_KEYS + OPTIONS) is not None for part in inside)
+    if of_networks or not config.top and not config.strange or any(meant(key, RADIO_KEYS) for key in config.top) or \
+            own >= LEAST_KEYS:
         return None
     return of_no_key(config.source, 1)
 

@@ -167,8 +167,8 @@ class Outcomes:
     def relay(self, looked: Looked) -> Relay:
         """Whether a network relays between its stations, and where that is said."""
         keys = Keys(self.tables.get(looked.bssid), self.config)
-        entry, where = keys.table.entries.get("relay") if keys.table else None, keys.where("relay")
-        return Relay(entry is None or entry.value.worth is not False, where and f"{where},")
+        entry = keys.table.entries.get("relay") if keys.table else None
+        return Relay(entry is None or entry.value.worth is not False, keys.where("relay", ","))
 
     def numbers_told(self, what: What) -> set[int]:
         """The numbers of the lines of which this is said."""

@@ -91,6 +91,12 @@ class Past:
         at = bisect_right(numbers, number)
         return self.line_number(numbers[at]) if at < len(numbers) else None
 
+    def unit_elsewhere(self, bssid: bytes, station: bytes, number: int) -> str:
+        """That the last unit for a station before this line came to another network; nothing where none did."""
+        found = max(((at, pair[:6]) for pair, numbers in self.units.items() if pair[6:] == station and pair[:6] != bssid
+                     for at in numbers if at < number), default=None)
+        return f"; the one in line {self.line_number(found[0])} came to {address_text(found[1])}" if found else ""
+
     def dozes_behind(self, bssid: bytes, station: bytes, number: int) -> bool:
         """Whether a station says to a network behind this line that it dozes."""
         return self.last_dozing.get(bssid + station, 0) > number

@@ -9,7 +9,7 @@ from explaining.names import name_reason
 from explaining.reason import Reason
 from explaining.values import BASIC, UNITS
 from frames import (ASSOCIATION_RESPONSE, AUTHENTICATION, DEAUTHENTICATION, DISASSOCIATION, EXTENDED_SUPPORTED_RATES,
-                    HEADER_LEN, MANAGEMENT, REASSOCIATION_RESPONSE, SSID, SUPPORTED_RATES, Frame, elements, number)
+                    HEADER_LEN, MANAGEMENT, REASSOCIATION_RESPONSE, SSID, SUPPORTED_RATES, Frame, elements, first_of, number)
 from in_words import ALGORITHMS
 from reading import FIXED_LEN
 
@@ -74,7 +74,7 @@ def refused(refusal: Refusal, octets: bytes, keys: Keys, names: dict[bytes, byte
         (ASSOCIATION_RESPONSE, 1): lambda: name_reason(octets, names, bssid, homes),
         (ASSOCIATION_RESPONSE, 17): lambda: Reason(
             f"`max_stations = {keys.number('max_stations')}` is reached", SENDER, "`max_stations`" +
-            (keys.where("max_stations") or " in the configuration") +
+            (keys.where("max_stations", ",") or " in the configuration") +
             " says how many are associated at once; one that leaves makes room"),
         (ASSOCIATION_RESPONSE, 18): lambda: of_rates(octets, keys)}
     part = parts.get((refusal.kind, refusal.code))
@@ -144,7 +144,7 @@ def of_rates(octets: bytes, keys: Keys) -> Reason:
     entry = keys.table.entries.get("rates") if keys.table else None
     wanted = bytes.fromhex(entry.value.text) if entry and entry.value.text else b""
     listed = elements(frame.body[FIXED_LEN[frame.subtype]:]) or []
-    told = [octets for identifier, octets in listed if identifier in OF_RATES]
+    told = [octets for octets in (first_of(listed, identifier) for identifier in OF_RATES) if octets is not None]
     has = {rate & ~BASIC for part in told for rate in part}
     missing = [rate & ~BASIC for rate in wanted if rate & BASIC and rate & ~BASIC not in has]
     text = ", ".join(f"{rate / 2:g}" for rate in missing)
@@ -157,6 +157,9 @@ def of_rates(octets: bytes, keys: Keys) -> Reason:
         return Reason(f"its rates `{b''.join(told).hex()}` are written in Mb/s, and stand in units of 500 kb/s: it "
                       f"lacks the basic rate{'s' * (len(missing) > 1)} {text} Mb/s", span,
                       f"write `{meant.hex()}` for the network's")
+    second = in_second_element(octets, begin, listed, set(missing))
+    if second:
+        return second
     as_decimal = {int(f"{rate:x}") for rate in has if f"{rate:x}".isdecimal()}
     if told and set(missing) <= as_decimal | has and as_decimal <= UNITS:
         meant = bytes(rate & ~BASIC for rate in wanted)
@@ -178,6 +181,20 @@ def of_rates(octets: bytes, keys: Keys) -> Reason:
         return Reason(f"it has no element Supported Rates, so it lacks the network's basic rates, {text} Mb/s",
                       (HEADER_LEN, len(octets)), f"write `01{len(missing):02x}{bytes(missing).hex()}` at its end")
     return Reason(f"it lacks the basic rate{'s' * (len(missing) > 1)} {text} Mb/s of the network", span, write)
+
+
+def in_second_element(octets: bytes, begin: int, listed: list[tuple[int, bytes]], missing: set[int]) -> Reason | None:
+    """The missing rates in another element of an ID of which the first one counts."""
+    seen: dict[int, bytes] = {}
+    for identifier, body in listed:
+        if identifier in OF_RATES and identifier in seen and missing <= {rate & ~BASIC for rate in body}:
+            both = seen[identifier] + body
+            return Reason(f"two elements of the ID `{identifier:02x}` have rates, and the first one counts: "
+                          f"`{body.hex()}` in the second one isn't read", (begin, begin + 2 + len(body)),
+                          f"write one element, as `{identifier:02x}{len(both):02x}{both.hex()}`")
+        seen.setdefault(identifier, body)
+        begin += 2 + len(body)
+    return None
 
 
 def place_of_rates(octets: bytes, begin: int, missing: list[int], is_it: Callable[[int], bool]) -> int | None:

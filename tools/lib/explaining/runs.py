@@ -168,8 +168,12 @@ def of_no_interval(lines: list[Line], hearings: list[Hearing], is_all: bool) -> 
     is_kept = any(hearing.section.kept for hearing in hearings)
     if not lines or any(line.kind == "T" for line in lines) or not is_kept and not is_all:
         return []
-    return [Finding("no line `T` begins a beacon interval: no beacon is sent, and units for the group that are kept "
-                    "stay so")]
+    waiting = [f"{address_text(station.address)} ({station.kept})" for hearing in hearings
+               for station in hearing.section.stations if station.kept]
+    told = f", so no station is told that units wait for it: {', '.join(waiting[:MOST_NAMED])}" if waiting else \
+        ", and units for the group that are kept stay so" * is_kept
+    return [Finding(f"no line `T` begins a beacon interval: no beacon is sent{told}", None,
+                    "write a line `T` where a beacon interval begins" if is_kept else None)]
 
 
 def of_receivers(frames: list[Line], hearings: list[Hearing], traces: list[Source], told: set[int]) -> list[Finding]:

@@ -35,9 +35,23 @@ def unlisted_findings(config: Config) -> list[Finding]:
     hidden = header_in_remark(config.source, 1, config.source.at(first, first + 1).line) if first is not None else None
     if hidden:
         return [of_header(hidden)]
+    if first is not None and not config.networks and config.single is None:
+        return [without_header(config)]
     findings = told_once([finding for _, finding in sorted(found, key=lambda pair: pair[0])])
     more = len(findings) - MOST_KEYS_SHOWN
     return findings[:MOST_KEYS_SHOWN] + ([Finding(f"and {more} more keys that aren't listed")] if more > 0 else [])
+
+
+def without_header(config: Config) -> Finding:
+    """The keys of a network in a text without a network."""
+    listed = sorted((entry for key, entry in config.top.items() if key in NETWORK_KEYS + OPTIONS),
+                    key=lambda entry: entry.begin)
+    keys = ", ".join(f"`{entry.key[0]}`" for entry in listed[:MOST_KEYS_SHOWN])
+    more = f" and {len(listed) - MOST_KEYS_SHOWN} more" * (len(listed) > MOST_KEYS_SHOWN)
+    return Finding(f"the line `[[network]]` is missing, with which a network begins: {keys}{more} stand at the top, "
+                   "and are no keys of the radio", config.place(listed[0]),
+                   f"write `[[network]]` in a line before `{listed[0].key[0]}`" if len(listed) > 1 else
+                   "write it below the `[[network]]` that it is of")
 
 
 def told_once(findings: list[Finding]) -> list[Finding]:

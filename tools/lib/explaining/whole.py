@@ -7,7 +7,7 @@ from dataclasses import dataclass, field
 
 import called
 from explaining import (as_they_come, config, configuration, no_key, no_toml, octet_records, odd_config,
-                        other_programs, runs, trace_lines, words)
+                        other_lines, other_programs, runs, trace_lines, words)
 from explaining.answers import Answer, Fault, read_fault, said_already
 from explaining.line_by_line import Unanswered
 from explaining.source import Finding, Source
@@ -93,7 +93,17 @@ def explain(texts: Texts, answer: Answer) -> list[str]:
                 "this is no answer of the program: it may have been ended by a signal, or by the system"]
     if answer.fault is None:
         return of_good_run(texts, answer)
-    return [answer.fault.said, *of_findings(findings_of(texts, answer.fault) or [Finding(NOTHING_FOUND)])]
+    return [answer.fault.said, *of_findings(of_all_lines(texts, answer.fault) or [Finding(NOTHING_FOUND)])]
+
+
+def of_all_lines(texts: Texts, fault: Fault) -> list[Finding]:
+    """The reasons for the first fault, and of a trace's line the others that have one too."""
+    findings, trace = findings_of(texts, fault), texts.traces[0] if len(texts.traces) == 1 else None
+    if fault.line is None or texts.program is None or texts.config is None or trace is None or \
+            len(trace.octets) > other_lines.MOST_OCTETS:
+        return findings
+    return other_lines.with_others(findings, other_lines.faults_in(texts.program, texts.config, trace), fault,
+                                   lambda other: findings_of(texts, other))
 
 
 def of_findings(findings: list[Finding]) -> list[str]:
