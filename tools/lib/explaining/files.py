@@ -60,6 +60,10 @@ def missing_file(name: str, advice: str | None, reason: OSError) -> Finding:
                        f"write {longer}, or rename it: editors and browsers add an ending to a name")
     try:
         files = {file.lower(): file for file in filter(like(name), os.listdir(folder))}
+        base = os.path.basename(name).lower()
+        whole = {file.lower().replace(".", ""): file for file in os.listdir(folder)}
+        if base.replace(".", "") in whole:
+            files = {base: whole[base.replace(".", "")]}
         close = [files[file] for file in difflib.get_close_matches(os.path.basename(name).lower(), files, 1, LIKE)]
     except OSError:
         close = []

@@ -6,6 +6,7 @@ import shlex
 import stat
 
 import called
+from explaining import odd_words
 from explaining.answers import SUBCOMMANDS, Fault
 from explaining.files import in_folder, is_like_file, missing_file, names_within
 from explaining.source import DASHES, Finding, quoted
@@ -33,7 +34,7 @@ LEAST = {"check": 1, "run": 2, "play": 2, "live": 1}
 OF_BRIDGE = ("--phy", "--wire", "--wires", "--share", "--monitor", "--by", "--country", "--idle", "--no-update",
              "--record", "--record-limit", "--tables", "--status", "--status-host", "--status-from",
              "--station-metrics", "--names", "--as-root", "--bridge", "--program", "--json", "--watch", "--since")
-MOST_TRACES, MOST_READ = 64, 65_536
+MOST_TRACES, MOST_READ, MOST_SHOWN = 64, 65_536, 4
 LIKE = 0.75  # how much an option has to be like another one
 
 
@@ -55,7 +56,7 @@ def of_words(fault: Fault, words: list[str]) -> list[Finding]:
     dashed = next((word for word in words if word[:1] in DASHES), None)
     if dashed:
         return [of_dashes(words, dashed)]
-    cut = cut_name(words)
+    cut = cut_name(words) or odd_words.of_shell(words)
     if cut:
         return [cut]
     begin = next((at for at, word in enumerate(words) if os.path.basename(word) not in ITSELF), len(words))
@@ -96,6 +97,9 @@ def of_words(fault: Fault, words: list[str]) -> list[Finding]:
                         f"{more}its words are {FORMS}")]
     if is_like_file(first):
         return [of_missing_command(words)]
+    if rest and all(os.path.isfile(word) for word in rest):
+        return [Finding(f"the program has no word {quoted(first)}", None, f"write `{form_for(rest)}`; its words are "
+                        f"{FORMS}")]
     return [Finding(f"the program has no word {quoted(first)}", None, f"its words are {FORMS}")]
 
 
@@ -173,7 +177,12 @@ def of_subcommand(first: str, rest: list[str]) -> Finding:
         is_octets = first == "live" and (form != SUBCOMMANDS[first] or OCTETS in rest or name in BINARY or
                                          difflib.SequenceMatcher(None, name, OCTETS).ratio() > LIKE)
         meant = [first] + [OCTETS] * is_octets + others
-        write = f"write `{shlex.join(meant)}`" if len(others) == LEAST[first] else ""
+        there = [word for word in others if os.path.exists(word)]
+        if len(others) > LEAST[first] == len(there):  # the value of an option among them
+            meant = [word for word in meant if word not in others or word in there]
+            others = there
+        is_whole = len(others) == LEAST[first] or first == "play" and len(others) > LEAST[first]
+        write = f"write `{shlex.join(meant)}`" if is_whole else ""
         is_file = os.path.lexists(dashed) or not write
         of_name = f"for a file of this name write `{first} -- {more}`" if is_file else ""
         return Finding(f"{quoted(dashed)} begins with `-`, and `{first}` has {options}", None,
@@ -185,11 +194,19 @@ def of_subcommand(first: str, rest: list[str]) -> Finding:
     if first == "live":
         files = [word for word in rest if word not in ("--", OCTETS)]
         is_octets = form != SUBCOMMANDS[first] or OCTETS in rest
+        word = next((word for word in files if word in ("octets", "octet", "binary") and not os.path.exists(word)), None)
+        radio = next((word for word in files if odd_words.INTERFACE.fullmatch(word) and not os.path.exists(word)), None)
         if rest[0] in OF_OTHERS and not os.path.exists(rest[0]):
             return of_bridge(rest)
-        if files[0] in ("octets", "octet", "binary") and not os.path.exists(files[0]):
-            return Finding(f"{quoted(files[0])} is no file: the option has two hyphens", None,
-                           f"write `{shlex.join([first, OCTETS, *files[1:]])}`")
+        if word:
+            others = [other for other in files if other != word]
+            return Finding(f"{quoted(word)} is no file: the option has two hyphens", None,
+                           f"write `{shlex.join([first, OCTETS, *others])}`")
+        if radio:
+            others = [other for other in files if other != radio]
+            return Finding(f"{quoted(radio)} looks like the name of an interface or a radio, which is named to "
+                           f"{called.fellow('live')}, and `live` of the program reads lines", None,
+                           f"write `{shlex.join([*called.fellow('live').split(), *others, '--phy', 'phy0'])}`")
         if len(files) < 2:
             return Finding(f"behind `--` stand names of files, and `{OCTETS}` stands there", None,
                            f"write `{shlex.join([first, OCTETS, *files])}`")
@@ -199,6 +216,13 @@ def of_subcommand(first: str, rest: list[str]) -> Finding:
     if first == "run" and count == least + 1 and not os.path.exists(files[-1]):
         return Finding(f"`run` writes its report on standard output, and takes no word for it, as {quoted(files[-1])}",
                        None, f"write `{shlex.join([first, *files[:-1]])} > {files[-1].lstrip('>')}`")
+    traces = [file for file in files[1:] if os.path.isfile(file)]
+    if first == "run" and len(traces) == len(files) - 1:
+        return Finding(f"`run` takes two words and no more, one trace, and there are {count}", None,
+                       f"write `{shlex.join(['play', *files])}`: it plays several traces at once")
+    if first == "check" and count >= 2 and all(CONFIGURATION.search(text_of(file)) for file in files):
+        each = ", then ".join(f"`{shlex.join([first, file])}`" for file in files[:MOST_SHOWN])
+        return Finding(f"`check` takes one configuration, and there are {count} words", None, f"write {each}")
     if first == "check" and count == 2 and not files[1].endswith(".toml"):
         return Finding(f"`check` takes a configuration alone, and there are {count} words", None,
                        f"write `{shlex.join(['run', *files])}` for a trace")
@@ -282,7 +306,8 @@ def of_file(fault: Fault, words: list[str]) -> list[Finding]:
     except NotADirectoryError:
         return [Finding(f"{quoted(name)}: a part of this path is a file, and no folder", None, advice)]
     except OSError as reason:
-        return [missing_file(name, advice, reason)]
+        odd = odd_words.of_name(name, words[0]) if words and not os.path.lexists(name) else None
+        return [odd or missing_file(name, advice, reason)]
     if stat.S_ISDIR(mode):
         return [Finding(f"{quoted(name)} is a folder, and no file", None, in_folder(name))]
     if not os.access(name, os.R_OK):

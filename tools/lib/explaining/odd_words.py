@@ -1,0 +1,51 @@
+"""Words that are no file's name and no word of the program, by how they look: signs of a shell, words of a page that
+stand for a file, addresses of the web, paths of Windows, and names of interfaces."""
+import os
+import re
+import shlex
+
+import called
+from explaining.source import Finding, quoted
+
+# What a shell reads itself, where no quotes stand around it.
+SHELL = re.compile(r"\d?>>?(?:&\d)?\S*|<{1,3}\S*|\|{1,2}|&{1,2}|;|2>&1")
+PLACES = ("CONFIG", "TRACE", "TRACE...", "FILE", "FILES", "LINES", "NAME", "<CONFIG>", "<TRACE>", "[TRACE]", "<FILE>")
+INTERFACE = re.compile(r"(?:wlan|wlp\w|wlx\w|wl|ath|ra|phy|eth|mon|en\w|radio)\d+\w*")
+WEB, WINDOWS = re.compile(r"[a-z]+://.*"), re.compile(r"[A-Za-z]:[\\/].*|.*\\.+")
+
+
+def of_shell(words: list[str]) -> Finding | None:
+    """A word that a shell acts on where it stands alone and without quotes."""
+    at = next((at for at, word in enumerate(words) if at and SHELL.fullmatch(word) and not os.path.lexists(word)), None)
+    if at is None:
+        return None
+    said = f"{quoted(words[at])} is a sign of a shell, which came to the program as a word: a shell acts on it where no " \
+        "quotes stand around it"
+    if words[at] == "<" and words[0] in ("run", "play"):
+        return Finding(f"{said}; `{words[0]}` reads files, and not standard input", None,
+                       f"write `{shlex.join([word for word in words if word != '<'])}`")
+    return Finding(said, None, f"in a shell write `{shlex.join(words[:at])} {' '.join(words[at:])}`, without quotes "
+                   f"around {quoted(words[at])}")
+
+
+def of_name(name: str, command: str) -> Finding | None:
+    """A name that no file has, and that looks like something else."""
+    said = f"{quoted(name)} isn't there"
+    if name in PLACES:
+        return Finding(f"{said}: this word stands for the name of a file, which is yours to write", None,
+                       f"write your file's name, as `{command} my.toml{' my.trace' * (command in ('run', 'play'))}`")
+    if WEB.fullmatch(name):
+        path = name.removeprefix("file://")
+        return Finding(f"{said}: it is an address of the web (URL), and the program reads files", None,
+                       f"write its path, {path}" if name.startswith("file:") else
+                       "fetch it into a file, as by `curl -O`, and name that")
+    if WINDOWS.fullmatch(name):
+        plain = name.replace("\\", "/")
+        path = re.sub(r"^([A-Za-z]):/", lambda drive: f"/mnt/{drive[1].lower()}/", plain)
+        return Finding(f"{said}: it is written as a path of Windows, and here `/` stands between folders", None,
+                       f"write {plain}, or {path} where WSL has that drive" if path != plain else f"write {plain}")
+    if INTERFACE.fullmatch(name):
+        return Finding(f"{said}: it looks like the name of an interface or a radio, and `{command}` reads a "
+                       "configuration's file", None, f"a radio is named to {called.fellow('live')}, as "
+                       f"`{called.fellow('live')} my.toml --phy phy0`")
+    return None
