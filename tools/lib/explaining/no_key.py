@@ -13,6 +13,7 @@ WORD = re.compile(r"[A-Za-z_][A-Za-z0-9_-]*")
 OPTION = re.compile(r"--?([a-z][\w-]*)(?:\s*=\s*|\s+)(.+)")
 FOR_YAML = "write `channel = 6`, a line for each key, and a line `[[network]]` before the keys of each network"
 JSON_LINE = re.compile(r"[\"']([\w-]+)[\"']\s*:\s*(.*?)\s*,?$")
+OPENWRT = re.compile(r"(?:option|list)\s+[\w-]+\s+[^=\s][^=]*|config\s+[\w-]+(?:\s+'[^']*')?")
 INCLUDE = re.compile(r"[!@]?(?:include|import|source|require|load|extends?)\b(?!\s*=)", re.I)
 SIGNS = re.compile(r"\s*(?::=|=>|->|==|<-|[:,;|]|\u2192|\u21d2|\uff1d|\uff1a)\s*")
 TYPES = r"(?:int|integer|str|string|bool|boolean|float|number|text|u?int(?:8|16|32|64)(?:_t)?|u(?:8|16|32))"
@@ -96,6 +97,9 @@ def of_other_language(source: Source, place: Place, text: str) -> Finding | None
         rates = rates_fault(value.strip("\"'")) if key == "rates" else None
         return Finding(f"`{behind[1]}` stands before the key, and a line begins with its key", place.part(behind[1]),
                        f"write `{key} = " + (f'"{rates[2]}"' if rates and rates[2] else value) + "`")
+    if OPENWRT.fullmatch(text):
+        return Finding(f"`{text.split()[0]}` begins a line of OpenWrt's configuration, and here a line is a key, `=` and a "
+                       "value", place, "leave the line out, or write the program's own key")
     if is_yaml(source, place.line):
         return Finding("this is YAML, and a configuration is TOML", place, FOR_YAML)
     if text.startswith("<") and not is_network(text):

@@ -17,8 +17,9 @@ from explaining.toml_scan import NoToml, scan
 
 TRACE_LINE = re.compile(r"(?:[AW] +[0-9A-Fa-f: ]{4,}|T|A|W)\s*\r?")
 REPORT_LINE = re.compile(r"network [0-9a-f:]{17} ssid [0-9a-f]*|(?:air|wire) [0-9a-f]+|events \d+ clock \d+.*")
-SEPARATOR_LIKE = re.compile(r"\s*(?:-\s*){2,}\r?|\s*-*[\u2010-\u2015\u2212][-\u2010-\u2015\u2212]*\s*"
+SEPARATOR_LIKE = re.compile(r"\s*(?:-\s*){2,}\r?|\s*(?P<mark>[*_~+.])(?P=mark){2,}\s*|\s*-*[\u2010-\u2015\u2212][-\u2010-\u2015\u2212]*\s*"
                             r"|\s*={3,}\s*|\s*-{3,}\s*#.*")
+HIDDEN_SEPARATOR = re.compile(r"\s*[#;/]+\s*-{3,}.*")
 NETWORK_OF_NAME = re.compile(r"^[ \t]*(\[\[? *network *\.[^\]\n]*\]\]?)", re.MULTILINE)
 NAMED_HEADER = re.compile(r"\s*\[+ *network[ :=\"'-]+(\w[\w .-]*?)[\"']? *\]*\s*")
 LEAST_KEYS = 3  # of a network, by which it is told from a key that was written twice
@@ -73,7 +74,7 @@ def other_text(source: Source) -> Finding | None:
     keys = [line.split("=")[0].strip() for line in source.lines if "=" in line and not line.startswith("#")]
     of_hostapd = [key for key in keys if key in HOSTAPD]
     has_tables = any(line.lstrip().startswith("[") for line in source.lines)
-    if len(of_hostapd) >= 2 or of_hostapd == ["interface"] and not has_tables and "ssid" in keys:
+    if len(of_hostapd) >= 2 and not has_tables or of_hostapd == ["interface"] and not has_tables and "ssid" in keys:
         number = next(number for number, line in enumerate(source.lines, 1) if line.startswith(of_hostapd[0]))
         return Finding("this is a configuration of hostapd, and the program has its own keys, in TOML",
                        source.place(number, 1, len(of_hostapd[0])),
@@ -199,14 +200,40 @@ def of_trace(source: Source, place: Place, line: str, wants_trace: bool) -> Find
         if line == "---\r":
             return Finding("this line ends with CR LF, so it isn't the line `---` between a configuration and its "
                            "trace", where, "`sed 's/\\r$//'` takes the CRs off")
-        return Finding("this isn't the line `---` between a configuration and its trace", where,
+        return Finding(f"this isn't the line `---` between a configuration and its trace{unlike_separator(line)}", where,
                        "write three hyphens, and nothing before or after them" + ("" if wants_trace else
                                                                                   ", in a text for standard input"))
+    if TRACE_LINE.fullmatch(line) and wants_trace:
+        return of_trace_line(source, place, where)
     if TRACE_LINE.fullmatch(line):
-        advice = "write a line `---` before the trace" if wants_trace else \
-            "the trace has a file of its own behind the configuration's; in one text a line `---` stands before it"
+        advice = "the trace has a file of its own behind the configuration's; in one text a line `---` stands before it"
         return Finding("this is a line of a trace, and belongs to no configuration", where, advice)
     return None
+
+
+def unlike_separator(line: str) -> str:
+    """What makes a line another one than `---`."""
+    text = line.strip()
+    if text == "---":
+        return ": a blank stands " + ("before" if line[0] != "-" else "behind") + " it"
+    if not text.strip("-"):
+        return f": it has {len(text)} hyphens"
+    return ": a remark stands behind it" if text.startswith("---") else ""
+
+
+def of_trace_line(source: Source, place: Place, where: Place) -> Finding:
+    """A line of a trace before which the line `---` is missing, or the configuration."""
+    said = "this is a line of a trace, and belongs to no configuration"
+    numbers = [number for number in range(1, place.line) if source.line(number).strip()]
+    before = [number for number in numbers if not source.line(number).lstrip().startswith("#")]
+    hidden = next((number for number in reversed(numbers) if HIDDEN_SEPARATOR.fullmatch(source.line(number))), None)
+    if hidden and hidden > max(before, default=0):
+        return Finding(f"{said}; the line `---` before it is a remark, since it begins with `#`",
+                       source.place(hidden, 1, len(source.line(hidden))), "write `---` alone there")
+    if not before:
+        return Finding(f"{said}: the configuration is missing, which comes first, before a line `---`", where,
+                       "write the configuration and a line `---` before the trace")
+    return Finding(said, where, "write a line `---` before the trace")
 
 
 def of_joined(source: Source, place: Place, line: str, wants_trace: bool) -> Finding | None:

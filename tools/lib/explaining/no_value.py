@@ -45,6 +45,10 @@ def of_value(place: Place, line: str, fault: NoToml, source: Source) -> Finding:
 def of_value_of(place: Place, text: str, key: str) -> Finding:
     """What is wrong with a value of this key."""
     name = key or "the key"
+    is_last = place.line == len(place.source.lines)
+    if text and is_last and key in OPTIONS and any(word.startswith(text) for word in ("true", "false")):
+        return Finding("the text ends within this line: it wasn't written or copied to its end", place,
+                       f"`{key}` is `true` or `false`")
     if not text:
         return Finding(f"`{name}` has no value", place, f"write `{key} = {SAMPLES[key]}`" if key in SAMPLES else None)
     if text.startswith("#"):

@@ -17,7 +17,10 @@ MARKUP = re.compile(r"<[?!/]?[A-Za-z][\w:-]*(?: +[\w:-]+=[\"'][^>]*| */?)>|<[?!]
 COMMAND = re.compile(r"(?:tools/|waltigon-)?frame +(?:probe|auth|(?:re)?join|disassoc|deauth|data|null|poll|wired)\b")
 DUMP_HEAD = re.compile(r"(?:\d{4}-\d\d-\d\d )?\d\d:\d\d:\d\d\.\d{3,9} ")
 ADDRESS = r"[0-9A-Fa-f]{2}(?::[0-9A-Fa-f]{2}){5}"
-LEAST_LINES, LEAST_KEYS = 2, 2
+LEAST_LINES, LEAST_KEYS, MOST_BESIDE = 2, 2, 1
+# A line of a trace, or one of a configuration with one of its keys.
+OWN = re.compile(r"(?:[AW] +[0-9A-Fa-f][0-9A-Fa-f: ]{9,}|T)|"
+                 rf"(?:{'|'.join(RADIO_KEYS + NETWORK_KEYS + OPTIONS)})\s*=\s*\S.*|\[\[network\]\]")
 
 
 class Writer(NamedTuple):
@@ -64,6 +67,25 @@ SHOWING = (
     writer(r"[A-Z][a-z]{2} [ \d]\d \d\d:\d\d:\d\d \S+ [\w@./-]+(?:\[\d+\])?: .*",
            "a log of the system, as `journalctl` prints it"),
     writer(r"(?:<\d>)?\[ *\d+\.\d+\] \D.*", "a log of the kernel, as `dmesg` prints it"),
+    writer(r"(?:From|To|Cc|Subject|Date|Received|Message-ID|MIME-Version|Content-(?:Type|Transfer-Encoding)|"
+           r"X-[\w-]+): .*", "the head of an e-mail", 2),
+    writer(r" +% +Total +% +Received.*|curl: \(\d+\) .*|--\d{4}-\d\d-\d\d [\d:]+--  \S+|Resolving \S+ \(.*",
+           "what curl or wget prints"),
+    writer(r"HTTP/[\d.]+ \d{3}.*", "what a server of the web answers"),
+    writer(r"[-dl](?:[r-][w-][xsS-]){2}[r-][w-][xtT-][.+]? +\d+ .*", "what `ls -l` prints"),
+    writer(r"(?:(?:-?(?:ba|da|z|k)?sh|sudo|\S+): (?:line )?(?:\d+: )?)?(?:\S+: )?(?:command not found|No such file or "
+           r"directory|Permission denied|Is a directory)(?:: \S+)?", "an error that a shell or a command tells"),
+    writer(r"Traceback \(most recent call last\):|  File \".*\", line \d+.*", "an error of a program in Python"),
+    writer(r"make(?:\[\d+\])?: .*", "what make prints"),
+    writer(r"PING \S+ \(.*|\d+ bytes from \S+: .*", "what ping prints"),
+    writer(r"[\w.@-]+: flags=\d+<.*|\w+ +Link encap:.*", "what ifconfig prints"),
+    writer(r"commit [0-9a-f]{40}|On branch \S+|Author: .* <.*>", "what git prints"),
+    writer(r"[\u25cf\u25cb\u00d7] [\w@.-]+\.service.*|     (?:Loaded|Active): .*", "what systemctl prints"),
+    writer(r"tcpdump: .*|listening on \S+, link-type .*|\d+ packets (?:captured|received by filter).*",
+           "what tcpdump says of itself"),
+    writer(r"(?:[^\s:]*[A-Za-z][^\s:]*|standard input):\d+(?::\d+)?: .*|  +\| +\^+", "what tools/explain prints"),
+    writer(r"[0-9a-f]{4,} {2,}(?:Frame Control|Duration|AID|Address \d|Sequence Control)(?:: .*)?",
+           "what tools/frame prints of a frame, field by field"),
 )
 # Programs that show frames in words.
 OF_FRAMES = (
@@ -91,15 +113,19 @@ def whole_of(source: Source, number: int):
     return source.place(number, 1, len(source.line(number).rstrip()) or 1)
 
 
-def writes(source: Source, writers: Iterable[Writer]) -> Writer | None:
-    """The first of these programs whose lines stand in a text."""
+def writes(source: Source, number: int, writers: Iterable[Writer]) -> Writer | None:
+    """The first of these programs whose lines stand in a text; where lines of this program stand there too, those in or
+    beside this line alone."""
     lines = [line.rstrip() for line in source.lines]
-    return next((one for one in writers if sum(bool(one.line.fullmatch(line)) for line in lines) >= one.least), None)
+    near = lines[max(0, number - 1 - MOST_BESIDE):number + MOST_BESIDE]
+    is_mixed = any(map(OWN.fullmatch, lines))
+    return next((one for one in writers if sum(bool(one.line.fullmatch(line)) for line in lines) >= one.least and (
+        not is_mixed or any(map(one.line.fullmatch, near)))), None)
 
 
 def of_configured(source: Source, number: int) -> Finding | None:
     """Another program's configuration."""
-    found = writes(source, CONFIGURED)
+    found = writes(source, number, CONFIGURED)
     return found and Finding(f"this is {found.what}, and the program has its own keys, in TOML",
                              whole_of(source, number), own_sample())
 
@@ -111,14 +137,14 @@ def own_sample() -> str:
 
 def of_shown(source: Source, number: int) -> Finding | None:
     """What another program prints or logs."""
-    found = writes(source, SHOWING)
+    found = writes(source, number, SHOWING)
     return found and Finding(f"this is {found.what}, and neither a configuration nor a trace", whole_of(source, number),
                              f"{own_sample()}, {called.document('FIRST_TRACE.md')} a trace")
 
 
 def of_frames(source: Source, number: int) -> Finding | None:
     """Frames in words."""
-    found = writes(source, OF_FRAMES)
+    found = writes(source, number, OF_FRAMES)
     return found and Finding(f"this is {found.what}, and a trace has its octets", whole_of(source, number),
                              of_capture())
 

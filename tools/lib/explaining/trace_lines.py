@@ -15,7 +15,7 @@ from explaining.report_lines import kind_of, of_report
 from explaining.source import Finding, Source, in_full, odd_blank, plain_letter, plain_text, quoted
 from explaining.unheard import is_slip
 
-MOST_OCTETS, MOST_LINES, MOST_NAMED = 4096, 1_000_000, 4
+MOST_OCTETS, MOST_LINES, MOST_NAMED, MOST_LOOKED = 4096, 1_000_000, 4, 10_000
 DIGITS = re.compile("[0-9A-Fa-f]{12,}")
 OTHER_WORDS = {"A": "A", "AIR": "A", "RX": "A", "HEARD": "A", "W": "W", "WIRE": "W", "ETH": "W", "T": "T", "TICK": "T",
                "TBTT": "T", "BEACON": "T", "INTERVAL": "T", "WAIT": "T", "SLEEP": "T", "DELAY": "T", "CLOCK": "T"}
@@ -23,6 +23,7 @@ MARKS_BEFORE = r"[>+$|*\u2022\u2192\u21d2\u203a\u00bb\u25b6\u2013\u2014\u2713\u2
 BEFORE_WORD = re.compile(rf"(\s*(?:(?:\d+ *[|:.)\t] ?|->|=>|{MARKS_BEFORE}) ?|"
                          r"[\[(]?[\d.,:TZ/-]*\d[\d.,:TZ/-]*[\])]?[:,]? +))"
                          r"(?=[AW] +[0-9A-Fa-f]|T$|#)")
+QUOTES = ("\"", "'", "`", "\u201c", "\u2018", "\u00ab")
 SAMPLE, LEAST_ADDRESS, LIKE = "02:00:00:00:00:01", 4, 0.7
 
 
@@ -73,10 +74,13 @@ def of_word(source: Source, number: int, line: str, bssids: list[str]) -> Findin
     several = of_several_intervals(line, whole)
     if several:
         return several
-    if first.rstrip("\r") == "T" or re.fullmatch("T[\r\t].*", line):
+    if first.rstrip("\r") == "T" or re.fullmatch(r"T[\r\t].*|T[;,.:!]+", line):
         return of_tick(source, number, line)
     if "\r" in line:
         return with_returns(source, number, line)
+    page = copied_from_page(source, number, line)
+    if page:
+        return page
     table = of_fields(source, number, line) or of_table(source, number, line)
     if table:
         return table
@@ -125,6 +129,10 @@ def of_first_word(source: Source, number: int, line: str, bssids: list[str]) -> 
         return Finding(f"{quoted(first)} is no word of a trace; for a frame on a wire it is `W`, and then the BSSID of "
                        "the network whose wire it is", place,
                        f"write {in_full(f'W {bssids[0] if bssids else SAMPLE} {rest}')}; {having(bssids)}")
+    if word and first[:1] in QUOTES:
+        return Finding(f"{quoted(first[0])} stands around the line, and a trace has no quotes",
+                       source.place(number, 1, len(line)),
+                       f"write {in_full((word + ' ' + rest.strip()).strip() if word != 'T' else 'T')}")
     if word and word != first.upper() and not kind_of(line):
         return Finding(f"{quoted(first)} is no word of a trace; `{word}` is: `A` for a frame on the air, `W` for one "
                        "on a wire, `T` for a beacon interval", place,
@@ -159,9 +167,6 @@ def of_tick(source: Source, number: int, line: str) -> Finding:
 def of_other_text(source: Source, number: int, line: str, bssids: list[str]) -> Finding | None:
     """A line of another kind of text."""
     place = source.place(number, 1, len(line))
-    page = copied_from_page(source, number, line)
-    if page:
-        return page
     if re.match(r"[AW][0-9A-Fa-f]", line) or re.fullmatch(r"[aw][0-9A-Fa-f ]+", line) and \
             is_like(line[1:].replace(" ", ""), bssids):
         return Finding(f"a space stands after `{line[0].upper()}`", source.place(number, 1),
@@ -184,6 +189,9 @@ def of_other_text(source: Source, number: int, line: str, bssids: list[str]) -> 
     if include:
         return Finding("no other file is read from here: a trace is one text", place.part(include[0]),
                        "write that file's lines in this place")
+    signature = of_signature(source, number)
+    if signature:
+        return signature
     if REMARK.match(line):
         return Finding("a remark begins with `#`", source.place(number, 1, 2),
                        f"write {in_full('# ' + remark_of(line))}")
@@ -208,6 +216,16 @@ def of_other_text(source: Source, number: int, line: str, bssids: list[str]) -> 
                        place.part(first), f"write {in_full(f'A {digits}')}")
     return Finding(f"{quoted(first)} is no word of a trace: a line begins with `A`, `W` or `T`, or with `#`",
                    source.place(number, 1, len(first)), f"where it is a remark write {in_full(f'# {line.strip()}')}")
+
+
+def of_signature(source: Source, number: int) -> Finding | None:
+    """The line `-- ` with which the signature of a mail begins, and no line of a trace behind it."""
+    rest = [line for line in source.lines[number:] if line.strip()]
+    if not re.fullmatch(r"-- ?", source.line(number).rstrip("\r")) or not rest or \
+            any(re.match(r"[AW] |T\s*$|#", line) for line in rest):
+        return None
+    return Finding("the signature of a mail begins here, and belongs to no trace", source.place(number, 1, 2),
+                   "leave this line out, and those behind it")
 
 
 def of_name(source: Source, number: int, line: str, names: dict[str, str]) -> Finding | None:
@@ -256,6 +274,12 @@ def of_address(source: Source, number: int, line: str, bssids: list[str]) -> Fin
         return Finding(f"after `W` a network is named by its address, and {quoted(word)} is none", whole,
                        having(bssids) if bssids else None)
     place = source.place(number, match.start(1) + 1 + span[0], span[1] - span[0])
+    second = re.match(r" +((?:[0-9A-Fa-f]{2}:){5}[0-9A-Fa-f]{2})\b", line[match.end():])
+    if second and second[1].lower() in map(str.lower, bssids) and DIGITS.fullmatch(word):
+        rest = f"{word} {line[match.end() + second.end():].strip()}"
+        return Finding(f"the network {second[1]} stands behind the destination, and comes first after `W`",
+                       source.place(number, match.start(1) + 1, len(word) + second.end()),
+                       f"write {in_full(f'W {second[1]} {rest}')}")
     if DIGITS.fullmatch(word) and (mended is None or mended not in map(str.lower, bssids)):
         return Finding("after `W` the BSSID is missing, the address of the network whose wire it is, before the frame",
                        whole, f"write {in_full(f'W {some} {word}')}" + (f"; {having(bssids)}" if bssids else ""))
@@ -275,11 +299,25 @@ def of_network(source: Source, number: int, line: str, bssids: list[str]) -> Fin
     if not match or match[1].lower() in (bssid.lower() for bssid in bssids):
         return None
     word, listed = match[1].lower(), [bssid.lower() for bssid in bssids]
+    sender = line_of_sender(source, word)
+    if sender:
+        return Finding(f"{match[1]} is the address of a station, which sends line {source.first + sender - 1}, and "
+                       "after `W` the network stands whose wire it is",
+                       source.place(number, match.start(1) + 1, len(match[1])), f"write `W {bssids[0]}`; {having(bssids)}"
+                       if bssids else None)
     close = [bssid for bssid in listed if is_slip(word, bssid)] or difflib.get_close_matches(word, listed, 1, 0.8)
     has = having(bssids)
     return Finding(f"no network of the configuration has the address {match[1]}",
                    source.place(number, match.start(1) + 1, len(match[1])),
                    f"write {close[0]}, or a network with this address; {has}" if close else has)
+
+
+def line_of_sender(source: Source, address: str) -> int | None:
+    """The first line on the air that a sender of this address has."""
+    digits = address.replace(":", "")
+    frames = ((at, line[1:].replace(" ", "").lower()) for at, line in enumerate(source.lines[:MOST_LOOKED], 1)
+              if line.startswith("A "))
+    return next((at for at, frame in frames if frame[20:32] == digits), None)
 
 
 def of_length(source: Source, number: int, line: str, bssids: list[str]) -> Finding | None:

@@ -2,6 +2,7 @@
 all."""
 from collections.abc import Iterable
 
+import called
 from explaining.check_sequences import LEAST_LEN
 from explaining.reason import Reason
 from explaining.repairs import repaired
@@ -13,6 +14,9 @@ NAMING = (PROBE_REQUEST, ASSOCIATION_REQUEST, REASSOCIATION_REQUEST)
 def unheard(octets: bytes, networks: dict[bytes, str]) -> Reason | None:
     """The reason, for networks with these addresses and names; None where nothing but the address itself is to be
     said."""
+    if not octets:
+        return Reason("no frame stands behind `A`: the line ends there", None,
+                      f"write its digits, as {called.document('FIRST_TRACE.md')} has them")
     if len(octets) < LEAST_LEN:
         return Reason(f"it has {len(octets)} octets, and no network takes fewer than {LEAST_LEN}", (0, len(octets)))
     frame = Frame(octets)

@@ -141,6 +141,8 @@ def of_another_program(source: Source) -> Finding | None:
 
 def of_order(texts: Texts) -> Finding | None:
     """A trace where the configuration is looked for, and a configuration behind it."""
+    if texts.is_joined and texts.config and texts.traces and texts.traces[0] and texts.has_separator:
+        return of_joined_order(texts.config, texts.traces[0])
     behind = next((trace for trace in texts.traces if trace and "[[network]]" in trace.text), None)
     if texts.words[:1] not in ([name] for name in words.SUBCOMMANDS) or texts.config is None:
         return None
@@ -162,6 +164,16 @@ def of_order(texts: Texts) -> Finding | None:
     others = [other.name for other in texts.traces if other and other is not behind]
     return Finding(f"{trace} is a trace, and {config} a configuration: the configuration comes first", None,
                    f"write `{' '.join([texts.words[0], config, trace, *others])}`")
+
+
+def of_joined_order(config: Source, trace: Source) -> Finding | None:
+    """A text with its trace before the line `---`, and its configuration behind it."""
+    first = next((number for number, line in enumerate(config.lines, 1) if line.strip() and line[:1] != "#"), None)
+    if first is None or not no_toml.TRACE_LINE.fullmatch(config.line(first)) or "[[network]]" in config.text or \
+            "[[network]]" not in trace.text:
+        return None
+    return Finding("the trace stands before the line `---`, and the configuration behind it: the configuration comes "
+                   "first", config.place(first, 1, len(config.line(first))), "write the two in each other's place")
 
 
 def config_beside(name: str) -> str | None:
