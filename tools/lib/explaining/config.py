@@ -11,6 +11,7 @@ from explaining.in_remarks import header_in_remark, key_in_remark, of_header
 from explaining.keys import LISTED, NETWORK_KEYS, NETWORK_LIMITS, OPTIONS, RADIO_KEYS, RADIO_LIMITS, SAMPLES, meant
 from explaining.numbers_meant import number_finding
 from explaining.rates_meant import rates_fault, rates_in
+from explaining.same_again import MOST_NAMED, QUOTED
 from explaining.source import Finding, Place, Source, is_odd_blank, odd_blank, quoted
 from explaining.toml_scan import Entry, NoToml, Value
 from explaining.unlisted import line_with, unlisted_findings
@@ -42,12 +43,28 @@ def explain(source: Source, fault: Fault) -> list[Finding]:
     if fault.network is None or fault.network >= len(config.networks):
         return []
     network = config.networks[fault.network]
-    if fault.code == "C11":
-        return list(dict.fromkeys(finding for key, limits in NETWORK_LIMITS.items() for finding in number_findings(
-            config, network.entries, key, limits, in_network(config, network))))
-    parts = {"C8": bssid_findings, "C9": ssid_findings, "C10": rates_findings, "C12": known_findings,
-             "C13": option_findings}
-    return parts[fault.code](config, network) if fault.code in parts else []
+    parts = {"C8": bssid_findings, "C9": ssid_findings, "C10": rates_findings, "C11": limit_findings,
+             "C12": known_findings, "C13": option_findings}
+    part = parts.get(fault.code)
+    if part is None:
+        return []
+    later = [finding for other in config.networks[fault.network + 1:] for finding in part(config, other)]
+    return [with_later(finding, later) for finding in part(config, network)]
+
+
+def with_later(finding: Finding, later: list[Finding]) -> Finding:
+    """A finding with the lines of later networks of which the same is to be said."""
+    numbers = [str(other.place.source.first + other.place.line - 1) for other in later
+               if other.place and QUOTED.sub("`", other.text) == QUOTED.sub("`", finding.text)]
+    more = f" and {len(numbers) - MOST_NAMED} more" * (len(numbers) > MOST_NAMED)
+    also = f"; so in line{'s' * (len(numbers) > 1)} {', '.join(numbers[:MOST_NAMED])}{more}" if numbers else ""
+    return replace(finding, text=finding.text + also)
+
+
+def limit_findings(config: Config, network: NetworkTable) -> list[Finding]:
+    """C11."""
+    return list(dict.fromkeys(finding for key, limits in NETWORK_LIMITS.items() for finding in number_findings(
+        config, network.entries, key, limits, in_network(config, network))))
 
 
 def entries_of(config: Config, fault: Fault) -> list[Entry]:

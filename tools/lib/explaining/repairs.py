@@ -17,7 +17,9 @@ USUAL_CAPABILITY, USUAL_FIXED, USUAL_FLAGS, TWO_HIGH_BITS = b"\1\0", b"\1\0\x0a\
 RADIOTAP_MOST, MOST_STEPS = 64, 4
 # The octets of control frames, and subtypes of management frames that nobody sends.
 CONTROL_LENGTHS, UNUSED = {8: 20, 9: 32, 10: 16, 11: 16, 12: 10, 13: 10, 14: 16, 15: 16}, (7, 15)
-QOS_SUBTYPES = (8, 12)
+QOS_SUBTYPES, EXTENSION = (8, 12), 3
+# Association, reassociation and probe responses, beacons and ATIMs: stations send an access point none of them.
+ANSWERS = (1, 3, 5, 8, 9)
 CURRENT = "the BSSID of the access point that the station comes from"
 NO_CURRENT = "it is associated with none of these networks, and an association request, which has no such field, " \
     "begins with `0000`"
@@ -93,6 +95,11 @@ def of_control(octets: bytes) -> Iterator[tuple[bytes, Reason]]:
                                          f"differs from `{begin.hex()}`, with which "
                                          f"{kind_text(begin + octets[2:])} begins",
                                          (0, 2), f"write `{begin.hex()}`")
+    if Frame(octets).type != DATA and octets[HEADER_LEN:].startswith(SNAP):
+        mended = bytes([PLAIN_DATA << 4 | DATA << 2, 1])
+        yield mended + octets[2:], Reason(f"LLC and SNAP, `{SNAP.hex()}`, stand behind the header, as in a Data frame, "
+                                          f"and {kind_text(octets)} begins with `{octets[:2].hex()}`", (0, 2),
+                                          f"write `{mended.hex()}`")
     if len(octets) >= HEADER_LEN and Frame(octets).type == DATA and not octets[1] & 3:
         mended = bytes([octets[0], octets[1] | 1])
         yield mended + octets[2:], Reason("To DS is 0, and data of a station has To DS 1", (1, 2),
@@ -106,6 +113,8 @@ def typed_for(octets: bytes) -> Iterator[bytes]:
     is_other = frame.type == CONTROL and len(octets) > CONTROL_LENGTHS.get(frame.subtype, 0) or \
         frame.type == MANAGEMENT and frame.subtype in UNUSED or frame.type == DATA and frame.subtype not in (
             0, 4, *QOS_SUBTYPES) or frame.type != CONTROL and len(octets) == POLL_LEN
+    is_answer = frame.type == MANAGEMENT and frame.subtype in ANSWERS and not is_group(frame.receiver)
+    is_other = is_other or is_answer or frame.type == EXTENSION
     written = octets[:2].hex()
     for begin in sorted(BEGINNINGS) if is_other else ():
         if sum(mine != due for mine, due in zip(written, begin.hex())) == 1:

@@ -2,12 +2,12 @@
 are full. All of it is told from the trace and the report; it changes nothing of the report."""
 from collections import Counter
 from collections.abc import Iterable, Iterator
-from dataclasses import dataclass, field
 
 import called
 from explaining import odd_config
 from explaining.check_sequences import FCS_LEN, LEAST_LEN, ends_with_fcs, octets_too_many
-from explaining.configuration import NetworkTable, networks_of, number_of
+from explaining.configuration import Keys, networks_of
+from explaining.hearing import Hearing
 from explaining.joined import of_joined_frames
 from explaining.intervals import of_each_network
 from explaining.kept import GroupUnits, of_kept
@@ -16,16 +16,14 @@ from explaining.outcomes import Outcomes, What, is_told_in_sum
 from explaining.reason import Reason
 from explaining.repeated import repeated
 from explaining.several import of_intervals, of_order
-from explaining.source import Finding, Source, in_order, quoted
+from explaining.source import Finding, Source, in_order
 from explaining.spans import also_in, place_of, place_of_octets
+from explaining.statuses import name_asked_for, of_full_table, of_statuses
 from explaining.unread import unread, wired_unread
 from explaining.wired_types import TYPES, of_wired_types
-from frames import (ASSOCIATION_REQUEST, ASSOCIATION_RESPONSE, AUTHENTICATION, BROADCAST, DATA, DEAUTHENTICATION,
-                    DISASSOCIATION, HEADER_LEN, MANAGEMENT, PROBE_REQUEST, REASSOCIATION_REQUEST,
-                    REASSOCIATION_RESPONSE, SSID, Frame, address_text, elements, first_of, is_group, number)
+from frames import BROADCAST, DATA, Frame, address_text, is_group, number
 from progress import Progress
-from reading import hears, unread_kind, wired_unread_kind
-from texts import Line, Section, frames_text, read_report, trace_line
+from texts import Line, frames_text, read_report, trace_line
 
 MOST_NAMED, MOST_UNITS, QOS = 3, 8, 0x80
 RECEIVER, SENDER, WIRED_LEN = (4, 10), (10, 16), 14
@@ -34,56 +32,12 @@ MAKES_TRACES = called.fellow("trace-from-capture")
 WITH_SEQUENCES = {"A": ("the air", f"leave these eight digits out, as {MAKES_TRACES} does; a probe or an association "
                         "request with it is unread, and a unit is passed on with it"),
                   "W": ("a wire", "leave it out: it is passed on as a part of the unit")}
-FIXED_BEFORE_ELEMENTS = {PROBE_REQUEST: 0, ASSOCIATION_REQUEST: 4, REASSOCIATION_REQUEST: 10}
 KINDS = {"U1": "shorter than a header", "U2": "of another version of the protocol",
          "U3": "of a kind that isn't read (beacons, control and action frames)",
          "U4": "encrypted, fragments, or with an HT Control field",
          "U5": "not to the access point by To DS and From DS",
          "U6": "with addresses that aren't those of a station and this network",
          "U7": "whose body hasn't the fields of its kind", "U8": "longer than a frame may be"}
-
-
-@dataclass
-class Hearing:
-    """What one network took of a trace: its events, those that it can't read by their kind, and the rest."""
-
-    section: Section
-    table: NetworkTable | None
-    heard: list[Line] = field(default_factory=list)
-    unread: dict[str, list[Line]] = field(default_factory=dict)
-    past_history: list[Line] = field(default_factory=list)
-
-    @property
-    def name(self) -> str:
-        """The network, for a person."""
-        return f"network {address_text(self.section.bssid)} ({self.section.name})"
-
-    def limit(self, key: str) -> int | None:
-        """A number of its configuration."""
-        return number_of(self.table.entries.get(key)) if self.table else None
-
-    def has_frames_of_its_own(self) -> bool:
-        """Whether it took a frame that is to it and not to all."""
-        return any(line.kind == "W" or line.kind == "A" and line.octets[4:10] == self.section.bssid
-                   for line in self.heard)
-
-    def count(self, kind: str) -> int:
-        """How many lines of a kind it took."""
-        return sum(line.kind == kind for line in self.heard)
-
-    def take(self, line: Line) -> None:
-        """Counts a line, where the network takes it."""
-        bssid = self.section.bssid
-        if line.kind == "A" and not hears(bssid, line.octets) or line.kind == "W" and line.bssid != bssid:
-            return
-        if len(self.heard) == self.section.events:
-            self.past_history.append(line)
-            return
-        self.heard.append(line)
-        if line.kind != "T":
-            kind = unread_kind(bssid, line.octets) if line.kind == "A" else wired_unread_kind(line.octets)
-            if kind:
-                self.unread.setdefault(kind, []).append(line)
 
 
 def odd(config: Source, traces: list[Source], output: str, has_separator: bool,
@@ -285,7 +239,9 @@ def of_network(hearing: Hearing, traces: list[Source], outcomes: Outcomes | None
         first = hearing.past_history[0]
         findings.append(Finding(f"{hearing.name}: its history is full, `max_events = {section.events}`: it takes "
                                 f"nothing more from this line on; left out: {len(hearing.past_history)}",
-                                place_of(traces, first), "as many as the trace has lines are always enough"))
+                                place_of(traces, first), "as many as the trace has lines are always enough" +
+                                (f"; `max_events` stands{where}" if
+                                 (where := Keys(hearing.table, config).where("max_events")) else "")))
     findings += of_unread(hearing, traces, outcomes) + of_full_table(hearing)
     findings += [] if outcomes else of_statuses(hearing, len(traces) > 1)
     if section.lost and not outcomes:
@@ -371,72 +327,6 @@ def of_reasons(hearing: Hearing, homes: dict[int, Source]) -> list[Finding]:
         rest = sum(map(len, list(groups.values())[MOST_NAMED:]))
         findings += [Finding(f"{hearing.name}: events unread ({kind}) for other reasons: {rest}")] * (rest > 0)
     return findings
-
-
-def of_statuses(hearing: Hearing, are_several: bool) -> list[Finding]:
-    """Requests that were refused, by the statuses and reasons of the answers, of one trace or of several."""
-    section, findings = hearing.section, []
-    sent = Counter(answer for answer in map(answer_of, section.air) if answer)
-    known, stations = hearing.limit("max_known"), hearing.limit("max_stations")
-    texts = {
-        (AUTHENTICATION, 1): ("authentications refused with status 1", f"`max_known = {known}` is reached, and a "
-                              "station stays known until it deauthenticates"),
-        (AUTHENTICATION, 13): ("authentications refused with status 13", "they weren't Open System (WEP, SAE, FT)"),
-        (AUTHENTICATION, 14): ("authentications refused with status 14", "their sequence number wasn't 1"),
-        (ASSOCIATION_RESPONSE, 17): ("associations refused with status 17", f"`max_stations = {stations}` is reached"),
-        (ASSOCIATION_RESPONSE, 18): ("associations refused with status 18", "the station hasn't a basic rate of "
-                                     "`rates`, whose high bit makes it basic"),
-        (DEAUTHENTICATION, 6): ("requests answered by a deauthentication, reason 6", "the station is unknown"),
-        (DEAUTHENTICATION, 7): ("frames answered by a deauthentication, reason 7", "the station is unknown: it joined "
-                                "before the trace begins, or not at all"),
-        (DISASSOCIATION, 7): ("frames answered by a disassociation, reason 7", "the station isn't associated")}
-    for answer, (what, reason) in texts.items():
-        if sent[answer]:
-            order = "; only the lines of one trace keep their order, so what another says may come before or after" \
-                if are_several and answer[0] in (DEAUTHENTICATION, DISASSOCIATION) else ""
-            findings.append(Finding(f"{hearing.name}: {what}: {sent[answer]} ({reason}{order})"))
-    if sent[ASSOCIATION_RESPONSE, 1]:
-        names = Counter(name for line in hearing.heard if (name := name_asked_for(line)) is not None
-                        and name != section.ssid and not Frame(line.octets).is_management(PROBE_REQUEST))
-        asked = ", ".join(quoted(name.decode("utf-8", "replace")) for name, _ in names.most_common(MOST_NAMED))
-        findings.append(Finding(f"{hearing.name}: associations refused with status 1: {sent[ASSOCIATION_RESPONSE, 1]} "
-                                f"(they named another SSID{f', {asked},' if asked else ''} than "
-                                f"{quoted(section.ssid.decode('utf-8', 'replace'))})"))
-    return findings
-
-
-def of_full_table(hearing: Hearing) -> list[Finding]:
-    """A network that knows as many stations as it may, and has refused none yet."""
-    known = hearing.limit("max_known")
-    refused = any(answer_of(octets) == (AUTHENTICATION, 1) for octets in hearing.section.air)
-    if known != len(hearing.section.stations) or refused:
-        return []
-    return [Finding(f"{hearing.name}: it knows as many stations as it may, `max_known = {known}`: each new one will be "
-                    "refused (status 1)")]
-
-
-def answer_of(octets: bytes) -> tuple[int, int] | None:
-    """The kind of an answer that refuses, and its status or reason; both kinds of association response are one."""
-    frame = Frame(octets)
-    if frame.type != MANAGEMENT:
-        return None
-    at = {AUTHENTICATION: 4, ASSOCIATION_RESPONSE: 2, REASSOCIATION_RESPONSE: 2, DEAUTHENTICATION: 0,
-          DISASSOCIATION: 0}.get(frame.subtype)
-    if at is None:
-        return None
-    status = number(frame.body[at:at + 2])
-    kind = ASSOCIATION_RESPONSE if frame.subtype == REASSOCIATION_RESPONSE else frame.subtype
-    return (kind, status) if status else None
-
-
-def name_asked_for(line: Line) -> bytes | None:
-    """The SSID that a probe or an association request names."""
-    frame = Frame(line.octets)
-    if line.kind != "A" or len(line.octets) < HEADER_LEN or frame.type != MANAGEMENT or \
-            frame.subtype not in FIXED_BEFORE_ELEMENTS:
-        return None
-    listed = elements(frame.body[FIXED_BEFORE_ELEMENTS[frame.subtype]:])
-    return first_of(listed, SSID) if listed else None
 
 
 def of_roaming(hearings: list[Hearing]) -> list[Finding]:
