@@ -10,6 +10,7 @@ from collections import Counter
 from types import SimpleNamespace
 
 import mistakes
+import mistakes_by_cause
 import mistakes_of_people
 from common import CASES, PROGRAM, ROOT, THREE, ToolTest, heard, input_of, needs_program, tool, with_report
 from explaining import odd_config, whole
@@ -25,7 +26,7 @@ from reading import hears, request_of, unread_kind, wired_unread_kind
 from records import record
 from texts import read_text
 
-TEXTS = mistakes.TEXTS + mistakes_of_people.TEXTS
+TEXTS = mistakes.TEXTS + mistakes_of_people.TEXTS + mistakes_by_cause.TEXTS
 LEAST_ROWS, LEAST_OF_EACH, MUTATIONS = 100, 4, 10_000
 TEXT_CODES = [f"C{number}" for number in range(1, 14)] + [f"L{number}" for number in range(1, 6)]
 OTHER_FAULT = re.compile(r"\b(?:C\d+|L\d|F[234])\b")
@@ -334,7 +335,7 @@ class Mistakes(ToolTest):
     def test_words_and_files(self):
         """Wrong words, and files that can't be read: the program's line, its status and the cause."""
         self.folder_with_files()
-        for words, said, says in WORDS + FILES:
+        for words, said, says in WORDS + FILES + mistakes_by_cause.WORDS + mistakes_by_cause.FILES:
             status, found = self.run_tool(*words)
             self.assertEqual(found.split("\n")[0], said, words)
             self.assertEqual(status, {"words": 2, "file": 4, "sources": 1}[said.split()[1]], words)

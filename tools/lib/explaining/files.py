@@ -58,19 +58,24 @@ def missing_file(name: str, advice: str | None, reason: OSError) -> Finding:
     if longer:
         return Finding(f"{quoted(name)} isn't there, and {quoted(longer)} is", None,
                        f"write {longer}, or rename it: editors and browsers add an ending to a name")
-    try:
-        files = {file.lower(): file for file in filter(like(name), os.listdir(folder))}
-        base = os.path.basename(name).lower()
-        whole = {file.lower().replace(".", ""): file for file in os.listdir(folder)}
-        if base.replace(".", "") in whole:
-            files = {base: whole[base.replace(".", "")]}
-        close = [files[file] for file in difflib.get_close_matches(os.path.basename(name).lower(), files, 1, LIKE)]
-    except OSError:
-        close = []
+    close = nearest_file(name, folder)
     if close and not advice:
-        advice = f"`{os.path.join(os.path.dirname(name), close[0])}` is there, and may be meant"
+        advice = f"`{os.path.join(os.path.dirname(name), close)}` is there, and may be meant"
     where = f"the folder {os.path.realpath(folder)} has none of this name"
     return Finding(f"{quoted(name)} isn't there: {where}", None, advice)
+
+
+def nearest_file(name: str, folder: str) -> str | None:
+    """The file of a folder that a name may mean: the same but for its dots, or nearly the same."""
+    base = os.path.basename(name).lower()
+    try:
+        there = os.listdir(folder)
+    except OSError:
+        return None
+    files = {file.lower(): file for file in filter(like(name), there)}
+    close = [files[file] for file in difflib.get_close_matches(base, files, 1, LIKE)]
+    dotless = (file for file in there if base and file.lower().replace(".", "") == base.replace(".", ""))
+    return next(dotless, None) or next(iter(close), None)
 
 
 def with_more(name: str, folder: str) -> str | None:

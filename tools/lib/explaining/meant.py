@@ -5,7 +5,7 @@ from typing import NamedTuple
 from explaining.nothing import Looked, slip_of_group, with_data
 from explaining.past import home_of, station_in
 from explaining.reason import Lack, Reason
-from explaining.refused import DECIMAL_ID
+from explaining.rates_lacking import DECIMAL_ID
 from explaining.stations_meant import of_disassociation, of_mode, of_waking
 from explaining.unheard import nearest
 from explaining.units_meant import of_unit

@@ -98,8 +98,8 @@ def of_other_language(source: Source, place: Place, text: str) -> Finding | None
         return Finding(f"`{behind[1]}` stands before the key, and a line begins with its key", place.part(behind[1]),
                        f"write `{key} = " + (f'"{rates[2]}"' if rates and rates[2] else value) + "`")
     if OPENWRT.fullmatch(text):
-        return Finding(f"`{text.split()[0]}` begins a line of OpenWrt's configuration, and here a line is a key, `=` and a "
-                       "value", place, "leave the line out, or write the program's own key")
+        return Finding(f"`{text.split()[0]}` begins a line of OpenWrt's configuration, and here a line is a key, `=` "
+                       "and a value", place, "leave the line out, or write the program's own key")
     if is_yaml(source, place.line):
         return Finding("this is YAML, and a configuration is TOML", place, FOR_YAML)
     if text.startswith("<") and not is_network(text):

@@ -17,7 +17,8 @@ from explaining.toml_scan import NoToml, scan
 
 TRACE_LINE = re.compile(r"(?:[AW] +[0-9A-Fa-f: ]{4,}|T|A|W)\s*\r?")
 REPORT_LINE = re.compile(r"network [0-9a-f:]{17} ssid [0-9a-f]*|(?:air|wire) [0-9a-f]+|events \d+ clock \d+.*")
-SEPARATOR_LIKE = re.compile(r"\s*(?:-\s*){2,}\r?|\s*(?P<mark>[*_~+.])(?P=mark){2,}\s*|\s*-*[\u2010-\u2015\u2212][-\u2010-\u2015\u2212]*\s*"
+SEPARATOR_LIKE = re.compile(r"\s*(?:-\s*){2,}\r?|\s*(?P<mark>[*_~+])(?P=mark){2,}\s*|"
+                            r"\s*-*[\u2010-\u2015\u2212][-\u2010-\u2015\u2212]*\s*"
                             r"|\s*={3,}\s*|\s*-{3,}\s*#.*")
 HIDDEN_SEPARATOR = re.compile(r"\s*[#;/]+\s*-{3,}.*")
 NETWORK_OF_NAME = re.compile(r"^[ \t]*(\[\[? *network *\.[^\]\n]*\]\]?)", re.MULTILINE)
@@ -200,8 +201,9 @@ def of_trace(source: Source, place: Place, line: str, wants_trace: bool) -> Find
         if line == "---\r":
             return Finding("this line ends with CR LF, so it isn't the line `---` between a configuration and its "
                            "trace", where, "`sed 's/\\r$//'` takes the CRs off")
-        return Finding(f"this isn't the line `---` between a configuration and its trace{unlike_separator(line)}", where,
-                       "write three hyphens, and nothing before or after them" + ("" if wants_trace else
+        unlike = unlike_separator(line)
+        return Finding(f"this isn't the line `---` between a configuration and its trace{unlike}", where, "write three "
+                       "hyphens, and nothing before or after them" + ("" if wants_trace else
                                                                                   ", in a text for standard input"))
     if TRACE_LINE.fullmatch(line) and wants_trace:
         return of_trace_line(source, place, where)

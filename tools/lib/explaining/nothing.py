@@ -69,8 +69,9 @@ class Looked:
 
     def before_trace(self, address: bytes) -> str:
         """Why a station is unknown of which no line before tells."""
-        return f"no line before has it authenticate to {self.section.name}" if self.bssid + address in self.past.asking \
-            else "it joined before the trace begins, or never"
+        asks = self.bssid + address in self.past.asking
+        return f"no line before has it authenticate to {self.section.name}" if asks else \
+            "it joined before the trace begins, or never"
 
     def left(self) -> dict[bytes, int]:
         """The stations that disassociated, and are known, each with the number of the line by which it did."""

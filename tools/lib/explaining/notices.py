@@ -39,7 +39,8 @@ def notice(refusal: Refusal, looked: Looked, station: bytes) -> Reason:
     span = RECEIVER if is_to_other else SENDER
     told = whereabouts(looked.step, looked.bssid, station, looked.past)
     whose = f"; the identifier that it names is{owner.removeprefix(',')}" if owner else ""
-    return Reason(f"{said}: {why_unknown(looked, frame)}{whose}", span, UNMASK if remark else what_first(looked, frame, home),
+    return Reason(f"{said}: {why_unknown(looked, frame)}{whose}", span,
+                  UNMASK if remark else what_first(looked, frame, home),
                   None if told else Lack(looked.bssid, station, frame.type == DATA))
 
 

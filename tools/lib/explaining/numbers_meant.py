@@ -12,6 +12,7 @@ UNBOUNDED = ("unlimited", "infinite", "infinity", "inf", "none", "max", "maximum
              "\u221e", "off", "-1")
 BY_ITSELF = ("auto", "acs", "acs_survey", "automatic", "best", "any", "default", "random")
 BAND = re.compile(r"(?:2[.,]?4|5|6)\s*g(?:hz)?|2[.,]4|2g", re.I)
+WIDTH = re.compile(r"(?:V?HT|HE|EHT)\d+[+-]?|\d+MHZ_?WIDTH|NOHT", re.I)
 WORDS = ("zero", "one", "two", "three", "four", "five", "six", "seven", "eight", "nine", "ten", "eleven", "twelve")
 WORD = re.compile(rf"(?:a )?({'|'.join(WORDS)}|dozen)")
 NUMBER = r"([0-9]+(?:\.[0-9]+)?)"
@@ -37,6 +38,9 @@ def number_finding(place: Place, text: str, key: str, limits: tuple[int, int]) -
     if key == "channel" and BAND.fullmatch(plain):
         return Finding(f"{quoted(text)} is a band, and `channel` is one of the channels of 2.4 GHz, 1 to 14", place,
                        f"write one of 1, 6 or 11, as `channel = {SAMPLES[key]}`")
+    if key == "channel" and WIDTH.fullmatch(plain):
+        return Finding(f"{quoted(text)} is the width of a channel, and `channel` is its number, 1 to 14", place,
+                       f"write `channel = {SAMPLES[key]}`: each channel here is 20 MHz wide")
     if plain.lower() in UNBOUNDED:
         return Finding(f"`{key}` always has a bound, a whole number of {least} to {most}", place,
                        f"write `{key} = {most}`, the most that there is")

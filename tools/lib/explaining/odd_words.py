@@ -19,8 +19,8 @@ def of_shell(words: list[str]) -> Finding | None:
     at = next((at for at, word in enumerate(words) if at and SHELL.fullmatch(word) and not os.path.lexists(word)), None)
     if at is None:
         return None
-    said = f"{quoted(words[at])} is a sign of a shell, which came to the program as a word: a shell acts on it where no " \
-        "quotes stand around it"
+    said = f"{quoted(words[at])} is a sign of a shell, which came to the program as a word: a shell acts on it where " \
+        "no quotes stand around it"
     if words[at] == "<" and words[0] in ("run", "play"):
         return Finding(f"{said}; `{words[0]}` reads files, and not standard input", None,
                        f"write `{shlex.join([word for word in words if word != '<'])}`")

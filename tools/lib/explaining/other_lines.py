@@ -1,5 +1,5 @@
-"""Lines of a trace that have a fault beside the first one, by what `live` answers to each: those of which the same is to
-be said, and the numbers of the others."""
+"""Lines of a trace that have a fault beside the first one, by what `live` answers to each: those of which the same is
+to be said, and the numbers of the others."""
 import os
 import re
 import tempfile

@@ -208,11 +208,11 @@ class Past:
                         f"{kind_text(step.line.octets)} of it"
                 if row and before.doze and not row.doze:
                     self.woken[bssid, row.address] = f", by {kind_text(step.line.octets)} of it in line {number}"
-                if row and before.kept and not row.kept:
-                    what = "was sent" if has_data(step, bssid) else "was dropped"
-                    is_own = step.line.kind == "A" and Frame(step.line.octets).transmitter == row.address
+                if before.kept and (row is None or not row.kept):
+                    what = "was sent" if row and has_data(step, bssid) else "was dropped"
+                    is_own = step.line.kind == "A" and Frame(step.line.octets).transmitter == before.address
                     by = f", by {kind_text(step.line.octets)} of it" if is_own and what == "was dropped" else ""
-                    self.emptied[bssid, row.address] = f": the last one {what} in line {number}{by}"
+                    self.emptied[bssid, before.address] = f": the last one {what} in line {number}{by}"
 
     def note_missed(self, step: Step, bssid: bytes, number: int) -> None:
         """Notes for which station a unit was lost, or was sent at once."""
@@ -225,6 +225,9 @@ class Past:
         elif not before.doze and any(sent.bssid == bssid and Frame(sent.octets).receiver == to and
                                      Frame(sent.octets).type == DATA for sent in step.sent if not sent.is_wired):
             self.missed[bssid, to] = f": the unit of line {number} was sent at once, since the station was awake"
+        elif before.doze and any(sent.bssid == bssid and sent.is_wired and sent.octets[:6] == to for sent in step.sent):
+            self.missed[bssid, to] = f": the unit of line {number} went over the wire alone, since " \
+                f"{step.after[bssid].name} doesn't relay"
 
     def change(self, step: Step, before: Station | None, after: Station | None) -> str | None:
         """What a line took from a station."""

@@ -6,24 +6,15 @@ from types import MappingProxyType
 
 from explaining.configuration import Keys
 from explaining.names import name_reason
+from explaining.rates_lacking import of_rates
 from explaining.reason import Reason
-from explaining.values import BASIC, UNITS
-from frames import (ASSOCIATION_RESPONSE, AUTHENTICATION, DEAUTHENTICATION, DISASSOCIATION, EXTENDED_SUPPORTED_RATES,
-                    HEADER_LEN, MANAGEMENT, REASSOCIATION_RESPONSE, SSID, SUPPORTED_RATES, Frame, elements, first_of, number)
+from frames import (ASSOCIATION_RESPONSE, AUTHENTICATION, DEAUTHENTICATION, DISASSOCIATION, MANAGEMENT,
+                    REASSOCIATION_RESPONSE, Frame, number)
 from in_words import ALGORITHMS
-from reading import FIXED_LEN
 
 # Where the status or the reason stands in the body of an answer.
 PLACES = {AUTHENTICATION: 4, ASSOCIATION_RESPONSE: 2, REASSOCIATION_RESPONSE: 2, DEAUTHENTICATION: 0, DISASSOCIATION: 0}
-# In units of 500 kb/s: 1 Mb/s, and 5.5 Mb/s, of which people write the 5; then the rates of 802.11b and g in Mb/s.
-MEGABIT, ELEVEN_HALVES, CUT_RATE = 2, 11, 5
-MEGABITS = {1, 2, CUT_RATE, 6, 9, 11, 12, 18, 24, 36, 48, 54}
-# The digits of that ID as people write it, read as hexadecimal ones.
-DECIMAL_ID = int(str(EXTENDED_SUPPORTED_RATES), 16)
 MOST_NAMED = 3
-VENDOR = 221
-NO_RATES = (SSID, VENDOR)  # whose octets may be any
-OF_RATES = (SUPPORTED_RATES, EXTENDED_SUPPORTED_RATES)
 # The fields of an authentication, where they begin, and the number 1 as one, however its octets stand.
 AUTHENTICATION_FIELDS = {"algorithm": 24, "sequence number": 26, "status": 28}
 AUTHENTICATION_LEN, ONES = 30, (bytes.fromhex("0100"), bytes.fromhex("0001"))
@@ -92,14 +83,6 @@ def of_full_table(keys: Keys, left: Mapping[bytes, int]) -> Reason:
                                                   "`a000`" if left else None, stands))) or None)
 
 
-def as_megabits(rates: set[int]) -> list[set[int]]:
-    """The rates in units of 500 kb/s that these are, where they were written in Mb/s, as numbers or digit by digit: all
-    of them are rates then, and not all are as they stand."""
-    decimal = {int(digits) if (digits := f"{rate:x}").isdecimal() else rate for rate in rates}
-    return [{ELEVEN_HALVES if rate == CUT_RATE else MEGABIT * rate for rate in written} for written in (rates, decimal)
-            if written <= MEGABITS and not rates <= UNITS]
-
-
 def of_exchanged(octets: bytes) -> Reason | None:
     """The number 1 of an authentication in another field's place, with all other fields 0."""
     fields = {name: octets[begin:begin + 2] for name, begin in AUTHENTICATION_FIELDS.items()}
@@ -136,71 +119,3 @@ def of_number(octets: bytes) -> Reason:
     why = "the low octet comes first" if turned else "an answer has that" if value == 2 else "a request has 1"
     return Reason(f"its sequence number, `{octets[26:28].hex()}`, is {value}, and has to be 1: {why}", (26, 28),
                   "write `0100`")
-
-
-def of_rates(octets: bytes, keys: Keys) -> Reason:
-    """A request without a basic rate."""
-    frame = Frame(octets)
-    entry = keys.table.entries.get("rates") if keys.table else None
-    wanted = bytes.fromhex(entry.value.text) if entry and entry.value.text else b""
-    listed = elements(frame.body[FIXED_LEN[frame.subtype]:]) or []
-    told = [octets for octets in (first_of(listed, identifier) for identifier in OF_RATES) if octets is not None]
-    has = {rate & ~BASIC for part in told for rate in part}
-    missing = [rate & ~BASIC for rate in wanted if rate & BASIC and rate & ~BASIC not in has]
-    text = ", ".join(f"{rate / 2:g}" for rate in missing)
-    begin = HEADER_LEN + FIXED_LEN[frame.subtype]
-    at = place_of_rates(octets, begin, [], lambda identifier: identifier in OF_RATES)
-    span = (at, at + 2 + octets[at + 1]) if at else None
-    write = f"add `{bytes(missing).hex()}` to its rates, or take the high bit off them in `rates`{keys.where('rates')}"
-    if told and any(set(missing) <= units for units in as_megabits(has)):
-        meant = bytes(rate & ~BASIC for rate in wanted)
-        return Reason(f"its rates `{b''.join(told).hex()}` are written in Mb/s, and stand in units of 500 kb/s: it "
-                      f"lacks the basic rate{'s' * (len(missing) > 1)} {text} Mb/s", span,
-                      f"write `{meant.hex()}` for the network's")
-    second = in_second_element(octets, begin, listed, set(missing))
-    if second:
-        return second
-    as_decimal = {int(f"{rate:x}") for rate in has if f"{rate:x}".isdecimal()}
-    if told and set(missing) <= as_decimal | has and as_decimal <= UNITS:
-        meant = bytes(rate & ~BASIC for rate in wanted)
-        return Reason(f"its rates `{b''.join(told).hex()}` are written as decimal numbers, and stand in hexadecimal "
-                      f"digits: it lacks the basic rate{'s' * (len(missing) > 1)} {text} Mb/s", span,
-                      f"write `{meant.hex()}` for the network's")
-    decimal = place_of_rates(octets, begin, missing, lambda identifier: identifier == DECIMAL_ID)
-    if decimal:
-        return Reason(f"it lacks the basic rate{'s' * (len(missing) > 1)} {text} Mb/s, and the element {DECIMAL_ID} "
-                      f"has them: the ID of Extended Supported Rates, {EXTENDED_SUPPORTED_RATES}, is "
-                      f"`{EXTENDED_SUPPORTED_RATES:02x}` in hexadecimal digits", (decimal, decimal + 1),
-                      f"write `{EXTENDED_SUPPORTED_RATES:02x}` for `{DECIMAL_ID:02x}`")
-    other = None if told else place_of_rates(octets, begin, missing, lambda identifier: identifier not in NO_RATES)
-    if other:
-        return Reason(f"the element `{octets[other]:02x}` has the rates, and the ID of Supported Rates is "
-                      f"`{SUPPORTED_RATES:02x}`", (other, other + 1),
-                      f"write `{SUPPORTED_RATES:02x}` for `{octets[other]:02x}`")
-    if not told:
-        return Reason(f"it has no element Supported Rates, so it lacks the network's basic rates, {text} Mb/s",
-                      (HEADER_LEN, len(octets)), f"write `01{len(missing):02x}{bytes(missing).hex()}` at its end")
-    return Reason(f"it lacks the basic rate{'s' * (len(missing) > 1)} {text} Mb/s of the network", span, write)
-
-
-def in_second_element(octets: bytes, begin: int, listed: list[tuple[int, bytes]], missing: set[int]) -> Reason | None:
-    """The missing rates in another element of an ID of which the first one counts."""
-    seen: dict[int, bytes] = {}
-    for identifier, body in listed:
-        if identifier in OF_RATES and identifier in seen and missing <= {rate & ~BASIC for rate in body}:
-            both = seen[identifier] + body
-            return Reason(f"two elements of the ID `{identifier:02x}` have rates, and the first one counts: "
-                          f"`{body.hex()}` in the second one isn't read", (begin, begin + 2 + len(body)),
-                          f"write one element, as `{identifier:02x}{len(both):02x}{both.hex()}`")
-        seen.setdefault(identifier, body)
-        begin += 2 + len(body)
-    return None
-
-
-def place_of_rates(octets: bytes, begin: int, missing: list[int], is_it: Callable[[int], bool]) -> int | None:
-    """Where an element stands that has the missing rates, and such an ID."""
-    for identifier, body in elements(octets[begin:]) or []:
-        if is_it(identifier) and set(missing) <= {rate & ~BASIC for rate in body}:
-            return begin
-        begin += 2 + len(body)
-    return None

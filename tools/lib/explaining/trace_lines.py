@@ -24,6 +24,7 @@ BEFORE_WORD = re.compile(rf"(\s*(?:(?:\d+ *[|:.)\t] ?|->|=>|{MARKS_BEFORE}) ?|"
                          r"[\[(]?[\d.,:TZ/-]*\d[\d.,:TZ/-]*[\])]?[:,]? +))"
                          r"(?=[AW] +[0-9A-Fa-f]|T$|#)")
 QUOTES = ("\"", "'", "`", "\u201c", "\u2018", "\u00ab")
+CLOSING = (*QUOTES, "\u201d", "\u2019", "\u00bb")
 SAMPLE, LEAST_ADDRESS, LIKE = "02:00:00:00:00:01", 4, 0.7
 
 
@@ -129,7 +130,7 @@ def of_first_word(source: Source, number: int, line: str, bssids: list[str]) -> 
         return Finding(f"{quoted(first)} is no word of a trace; for a frame on a wire it is `W`, and then the BSSID of "
                        "the network whose wire it is", place,
                        f"write {in_full(f'W {bssids[0] if bssids else SAMPLE} {rest}')}; {having(bssids)}")
-    if word and first[:1] in QUOTES:
+    if word and first[:1] in QUOTES and line.rstrip()[1:][-1:] in CLOSING:
         return Finding(f"{quoted(first[0])} stands around the line, and a trace has no quotes",
                        source.place(number, 1, len(line)),
                        f"write {in_full((word + ' ' + rest.strip()).strip() if word != 'T' else 'T')}")
@@ -166,7 +167,6 @@ def of_tick(source: Source, number: int, line: str) -> Finding:
 
 def of_other_text(source: Source, number: int, line: str, bssids: list[str]) -> Finding | None:
     """A line of another kind of text."""
-    place = source.place(number, 1, len(line))
     if re.match(r"[AW][0-9A-Fa-f]", line) or re.fullmatch(r"[aw][0-9A-Fa-f ]+", line) and \
             is_like(line[1:].replace(" ", ""), bssids):
         return Finding(f"a space stands after `{line[0].upper()}`", source.place(number, 1),
@@ -185,7 +185,12 @@ def of_other_text(source: Source, number: int, line: str, bssids: list[str]) -> 
         digits = underscored[2].replace("_", " ")
         return Finding("`_` stands where a space does", source.place(number, 2),
                        f"write {in_full(f'{underscored[1].upper()} {digits}')}")
-    include = INCLUDE.match(line)
+    return of_foreign_line(source, number, line, bssids) or of_bare_digits(source, number, line, bssids)
+
+
+def of_foreign_line(source: Source, number: int, line: str, bssids: list[str]) -> Finding | None:
+    """A remark, or a line that belongs to another text."""
+    place, include = source.place(number, 1, len(line)), INCLUDE.match(line)
     if include:
         return Finding("no other file is read from here: a trace is one text", place.part(include[0]),
                        "write that file's lines in this place")
@@ -203,10 +208,12 @@ def of_other_text(source: Source, number: int, line: str, bssids: list[str]) -> 
                        "a configuration stands before the line `---`, or in a file of its own: `run CONFIG TRACE`")
     if re.fullmatch(r"[0-9A-Fa-f]{2}[0-9A-Fa-f ]{6,}", line):
         return over_lines(source, number)
-    strange = behind_words(source, number, 0, bssids) or without_words(source, number)
-    if strange:
-        return strange
-    first = line.split(" ")[0]
+    return behind_words(source, number, 0, bssids) or without_words(source, number)
+
+
+def of_bare_digits(source: Source, number: int, line: str, bssids: list[str]) -> Finding:
+    """Digits without their word, or a word that no trace has."""
+    first, place = line.split(" ")[0], source.place(number, 1, len(line))
     if re.fullmatch(r"(?:EOF|EOT|END|quit|exit|stop)\.?", line.strip()):
         return Finding(f"{quoted(first)} is no word of a trace, which ends with its last line",
                        source.place(number, 1, len(first)), "leave it out")
@@ -274,18 +281,26 @@ def of_address(source: Source, number: int, line: str, bssids: list[str]) -> Fin
         return Finding(f"after `W` a network is named by its address, and {quoted(word)} is none", whole,
                        having(bssids) if bssids else None)
     place = source.place(number, match.start(1) + 1 + span[0], span[1] - span[0])
-    second = re.match(r" +((?:[0-9A-Fa-f]{2}:){5}[0-9A-Fa-f]{2})\b", line[match.end():])
-    if second and second[1].lower() in map(str.lower, bssids) and DIGITS.fullmatch(word):
-        rest = f"{word} {line[match.end() + second.end():].strip()}"
-        return Finding(f"the network {second[1]} stands behind the destination, and comes first after `W`",
-                       source.place(number, match.start(1) + 1, len(word) + second.end()),
-                       f"write {in_full(f'W {second[1]} {rest}')}")
+    second = of_second_place(source, number, line, bssids)
+    if second:
+        return second
     if DIGITS.fullmatch(word) and (mended is None or mended not in map(str.lower, bssids)):
         return Finding("after `W` the BSSID is missing, the address of the network whose wire it is, before the frame",
                        whole, f"write {in_full(f'W {some} {word}')}" + (f"; {having(bssids)}" if bssids else ""))
     is_one = not bssids or mended is not None and mended in map(str.lower, bssids)
     return Finding(text, place, f"write `W {mended or some}`" if is_one or not mended else
                    f"the address is {mended}, which no network has; {having(bssids)}")
+
+
+def of_second_place(source: Source, number: int, line: str, bssids: list[str]) -> Finding | None:
+    """The address of a network behind a destination, where it should come first."""
+    found = re.match(r"W +([0-9A-Fa-f]{12}) +((?:[0-9A-Fa-f]{2}:){5}[0-9A-Fa-f]{2})\b(.*)", line)
+    if not found or found[2].lower() not in map(str.lower, bssids):
+        return None
+    written = f"W {found[2]} {found[1]} {found[3].strip()}"
+    return Finding(f"the network {found[2]} stands behind the destination, and comes first after `W`",
+                   source.place(number, found.start(1) + 1, found.end(2) - found.start(1)),
+                   f"write {in_full(written)}")
 
 
 def having(bssids: list[str]) -> str:
@@ -299,16 +314,13 @@ def of_network(source: Source, number: int, line: str, bssids: list[str]) -> Fin
     if not match or match[1].lower() in (bssid.lower() for bssid in bssids):
         return None
     word, listed = match[1].lower(), [bssid.lower() for bssid in bssids]
-    sender = line_of_sender(source, word)
-    if sender:
+    place, sender = source.place(number, match.start(1) + 1, len(match[1])), line_of_sender(source, word)
+    if sender and bssids:
         return Finding(f"{match[1]} is the address of a station, which sends line {source.first + sender - 1}, and "
-                       "after `W` the network stands whose wire it is",
-                       source.place(number, match.start(1) + 1, len(match[1])), f"write `W {bssids[0]}`; {having(bssids)}"
-                       if bssids else None)
+                       "after `W` the network stands whose wire it is", place, f"write `W {bssids[0]}`; {having(bssids)}")
     close = [bssid for bssid in listed if is_slip(word, bssid)] or difflib.get_close_matches(word, listed, 1, 0.8)
     has = having(bssids)
-    return Finding(f"no network of the configuration has the address {match[1]}",
-                   source.place(number, match.start(1) + 1, len(match[1])),
+    return Finding(f"no network of the configuration has the address {match[1]}", place,
                    f"write {close[0]}, or a network with this address; {has}" if close else has)
 
 

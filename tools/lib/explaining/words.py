@@ -27,6 +27,7 @@ CALLED = {**dict.fromkeys(("validate", "verify", "lint", "test", "parse", "confi
 ITSELF = ("apctl", "sudo", "explain", "waltigon-explain", "waltigon")
 CONFIGURATION = re.compile(r"^\[\[network", re.M)
 BINARY = ("--binary", "--bytes", "--raw", "--octet", "--records", "--octects", "-octets", "-o", "-b")
+FOR_OCTETS = ("octets", "octet", "binary")
 OF_ITSELF: dict[str, list[str]] = {"explain": ["CONFIG"], "frame": ["--help"], "picture": ["--help"]}
 # How many words follow each at least.
 LEAST = {"check": 1, "run": 2, "play": 2, "live": 1}
@@ -160,67 +161,73 @@ def utf8_of(word: str) -> bytes | None:
 
 def of_subcommand(first: str, rest: list[str]) -> Finding:
     """One of the program's words, with others that don't fit it."""
-    form = SUBCOMMANDS[first]
+    form, is_octets = SUBCOMMANDS[first], first == "live" and OCTETS in rest
     if first == "live" and rest[:1] == [OCTETS]:
         form, rest = f"live {OCTETS} CONFIG", rest[1:]
     dashed = next((word for word in rest if word.startswith("-") and word not in ("-", "--")), None)
     if dashed and "--" not in rest:
-        more = " ".join(rest)
-        options = f"no option but `{OCTETS}` before CONFIG" if first == "live" else "no options"
-        if first == "live" and dashed.partition("=")[0] in OF_BRIDGE:
-            return Finding(f"{quoted(dashed)} is an option of {called.fellow('live')}, which starts the program and "
-                           "the bridge", None, f"`{called.fellow('live')} --help` shows how it is used")
-        if dashed in ("-h", "--help", "--version"):
-            return Finding(f"the program has no word {quoted(dashed)}", None, f"its words are {FORMS}")
-        others = [value_of(word) for word in rest if not word.startswith("-") or is_like_file(value_of(word))]
-        name = dashed.partition("=")[0]
-        is_octets = first == "live" and (form != SUBCOMMANDS[first] or OCTETS in rest or name in BINARY or
-                                         difflib.SequenceMatcher(None, name, OCTETS).ratio() > LIKE)
-        meant = [first] + [OCTETS] * is_octets + others
-        there = [word for word in others if os.path.exists(word)]
-        if len(others) > LEAST[first] == len(there):  # the value of an option among them
-            meant = [word for word in meant if word not in others or word in there]
-            others = there
-        is_whole = len(others) == LEAST[first] or first == "play" and len(others) > LEAST[first]
-        write = f"write `{shlex.join(meant)}`" if is_whole else ""
-        is_file = os.path.lexists(dashed) or not write
-        of_name = f"for a file of this name write `{first} -- {more}`" if is_file else ""
-        return Finding(f"{quoted(dashed)} begins with `-`, and `{first}` has {options}", None,
-                       "; ".join(filter(None, (write, of_name))))
-    least = LEAST[first]
-    count = len([word for word in rest if word != "--"])
-    if count < least:
-        return of_missing(first, [word for word in rest if word != "--"], form)
-    if first == "live":
-        files = [word for word in rest if word not in ("--", OCTETS)]
-        is_octets = form != SUBCOMMANDS[first] or OCTETS in rest
-        word = next((word for word in files if word in ("octets", "octet", "binary") and not os.path.exists(word)), None)
-        radio = next((word for word in files if odd_words.INTERFACE.fullmatch(word) and not os.path.exists(word)), None)
-        if rest[0] in OF_OTHERS and not os.path.exists(rest[0]):
-            return of_bridge(rest)
-        if word:
-            others = [other for other in files if other != word]
-            return Finding(f"{quoted(word)} is no file: the option has two hyphens", None,
-                           f"write `{shlex.join([first, OCTETS, *others])}`")
-        if radio:
-            others = [other for other in files if other != radio]
-            return Finding(f"{quoted(radio)} looks like the name of an interface or a radio, which is named to "
-                           f"{called.fellow('live')}, and `live` of the program reads lines", None,
-                           f"write `{shlex.join([*called.fellow('live').split(), *others, '--phy', 'phy0'])}`")
-        if len(files) < 2:
-            return Finding(f"behind `--` stand names of files, and `{OCTETS}` stands there", None,
-                           f"write `{shlex.join([first, OCTETS, *files])}`")
-        return Finding(f"`live` reads its {'records' if is_octets else 'lines'} from standard input, and takes one "
-                       f"word and no more", None, f"write `live {f'{OCTETS} ' * is_octets}{files[0]} < {files[1]}`")
+        return of_option(first, rest, dashed, is_octets)
     files = [word for word in rest if word != "--"]
+    if len(files) < LEAST[first]:
+        return of_missing(first, files, form)
+    return of_live(rest, is_octets) if first == "live" else of_more_files(first, files, form)
+
+
+def of_option(first: str, rest: list[str], dashed: str, is_octets: bool) -> Finding:
+    """An option that the program doesn't have, and what to write without it."""
+    if first == "live" and dashed.partition("=")[0] in OF_BRIDGE:
+        return Finding(f"{quoted(dashed)} is an option of {called.fellow('live')}, which starts the program and the "
+                       "bridge", None, f"`{called.fellow('live')} --help` shows how it is used")
+    if dashed in ("-h", "--help", "--version"):
+        return Finding(f"the program has no word {quoted(dashed)}", None, f"its words are {FORMS}")
+    others = [value_of(word) for word in rest if not word.startswith("-") or is_like_file(value_of(word))]
+    there = [word for word in others if os.path.exists(word)]
+    if len(others) > LEAST[first] == len(there):  # the value of an option is among them
+        others = there
+    name = dashed.partition("=")[0]
+    is_octets = is_octets or first == "live" and (
+        name in BINARY or difflib.SequenceMatcher(None, name, OCTETS).ratio() > LIKE)
+    is_whole = len(others) == LEAST[first] or first == "play" and len(others) > LEAST[first]
+    write = f"write `{shlex.join([first] + [OCTETS] * is_octets + others)}`" if is_whole else ""
+    of_name = f"for a file of this name write `{first} -- {' '.join(rest)}`" * (os.path.lexists(dashed) or not write)
+    options = f"no option but `{OCTETS}` before CONFIG" if first == "live" else "no options"
+    return Finding(f"{quoted(dashed)} begins with `-`, and `{first}` has {options}", None,
+                   "; ".join(filter(None, (write, of_name))))
+
+
+def of_live(rest: list[str], is_octets: bool) -> Finding:
+    """More words than one behind `live`."""
+    files = [word for word in rest if word not in ("--", OCTETS)]
+    missing = [word for word in files if not os.path.exists(word)]
+    word = next((word for word in missing if word in FOR_OCTETS), None)
+    radio = next((word for word in missing if odd_words.INTERFACE.fullmatch(word)), None)
+    if rest[0] in OF_OTHERS and not os.path.exists(rest[0]):
+        return of_bridge(rest)
+    others = [other for other in files if other not in (word, radio)]
+    if word:
+        return Finding(f"{quoted(word)} is no file: the option has two hyphens", None,
+                       f"write `{shlex.join(['live', OCTETS, *others])}`")
+    if radio:
+        return Finding(f"{quoted(radio)} looks like the name of an interface or a radio, which is named to "
+                       f"{called.fellow('live')}, and `live` of the program reads lines", None,
+                       f"write `{shlex.join([*called.fellow('live').split(), *others, '--phy', 'phy0'])}`")
+    if len(files) < 2:
+        return Finding(f"behind `--` stand names of files, and `{OCTETS}` stands there", None,
+                       f"write `{shlex.join(['live', OCTETS, *files])}`")
+    return Finding(f"`live` reads its {'records' if is_octets else 'lines'} from standard input, and takes one word "
+                   f"and no more", None, f"write `live {f'{OCTETS} ' * is_octets}{files[0]} < {files[1]}`")
+
+
+def of_more_files(first: str, files: list[str], form: str) -> Finding:
+    """More files than `check` or `run` takes."""
+    count, least = len(files), LEAST[first]
     if first == "run" and count == least + 1 and not os.path.exists(files[-1]):
         return Finding(f"`run` writes its report on standard output, and takes no word for it, as {quoted(files[-1])}",
                        None, f"write `{shlex.join([first, *files[:-1]])} > {files[-1].lstrip('>')}`")
-    traces = [file for file in files[1:] if os.path.isfile(file)]
-    if first == "run" and len(traces) == len(files) - 1:
+    if first == "run" and all(map(os.path.isfile, files)):
         return Finding(f"`run` takes two words and no more, one trace, and there are {count}", None,
                        f"write `{shlex.join(['play', *files])}`: it plays several traces at once")
-    if first == "check" and count >= 2 and all(CONFIGURATION.search(text_of(file)) for file in files):
+    if first == "check" and all(CONFIGURATION.search(text_of(file)) for file in files):
         each = ", then ".join(f"`{shlex.join([first, file])}`" for file in files[:MOST_SHOWN])
         return Finding(f"`check` takes one configuration, and there are {count} words", None, f"write {each}")
     if first == "check" and count == 2 and not files[1].endswith(".toml"):
