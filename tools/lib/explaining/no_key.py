@@ -15,7 +15,7 @@ FOR_YAML = "write `channel = 6`, a line for each key, and a line `[[network]]` b
 JSON_LINE = re.compile(r"[\"']([\w-]+)[\"']\s*:\s*(.*?)\s*,?$")
 OPENWRT = re.compile(r"(?:option|list)\s+[\w-]+\s+[^=\s][^=]*|config\s+[\w-]+(?:\s+'[^']*')?")
 INCLUDE = re.compile(r"[!@]?(?:include|import|source|require|load|extends?)\b(?!\s*=)", re.I)
-SIGNS = re.compile(r"\s*(?::=|=>|->|==|<-|[:,;|]|\u2192|\u21d2|\uff1d|\uff1a)\s*")
+SIGNS = re.compile(r"\s*(?:[:+?|.]=|=>|->|==|<-|[:,;|]|\u2192|\u21d2|\uff1d|\uff1a)\s*")
 TYPES = r"(?:int|integer|str|string|bool|boolean|float|number|text|u?int(?:8|16|32|64)(?:_t)?|u(?:8|16|32))"
 WORD_BEFORE_KEY = re.compile(r"(export|set|let|var|local|const|uci "
                              rf"set|setenv|declare|option|list|static|final|auto|char|def|my|{TYPES})\s+"
@@ -30,7 +30,7 @@ HEADERS = re.compile(r"\W*(\w+)\W*(?:[\"']?[\w .-]*[\"']?)\W*")
 def of_key(place: Place, line: str, fault: NoToml, source: Source) -> Finding:
     """A line that doesn't begin with a key and `=`."""
     text = line.strip()
-    parts = (of_number_before, of_remark, of_include, of_other_language, of_header, of_sign, of_bare_key, of_letters)
+    parts = (of_number_before, of_include, of_remark, of_other_language, of_header, of_place, of_sign, of_bare_key, of_letters)
     found = next((finding for part in parts if (finding := part(source, place, text))), None)
     return found or of_words(source, place, text)
 
@@ -129,6 +129,15 @@ def of_header(source: Source, place: Place, text: str) -> Finding | None:
                    "write `[[network]]`, and its keys below it") if is_network(text) else None
 
 
+def of_place(source: Source, place: Place, text: str) -> Finding | None:
+    """A network by its place, as programs name a part of a list."""
+    found = re.match(r"network\s*\[\s*(\d*)\s*\]\s*(?:\.\s*([\w-]+)\s*=\s*(.+))?", text)
+    return Finding(f"`{found[0].split('=')[0].strip()}` names a network by its place, and networks have none: each begins "
+                   "with a line `[[network]]`", place, "write `[[network]]`" +
+                   (f", and below it `{found[2]} = {found[3]}`" if found[2] else ", and its keys below it")) if found \
+        else None
+
+
 def of_sign(source: Source, place: Place, text: str) -> Finding | None:
     """Another sign where `=` stands, or a key of several words."""
     words = WORD.match(text)
@@ -183,6 +192,9 @@ def of_words(source: Source, place: Place, text: str) -> Finding:
     if re.fullmatch(r"\W*(?:\.{3}|\u2026)\W*", text):
         return Finding(f"{quoted(text.strip())} stands for lines that were left out, and a configuration has all of "
                        "its keys", place, "write them here")
+    if re.fullmatch(r"(?:end|fi|done|esac|endif|endsection|exit|quit)[.;]?", text, re.I):
+        return Finding(f"{quoted(text)} alone stands here, as other languages end a part, and a configuration ends with "
+                       "its last line", place, "leave the line out")
     if re.fullmatch(r"[{}\[\](),;]+", text):
         return Finding(f"{quoted(text)} alone stands here, as JSON and other languages close what they opened", place,
                        "leave the line out")

@@ -21,6 +21,7 @@ SEPARATOR_LIKE = re.compile(r"\s*(?:-\s*){2,}\r?|\s*(?P<mark>[*_~+])(?P=mark){2,
                             r"\s*-*[\u2010-\u2015\u2212][-\u2010-\u2015\u2212]*\s*"
                             r"|\s*={3,}\s*|\s*-{3,}\s*#.*")
 HIDDEN_SEPARATOR = re.compile(r"\s*[#;/]+\s*-{3,}.*")
+BRACED_SIGN = re.compile(r"(?<=[\w\"'])\s*:\s*(?=[\"'\d\[{tf])(?![0-9A-Fa-f]{2}[:\"'])")
 NETWORK_OF_NAME = re.compile(r"^[ \t]*(\[\[? *network *\.[^\]\n]*\]\]?)", re.MULTILINE)
 NAMED_HEADER = re.compile(r"\s*\[+ *network[ :=\"'-]+(\w[\w .-]*?)[\"']? *\]*\s*")
 LEAST_KEYS = 3  # of a network, by which it is told from a key that was written twice
@@ -110,6 +111,9 @@ def of_line(source: Source, fault: NoToml, wants_trace: bool) -> Finding:
     if blank and (fault.expected in ("`=` after a key", "a key", "a value", "the line's end") or
                   fault.expected.startswith("`]")):
         return blank
+    within = of_part(source, place, fault)
+    if within:
+        return within
     if fault.expected in by_expected:
         return by_expected[fault.expected](place, line, fault, source)
     if fault.expected.startswith("`,` between the parts of a table") and "{" not in line[:place.column]:
@@ -128,6 +132,30 @@ def of_line(source: Source, fault: NoToml, wants_trace: bool) -> Finding:
                        else f"{fault.expected} is missing", place,
                        "write `[[network]]`" if "network" in line else None)
     return Finding(f"expected: {fault.expected}", place)
+
+
+def of_part(source: Source, place: Place, fault: NoToml) -> Finding | None:
+    """A part of a table within braces in one line that isn't a key, `=` and a value, or has no comma before it."""
+    line, at = source.line(place.line), place.column - 1
+    if "{" not in line[:at] or "{{" in line:
+        return None
+    if fault.expected == "`=` after a key" or fault.expected == "a key":
+        found = re.compile(r"[\"']?[\w-]*[\"']?\s*([:>-]+)").match(line, at)
+        return Finding(f"`{found[1]}` stands where TOML has `=`, within braces too",
+                       source.place(place.line, found.start(1) + 1, len(found[1])),
+                       f"write `{re.sub(BRACED_SIGN, ' = ', line.strip())}`") if found else None
+    if not fault.expected.startswith("`,` between the parts of a table"):
+        return None
+    rest = line[at:].strip()
+    if rest.startswith(";"):
+        return Finding("`;` stands between the parts of a table, and TOML has `,` there", place,
+                       f"write `{line.strip().replace(';', ',')}`")
+    if re.match(r"[\w\"'-]+\s*=", rest):
+        return Finding(f"`,` is missing between the parts of a table, before {quoted(rest.split('=')[0].strip())}", place,
+                       "write a comma there")
+    return Finding("`}` is missing at the end of a table, or `,` between the parts of a table", place,
+                   "write `}` there: each `{` has one") \
+        if not rest or rest[0] in "]#" else None
 
 
 def of_braces(source: Source, place: Place, fault: NoToml) -> Finding:
@@ -157,6 +185,10 @@ def of_closing(place: Place, line: str, expected: str, source: Source) -> Findin
     if place.line == len(source.lines):
         return Finding("the text ends within this line: it wasn't written or copied to its end", place,
                        f"a text begins and ends with {mark}")
+    following = source.line(place.line + 1).rstrip()
+    if following.endswith(mark) and "=" not in following and len(mark) == 1:
+        return Finding("a text stands in one line, and this one goes on in the next", place,
+                       f"write `{line.strip()} {following.strip()}`, or `\\n` where the line end is a part of it")
     found = re.match(r"\s*([\w-]+)\s*=\s*[\"']([^\"'#]*)([\"']?)\s*$", line)
     other = f", and {found[3]} stands there" if found and found[3] else ""
     print_quote = QUOTES.search(found[2]) if found else None

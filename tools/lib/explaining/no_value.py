@@ -104,6 +104,8 @@ def of_end(place: Place, text: str, key: str, name: str) -> Finding | None:
     """A value with a mark or a remark behind it."""
     if re.fullmatch(r"[^;]+;\s*", text):
         return Finding("a line ends without `;`", place.part(";"), f"write `{name} = {text.rstrip('; ')}`")
+    if re.fullmatch(r"[\d\s.]+(?:[*+/x^-]+[\d\s.]+)+", text):
+        return None
     whole = re.match(r"(\S+)\s+(?=\D)(\S.*)", text)
     if whole and worth_of_bare(whole[1])[0] and not re.search(r"\w", whole[2]) and "=" not in text:
         return Finding(f"nothing stands after a value, and here {quoted(whole[2], 12)} does", place.part(whole[2]),
@@ -144,7 +146,7 @@ def of_truth(place: Place, text: str, key: str, name: str) -> Finding | None:
         close = difflib.get_close_matches(text.lower(), ("true", "false"), 1, 0.5)
         return Finding(f"`{key}` is `true` or `false`, and {quoted(text)} is neither", place,
                        f"write `{key} = {close[0]}`" if close else f"write `{key} = true` or `{key} = false`")
-    if meant_truth and key not in TEXT_KEYS:
+    if meant_truth and key not in TEXT_KEYS and key not in RADIO_LIMITS and key not in NETWORK_LIMITS:
         return Finding(f"{quoted(text)} is no truth value: TOML has `true` and `false`, in small letters", place,
                        f"write `{name} = {meant_truth}`")
     return None

@@ -41,7 +41,7 @@ def number_finding(place: Place, text: str, key: str, limits: tuple[int, int]) -
     if key == "channel" and WIDTH.fullmatch(plain):
         return Finding(f"{quoted(text)} is the width of a channel, and `channel` is its number, 1 to 14", place,
                        f"write `channel = {SAMPLES[key]}`: each channel here is 20 MHz wide")
-    if plain.lower() in UNBOUNDED:
+    if plain.lower() in UNBOUNDED and key != "dtim":
         return Finding(f"`{key}` always has a bound, a whole number of {least} to {most}", place,
                        f"write `{key} = {most}`, the most that there is")
     plain = re.sub(r"^([0-9]+),([0-9]{1,2})$", r"\1.\2", plain)

@@ -317,7 +317,8 @@ def of_network(source: Source, number: int, line: str, bssids: list[str]) -> Fin
     place, sender = source.place(number, match.start(1) + 1, len(match[1])), line_of_sender(source, word)
     if sender and bssids:
         return Finding(f"{match[1]} is the address of a station, which sends line {source.first + sender - 1}, and "
-                       "after `W` the network stands whose wire it is", place, f"write `W {bssids[0]}`; {having(bssids)}")
+                       "after `W` the network stands whose wire it is", place,
+                       f"write `W {bssids[0]}`; {having(bssids)}")
     close = [bssid for bssid in listed if is_slip(word, bssid)] or difflib.get_close_matches(word, listed, 1, 0.8)
     has = having(bssids)
     return Finding(f"no network of the configuration has the address {match[1]}", place,
