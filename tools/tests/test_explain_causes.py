@@ -9,6 +9,7 @@ from test_explain_outcomes import (CELLAR, CELLARS, CONFIG, HOST, JOINED, OTHER,
                                    managed, null, poll, probe, ssid, wire)
 
 ALL, SNAP, DOUBT = "ffffffffffff", "aaaa03000000", "it may not say what is meant"
+PACKET = "4500001400010000400100000a0001020a000101"
 NEW = [auth(THIRD), join(THIRD)]
 COUNTED = data(to=HOST).replace(f"{HOST} 0000", f"{HOST} 1000")
 # Of each run after JOINED: what is said of it, and what isn't.
@@ -53,6 +54,16 @@ CASES = [
     ([auth(THIRD), join(THIRD).replace("A 0000", "A 1000")], ["`1000`, and one digit differs from `0000`"], []),
     ([managed("ac00", "0300")], ["`ac00`, and one digit differs from `a000`"], []),
     (["A"], ["my.trace:5:1", "no frame stands behind `A`"], []),
+    # types, packets and groups that nobody has
+    ([data(f"{SNAP} 08 {PACKET}", to=HOST)], ["`08` alone stands before the packet of IPv4", "write `0800`"], []),
+    ([data(f"{SNAP} 080000 {PACKET}", to=HOST)], ["`00` stands between the type and the packet of IPv4"], []),
+    ([data(f"{SNAP} 0801 {PACKET}", to=HOST)], ["the type `0801` stands there, and what follows is of IPv4"], []),
+    ([wire(rest=f"0801 {PACKET}")], ["a type of another packet than the one behind it stands"], []),
+    ([data(f"{SNAP} 1234 01", to=HOST), wire(rest="1234 01")], ["nothing odd"], []),
+    ([wire("fffffffffff0")], ["ff:ff:ff:ff:ff:f0 is a group that nobody is in", f"write `{ALL}`"], []),
+    ([data(to="fffffffffffe")], ["my.trace:5:39", "is a group that nobody is in"], []),
+    ([auth(THIRD), join(THIRD, rates="010502040b1617")], ["no station of 802.11b or g has: `17`, 11.5 Mb/s"], []),
+    ([auth(THIRD), join(THIRD, rates="010502040b16ff")], [], ["no station of 802.11b or g has"]),
     # a wrong length is no frame check sequence
     ([f"A 4000 0000 {ALL} {THIRD} {ALL} 0000 0004{b'attic'.hex()} {RATES}"], ["its length `04` has to be `05`"],
      ["check sequence"]),

@@ -5,7 +5,8 @@ from typing import NamedTuple
 from explaining.nothing import Looked, slip_of_group, with_data
 from explaining.past import home_of, station_in
 from explaining.reason import Lack, Reason
-from explaining.rates_lacking import DECIMAL_ID
+from explaining.odd_config import STATIONS_HAVE
+from explaining.rates_lacking import DECIMAL_ID, OF_RATES
 from explaining.stations_meant import of_disassociation, of_mode, of_waking
 from explaining.unheard import nearest
 from explaining.units_meant import of_unit
@@ -24,7 +25,8 @@ TURNED = {"capability": "says no ESS", "beacon intervals": "is {value:,} beacon 
           "reason": "is the reason {value}"}
 ESS, PRIVACY, HIGH_BITS = 0x01, 0x10, 0xC000
 RSN, VENDOR, WPA = 48, 221, bytes.fromhex("0050f201")
-THIRD, STATUS = (16, 22), (4, 6)
+THIRD, STATUS, MOST_RATES = (16, 22), (4, 6), 4
+LEAST_SELECTOR = 122  # from here on stand among rates what a station has to be able to do, as HT (9.4.2.3)
 
 
 class Relay(NamedTuple):
@@ -62,10 +64,11 @@ def doubtful(looked: Looked, relay: Relay) -> Reason | None:
     dropped = of_dropped(looked, frame)
     if frame.type == MANAGEMENT and frame.subtype in WITH_FIELDS:
         return exchanged_fields(frame) or turned_field(frame) or decimal_element(frame) or second_name(frame) or \
-            of_encryption(frame) or dropped or of_association(looked, frame) or of_mode(frame) or \
-            of_disassociation(looked, frame)
+            of_encryption(frame) or strange_rates(frame) or dropped or of_association(looked, frame) or \
+            of_mode(frame) or of_disassociation(looked, frame)
     if frame.type == MANAGEMENT:
-        return of_status(frame) or of_authentication(looked, frame) or second_name(frame) or dropped or of_mode(frame)
+        return of_status(frame) or of_authentication(looked, frame) or second_name(frame) or dropped or \
+            strange_rates(frame) or of_mode(frame)
     if is_poll(frame):
         return of_identifier(frame)
     if frame.type != DATA or frame.subtype != PLAIN_DATA:
@@ -89,6 +92,20 @@ def of_copy(looked: Looked, frame: Frame) -> Reason | None:
     return None if same is None or not frame.sequence_control or frame.retry else Reason(
         f"this line is a copy of line {same}, octet for octet, Sequence Control `{frame.octets[22:24].hex()}` too: "
         "the unit is passed on a second time", (22, 24), "leave the line out, or give a new frame a number of its own")
+
+
+def strange_rates(frame: Frame) -> Reason | None:
+    """Rates in a request that no station of 802.11b or g has (17.3.4, 18.4)."""
+    begin = HEADER_LEN + FIXED_LEN[frame.subtype]
+    for identifier, octets in elements(frame.octets[begin:]) or [] if frame.subtype in WITH_NAMES else ():
+        strange = [rate for rate in dict.fromkeys(octets) if rate & ~BASIC not in STATIONS_HAVE
+                   and rate & ~BASIC < LEAST_SELECTOR]
+        if identifier in OF_RATES and strange:
+            named = ", ".join(f"`{rate:02x}`, {(rate & ~BASIC) / 2:g} Mb/s" for rate in strange[:MOST_RATES])
+            return Reason(f"its rates have what no station of 802.11b or g has: {named}",
+                          (begin, begin + 2 + len(octets)), "a rate is twice its Mb/s: 11 Mb/s is `16`, 54 `6c`")
+        begin += 2 + len(octets)
+    return None
 
 
 def of_status(frame: Frame) -> Reason | None:

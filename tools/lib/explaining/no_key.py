@@ -30,7 +30,8 @@ HEADERS = re.compile(r"\W*(\w+)\W*(?:[\"']?[\w .-]*[\"']?)\W*")
 def of_key(place: Place, line: str, fault: NoToml, source: Source) -> Finding:
     """A line that doesn't begin with a key and `=`."""
     text = line.strip()
-    parts = (of_number_before, of_include, of_remark, of_other_language, of_header, of_place, of_sign, of_bare_key, of_letters)
+    parts = (of_number_before, of_include, of_remark, of_other_language, of_header, of_place, of_sign, of_bare_key,
+             of_letters)
     found = next((finding for part in parts if (finding := part(source, place, text))), None)
     return found or of_words(source, place, text)
 
@@ -132,10 +133,11 @@ def of_header(source: Source, place: Place, text: str) -> Finding | None:
 def of_place(source: Source, place: Place, text: str) -> Finding | None:
     """A network by its place, as programs name a part of a list."""
     found = re.match(r"network\s*\[\s*(\d*)\s*\]\s*(?:\.\s*([\w-]+)\s*=\s*(.+))?", text)
-    return Finding(f"`{found[0].split('=')[0].strip()}` names a network by its place, and networks have none: each begins "
-                   "with a line `[[network]]`", place, "write `[[network]]`" +
-                   (f", and below it `{found[2]} = {found[3]}`" if found[2] else ", and its keys below it")) if found \
-        else None
+    if not found:
+        return None
+    below = f"`{found[2]} = {found[3]}`" if found[2] else "its keys"
+    return Finding(f"`{found[0].split('=')[0].strip()}` names a network by its place, and a network begins with a line "
+                   "`[[network]]`", place, f"write `[[network]]`, and below it {below}")
 
 
 def of_sign(source: Source, place: Place, text: str) -> Finding | None:
@@ -193,8 +195,8 @@ def of_words(source: Source, place: Place, text: str) -> Finding:
         return Finding(f"{quoted(text.strip())} stands for lines that were left out, and a configuration has all of "
                        "its keys", place, "write them here")
     if re.fullmatch(r"(?:end|fi|done|esac|endif|endsection|exit|quit)[.;]?", text, re.I):
-        return Finding(f"{quoted(text)} alone stands here, as other languages end a part, and a configuration ends with "
-                       "its last line", place, "leave the line out")
+        return Finding(f"{quoted(text)} alone stands here, as other languages end a part, and a configuration ends "
+                       "with its last line", place, "leave the line out")
     if re.fullmatch(r"[{}\[\](),;]+", text):
         return Finding(f"{quoted(text)} alone stands here, as JSON and other languages close what they opened", place,
                        "leave the line out")

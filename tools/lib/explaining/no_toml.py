@@ -151,8 +151,8 @@ def of_part(source: Source, place: Place, fault: NoToml) -> Finding | None:
         return Finding("`;` stands between the parts of a table, and TOML has `,` there", place,
                        f"write `{line.strip().replace(';', ',')}`")
     if re.match(r"[\w\"'-]+\s*=", rest):
-        return Finding(f"`,` is missing between the parts of a table, before {quoted(rest.split('=')[0].strip())}", place,
-                       "write a comma there")
+        before = quoted(rest.split("=")[0].strip())
+        return Finding(f"`,` is missing between the parts of a table, before {before}", place, "write a comma there")
     return Finding("`}` is missing at the end of a table, or `,` between the parts of a table", place,
                    "write `}` there: each `{` has one") \
         if not rest or rest[0] in "]#" else None

@@ -8,8 +8,8 @@ from explaining.names import name_reason
 from explaining.past import Past, home_of, station_in, whereabouts
 from explaining.reason import Lack, Reason
 from explaining.unheard import is_slip, nearest
-from frames import (ASSOCIATION_REQUEST, AUTHENTICATION, DATA, DEAUTHENTICATION, DISASSOCIATION, MANAGEMENT, NULL,
-                    PLAIN_DATA, PROBE_REQUEST, REASSOCIATION_REQUEST, Frame, address_text, number)
+from frames import (ASSOCIATION_REQUEST, AUTHENTICATION, BROADCAST, DATA, DEAUTHENTICATION, DISASSOCIATION, MANAGEMENT,
+                    NULL, PLAIN_DATA, PROBE_REQUEST, REASSOCIATION_REQUEST, Frame, address_text, number)
 from in_words import address_word, kind_text
 from reading import SNAP, is_poll, request_of
 from texts import Section, Station
@@ -137,7 +137,10 @@ def from_wire(looked: Looked, octets: bytes) -> Reason:
 
 def slip_of_group(looked: Looked, to: bytes, begin: int = 0) -> Reason | None:
     """A destination that differs from one of the usual groups in the bit that makes it a group, and that no line has as
-    the address of a sender."""
+    the address of a sender; or one that differs in one digit from that of all."""
+    if to != BROADCAST and is_slip(to.hex(), BROADCAST.hex()):
+        return Reason(f"its destination {address_text(to)} is a group that nobody is in; all are `{BROADCAST.hex()}`",
+                      (begin, begin + 6), f"write `{BROADCAST.hex()}`")
     if to[0] & 1 or to.startswith(VIRTUAL_ROUTERS) or looked.past.is_named(looked.bssid, to):
         return None
     found = next((prefix for prefix in GROUPS if to[0] ^ 1 == prefix[0] and to[1:len(prefix)] == prefix[1:] or

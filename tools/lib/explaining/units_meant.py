@@ -3,7 +3,7 @@ them."""
 from collections.abc import Callable
 
 from explaining.reason import Reason
-from explaining.wired_types import TYPES, other_packet
+from explaining.wired_types import TYPES, other_packet, packet_type
 from fields import type_name
 from frames import HEADER_LEN
 from reading import LEAST_TYPE, SNAP
@@ -71,6 +71,9 @@ def behind_snap(rest: bytes) -> Reason | None:
     if rest[0] == 0 and rest[1:3] in TYPES:
         return Reason(f"an octet too many stands before the type `{rest[1:3].hex()}`: LLC and SNAP have six, "
                       f"`{SNAP.hex()}`", (0, 1), "leave `00` out")
+    cut = of_cut_type(rest)
+    if cut:
+        return cut
     if rest[1::-1] in TYPES and rest[:2] not in TYPES:
         turned = rest[1::-1]
         return Reason(f"`{written}` is the type `{turned.hex()}` ({type_name(int.from_bytes(turned, 'big'))}) with its "
@@ -81,13 +84,24 @@ def behind_snap(rest: bytes) -> Reason | None:
                       f"write the type before it: `{'0800' if rest[0] == 0x45 else '86dd'}`")
     other = other_packet(rest[:TYPE_LEN], rest[TYPE_LEN:])
     if other:
-        return Reason(f"the type `{written}` is {type_name(kind)}'s, and what follows is of "
-                      f"{type_name(int(other, 16))}",
+        owner = f"is {type_name(kind)}'s" if rest[:TYPE_LEN] in TYPES else "stands there"
+        return Reason(f"the type `{written}` {owner}, and what follows is of {type_name(int(other, 16))}",
                       (0, TYPE_LEN), f"write `{other}`")
     if kind < LEAST_TYPE:
         return Reason(f"`{written}` stands where the type does, and a type is at least {LEAST_TYPE:04x}: on a wire the "
                       "unit has its length there, and LLC and SNAP in it", (0, 2), "IPv4 is `0800`, and ARP `0806`")
     return None
+
+
+def of_cut_type(rest: bytes) -> Reason | None:
+    """A type that lacks an octet, or with one behind it that belongs to nothing."""
+    cut, late = packet_type(rest[1:]), packet_type(rest[TYPE_LEN + 1:])
+    if cut and rest[:1].hex() in cut:
+        return Reason(f"`{rest[:1].hex()}` alone stands before the packet of {type_name(int(cut, 16))}, whose type is "
+                      f"`{cut}`", (0, 1), f"write `{cut}`")
+    return Reason(f"`{rest[TYPE_LEN:TYPE_LEN + 1].hex()}` stands between the type and the packet of "
+                  f"{type_name(int(late, 16))}", (TYPE_LEN, TYPE_LEN + 1), "leave it out") \
+        if late and rest[:TYPE_LEN].hex() == late else None
 
 
 def of_cut_snap(body: bytes) -> Reason | None:

@@ -15,7 +15,19 @@ def other_packet(kind: bytes, packet: bytes) -> str | None:
     begins = {"0806": packet.startswith(ARP), "0800": len(packet) >= IPV4_LEN and packet[0] == 0x45,
               "86dd": len(packet) >= IPV6_LEN and packet[0] >> 4 == 6}
     found = next((name for name, is_one in begins.items() if is_one), None)
-    return found if found and kind.hex() in begins and kind.hex() != found else None
+    is_sure = kind.hex() in begins or packet_type(packet) is not None
+    return found if found and is_sure and kind.hex() != found else None
+
+
+def packet_type(packet: bytes) -> str | None:
+    """The type of a packet that is as long as it says itself; None for other octets."""
+    if packet.startswith(ARP):
+        return "0806"
+    if len(packet) >= IPV4_LEN and packet[0] == 0x45 and int.from_bytes(packet[2:4], "big") == len(packet):
+        return "0800"
+    is_ipv6 = len(packet) >= IPV6_LEN and packet[0] >> 4 == 6 and \
+        int.from_bytes(packet[4:6], "big") == len(packet) - IPV6_LEN
+    return "86dd" if is_ipv6 else None
 
 
 def of_wired_types(lines: list[Line], traces: list[Source]) -> list[Finding]:
