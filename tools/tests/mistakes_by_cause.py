@@ -123,6 +123,15 @@ WORDS = [
     (["play", "my.toml", "my.trace", "my.trace", "-v"], "fault words", ["write `play my.toml my.trace my.trace`"]),
     (["check", "my.toml", "my lab.toml"], "fault words", ["takes one configuration",
                                                           "write `check my.toml`, then `check 'my lab.toml'`"]),
+    (["check", "my", "toml"], "fault words", ["`my.toml` is one", "write `check my.toml`"]),
+    (["--", "check=my.toml"], "fault words", ["`check=my.toml` is one word", "write `check my.toml`"]),
+    (["--", "config=my.toml", "trace=my.trace"], "fault words", ["`config=my.toml` is one word",
+                                                                 "write `run my.toml my.trace`"]),
+    (["--", "checkmy.toml"], "fault words", ["a space stands behind `check`", "write `check my.toml`"]),
+    (["run", "run", "my.toml", "my.trace"], "fault words", ["the command `run` stands twice",
+                                                            "write `run my.toml my.trace`"]),
+    (["check", "run", "my.toml"], "fault words", ["two commands stand there, `check` and `run`"]),
+    (["run", "my.trace", "my.toml", "my.trace"], "fault words", ["write `play my.toml my.trace my.trace`"]),
     (["r", "my.toml", "my.trace"], "fault words", ["no word `r`", "write `run my.toml my.trace`"]),
 ]
 FILES = [
@@ -131,5 +140,7 @@ FILES = [
     (["check", "C:\\my.toml"], "fault file C:\\my.toml", ["a path of Windows", "/mnt/c/my.toml"]),
     (["check", "file:///my.toml"], "fault file file:///my.toml", ["an address of the web (URL)", "/my.toml"]),
     (["check", "https://x/my.toml"], "fault file https://x/my.toml", ["an address of the web (URL)", "curl -O"]),
+    (["run", "play", "my.toml"], "fault file play", ["two commands stand there, `run` and `play`"]),
+    (["live", "127.0.0.1:8080"], "fault file 127.0.0.1:8080", ["an address with a port, and the program opens none"]),
     (["live", "wlan0"], "fault file wlan0", ["the name of an interface or a radio", "--phy phy0"]),
 ]

@@ -127,8 +127,25 @@ def findings_of(texts: Texts, fault: Fault) -> list[Finding]:
         place = fault.trace or 0
         trace = texts.traces[place] if place < len(texts.traces) else None
         is_live = texts.words[:1] == ["live"]
+        whole = of_whole_trace(texts, trace) if trace and fault.code == "L1" else None
+        if whole:
+            return [whole]
         return trace_lines.explain(trace, fault, names_of(texts), is_live) if trace else []
     return words.explain(fault, texts.words)
+
+
+def of_whole_trace(texts: Texts, trace: Source) -> Finding | None:
+    """A configuration where a trace is read, or a configuration and a trace in one."""
+    if texts.is_joined or "[[network]]" not in trace.text:
+        return None
+    if SEPARATOR in trace.octets.split(b"\n"):
+        return Finding(f"{trace.name} is a configuration and a trace in one, with a line `---`, and a trace alone is "
+                       "read here", None, f"write `{called.program()} < {trace.name}`" if os.path.isfile(trace.name)
+                       else "give it what stands behind that line")
+    if texts.config is None or texts.config.name != trace.name:
+        return None
+    return Finding(f"{trace.name} stands twice, as the configuration and as the trace, and it is a configuration", None,
+                   "write the name of the trace in the second place")
 
 
 def of_another_program(source: Source) -> Finding | None:

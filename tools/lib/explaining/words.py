@@ -57,7 +57,9 @@ def of_words(fault: Fault, words: list[str]) -> list[Finding]:
     dashed = next((word for word in words if word[:1] in DASHES), None)
     if dashed:
         return [of_dashes(words, dashed)]
-    cut = cut_name(words) or odd_words.of_shell(words)
+    cut = cut_name(words) or odd_words.of_shell(words) or odd_words.of_joined_words(words, SUBCOMMANDS)
+    if not cut and words[0] in SUBCOMMANDS:
+        cut = odd_words.of_two_commands(words[0], words[1:], SUBCOMMANDS)
     if cut:
         return [cut]
     begin = next((at for at, word in enumerate(words) if os.path.basename(word) not in ITSELF), len(words))
@@ -113,6 +115,10 @@ def of_missing_command(files: list[str]) -> Finding:
         return Finding(f"{said}: it is a configuration and a trace in one, with a line `---`", None, f"write {whole}")
     meant = sorted(files, key=lambda name: not CONFIGURATION.search(text_of(name)))
     command = form_for(meant).split()[0]
+    given = standard_input() if len(files) == 1 and CONFIGURATION.search(text_of(first)) else None
+    if given:
+        return Finding(f"the command `run` is missing: {said}; the trace is on standard input, which `run` doesn't "
+                       "read", None, f"write `{shlex.join(['run', first, given])}`, without `<`")
     other = "" if len(files) > 1 or os.path.isfile(first) else f", or {whole} where it is a configuration and a trace"
     return Finding(f"the command `{command}` is missing: {said}", None, f"write `{form_for(meant)}`{other}")
 
@@ -122,6 +128,10 @@ def cut_name(words: list[str]) -> Finding | None:
     for begin in range(len(words)):
         for end in range(begin + 2, len(words) + 1):
             name = " ".join(words[begin:end])
+            dotted = ".".join(words[begin:end])
+            if begin and os.path.isfile(dotted) and not any(map(os.path.exists, words[begin:end])):
+                return Finding(f"{quoted(name)} is no file, and {quoted(dotted)} is one", None,
+                               f"write `{shlex.join([*words[:begin], dotted, *words[end:]])}`")
             if os.path.isfile(name) and not all(map(os.path.exists, words[begin:end])):
                 meant = [*words[:begin], name, *words[end:]]
                 write = shlex.join(meant) if meant[0] in SUBCOMMANDS else form_for(meant)
@@ -225,8 +235,9 @@ def of_more_files(first: str, files: list[str], form: str) -> Finding:
         return Finding(f"`run` writes its report on standard output, and takes no word for it, as {quoted(files[-1])}",
                        None, f"write `{shlex.join([first, *files[:-1]])} > {files[-1].lstrip('>')}`")
     if first == "run" and all(map(os.path.isfile, files)):
+        meant = sorted(files, key=lambda name: not CONFIGURATION.search(text_of(name)))
         return Finding(f"`run` takes two words and no more, one trace, and there are {count}", None,
-                       f"write `{shlex.join(['play', *files])}`: it plays several traces at once")
+                       f"write `{shlex.join(['play', *meant])}`: it plays several traces at once")
     if first == "check" and all(CONFIGURATION.search(text_of(file)) for file in files):
         each = ", then ".join(f"`{shlex.join([first, file])}`" for file in files[:MOST_SHOWN])
         return Finding(f"`check` takes one configuration, and there are {count} words", None, f"write {each}")
@@ -258,7 +269,10 @@ def of_missing(first: str, files: list[str], form: str) -> Finding:
         return Finding(f"{quoted(files[0])} is a trace, and after `{first}` a configuration stands before it", None,
                        f"write `{first} CONFIG {files[0]}`")
     what = "TRACE" if files else "CONFIG"
-    given = standard_input() if first in ("run", "play") and files else None
+    given = standard_input() if files or first == "check" else None
+    if given and first == "check":
+        return Finding("after `check` the word CONFIG is missing, and standard input isn't read for it", None,
+                       f"write `{shlex.join([first, given])}`, without `<`")
     if given:
         return Finding(f"after `{first}` the word TRACE is missing, and the trace is on standard input, which "
                        f"`{first}` doesn't read", None, f"write `{shlex.join([first, *files, given])}`, without `<`")
@@ -313,7 +327,10 @@ def of_file(fault: Fault, words: list[str]) -> list[Finding]:
     except NotADirectoryError:
         return [Finding(f"{quoted(name)}: a part of this path is a file, and no folder", None, advice)]
     except OSError as reason:
-        odd = odd_words.of_name(name, words[0]) if words and not os.path.lexists(name) else None
+        odd = None
+        if words and not os.path.lexists(name):
+            odd = odd_words.of_two_commands(words[0], words[1:], SUBCOMMANDS) or \
+                odd_words.of_joined_words(words, SUBCOMMANDS) or odd_words.of_name(name, words[0])
         return [odd or missing_file(name, advice, reason)]
     if stat.S_ISDIR(mode):
         return [Finding(f"{quoted(name)} is a folder, and no file", None, in_folder(name))]
