@@ -78,7 +78,7 @@ CHANGED = [
                                                              "as `quota = 64` in my.toml, line 12"]),
     (("", ""), [*JOINED, null(), *[wire()] * 3], ["a larger `quota` in my.toml, line 12, keeps more"]),
     (("", ""), [*JOINED, *NEW, auth("02aa00000004"), join("02aa00000004")],
-     ["`max_stations` in my.toml, line 10, says how many"]),
+     ["`max_stations` in the configuration says how many", "; it stands in my.toml, line 10"]),
     (("", ""), [*JOINED, *[auth(f"02aa0000001{place}") for place in range(4)]],
      ["`max_known` stands in my.toml, line 11"]),
     (("", ""), [*JOINED, auth(THIRD), join(THIRD, rates="010104")], ["off them in `rates` in my.toml, line 8"]),

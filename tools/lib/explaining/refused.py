@@ -64,9 +64,9 @@ def refused(refusal: Refusal, octets: bytes, keys: Keys, names: dict[bytes, byte
         (AUTHENTICATION, 13): lambda: of_algorithm(octets), (AUTHENTICATION, 14): lambda: of_number(octets),
         (ASSOCIATION_RESPONSE, 1): lambda: name_reason(octets, names, bssid, homes),
         (ASSOCIATION_RESPONSE, 17): lambda: Reason(
-            f"`max_stations = {keys.number('max_stations')}` is reached", SENDER, "`max_stations`" +
-            (keys.where("max_stations", ",") or " in the configuration") +
-            " says how many are associated at once; one that leaves makes room"),
+            f"`max_stations = {keys.number('max_stations')}` is reached", SENDER, "`max_stations` in the configuration "
+            "says how many are associated at once; one that leaves makes room" +
+            (f"; it stands{where}" if (where := keys.where("max_stations")) else "")),
         (ASSOCIATION_RESPONSE, 18): lambda: of_rates(octets, keys)}
     part = parts.get((refusal.kind, refusal.code))
     return part() if part else None

@@ -18,8 +18,8 @@ RADIOTAP_MOST, MOST_STEPS = 64, 4
 # The octets of control frames, and subtypes of management frames that nobody sends.
 CONTROL_LENGTHS, UNUSED = {8: 20, 9: 32, 10: 16, 11: 16, 12: 10, 13: 10, 14: 16, 15: 16}, (7, 15)
 QOS_SUBTYPES, EXTENSION = (8, 12), 3
-# Association, reassociation and probe responses, beacons and ATIMs: stations send an access point none of them.
-ANSWERS = (1, 3, 5, 8, 9)
+# Association, reassociation and probe responses, and beacons: stations send an access point none of them.
+ANSWERS = (1, 3, 5, 8)
 CURRENT = "the BSSID of the access point that the station comes from"
 NO_CURRENT = "it is associated with none of these networks, and an association request, which has no such field, " \
     "begins with `0000`"
@@ -90,8 +90,11 @@ def of_control(octets: bytes) -> Iterator[tuple[bytes, Reason]]:
     yield bytes.fromhex(digits) + octets[2:], Reason("the two digits of the first octet stand in each other's place: "
                                                      f"such a frame begins with `{digits}`",
                                                      (0, 2), f"write `{digits}`")
+    frame = Frame(octets)
+    is_answer = frame.type == MANAGEMENT and frame.subtype in ANSWERS
+    what = f"{kind_text(octets)}, which access points send," if is_answer else "no frame that is read"
     for begin in typed_for(octets):
-        yield begin + octets[2:], Reason(f"no frame that is read begins with `{octets[:2].hex()}`, and one digit "
+        yield begin + octets[2:], Reason(f"{what} begins with `{octets[:2].hex()}`, and one digit "
                                          f"differs from `{begin.hex()}`, with which "
                                          f"{kind_text(begin + octets[2:])} begins",
                                          (0, 2), f"write `{begin.hex()}`")
