@@ -20,7 +20,7 @@ ADDRESS = r"[0-9A-Fa-f]{2}(?::[0-9A-Fa-f]{2}){5}"
 LEAST_LINES, LEAST_KEYS, MOST_BESIDE = 2, 2, 1
 # A line of a trace, or one of a configuration with one of its keys.
 OWN = re.compile(r"(?:[AW] +[0-9A-Fa-f][0-9A-Fa-f: ]{9,}|T)|"
-                 rf"(?:{'|'.join(RADIO_KEYS + NETWORK_KEYS + OPTIONS)})\s*=\s*\S.*|\[\[network\]\]")
+                 rf"(?:{'|'.join(RADIO_KEYS + NETWORK_KEYS + OPTIONS)}) = (?:[\"'\d]|true|false).*|\[\[network\]\]")
 
 
 class Writer(NamedTuple):
