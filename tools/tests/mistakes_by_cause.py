@@ -62,6 +62,9 @@ TABLES_AND_KEYS = [
     changed("fault C1", "dtim = 1", "dtim = off", "a whole number of 1 to 255", "write `dtim = 1`"),
     changed("fault C1", '"lab"', '"la\nb"', "this one goes on in the next", 'write `ssid = "la b"`'),
     changed("fault C1", "version = 2", "!include other.toml\nversion = 2", "no other file is read from here"),
+    changed("fault C1", "channel = 6\n", "channel = 6\r", "a CR that isn't followed by LF"),
+    changed("fault C1", "queue = 64", "queue = 1e400", "no number of TOML is so large as `1e400`"),
+    changed("fault C10 network 0", '"82840b16"', r'"\x82\x84\x0b\x16"', "written with `\\x`", 'rates = "82840b16"'),
     of_config("fault C1", f"{CONFIG}end\n", "`end` alone stands here", "leave the line out"),
     changed("fault C1", "channel = 6", "channel = HT20", "`HT20` is the width of a channel"),
 ]

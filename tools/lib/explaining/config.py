@@ -1,5 +1,6 @@
 """What a fault C2 to C13 of a configuration comes of: the key, its place, what was expected there and what to write."""
 import os
+import re
 from dataclasses import replace
 
 import called
@@ -330,6 +331,11 @@ def rates_findings(config: Config, network: NetworkTable) -> list[Finding]:
     fault = rates_fault(digits)
     if not fault:
         return []
+    written = config.source.text[value.begin:value.end]
+    plain = re.sub(r"\\x([0-9A-Fa-f]{2})", r"\1", written.strip("\"'"))
+    if "\\x" in written and not rates_fault(plain):
+        return [Finding("octets are written with `\\x`, as in a program's source, and `rates` has their digits alone",
+                        config.place(value), f"write `rates = \"{plain}\"`")]
     text, span, mended = fault
     advice = f"write `rates = \"{mended}\"`" if mended else \
         "two digits for each rate in units of 500 kb/s, 80 more for a basic one, as 82 for 1 Mb/s"

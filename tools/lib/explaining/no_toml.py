@@ -22,6 +22,7 @@ SEPARATOR_LIKE = re.compile(r"\s*(?:-\s*){2,}\r?|\s*(?P<mark>[*_~+])(?P=mark){2,
                             r"|\s*={3,}\s*|\s*-{3,}\s*#.*")
 HIDDEN_SEPARATOR = re.compile(r"\s*[#;/]+\s*-{3,}.*")
 BRACED_SIGN = re.compile(r"(?<=[\w\"'])\s*:\s*(?=[\"'\d\[{tf])(?![0-9A-Fa-f]{2}[:\"'])")
+HUGE = re.compile(r"^[ \t]*[\w-]+[ \t]*=[ \t]*([+-]?[0-9][0-9_.]*[eE][+]?[0-9]{3,})", re.MULTILINE)
 NETWORK_OF_NAME = re.compile(r"^[ \t]*(\[\[? *network *\.[^\]\n]*\]\]?)", re.MULTILINE)
 NAMED_HEADER = re.compile(r"\s*\[+ *network[ :=\"'-]+(\w[\w .-]*?)[\"']? *\]*\s*")
 LEAST_KEYS = 3  # of a network, by which it is told from a key that was written twice
@@ -360,6 +361,9 @@ def of_table_twice(place: Place, line: str, fault: NoToml, source: Source) -> Fi
 
 def of_library(source: Source) -> list[Finding]:
     """A header that makes one table of the networks; else what Python's own reader says of the text."""
+    large = HUGE.search(source.text)
+    if large:
+        return [Finding(f"no number of TOML is so large as {quoted(large[1])}", source.at(*large.span(1)))]
     header = NETWORK_OF_NAME.search(source.text)
     if header:
         return [Finding(f"`{header[1]}` makes one table of `network`, and networks are an array of tables",

@@ -122,6 +122,9 @@ def of_end(place: Place, text: str, key: str, name: str) -> Finding | None:
 
 def of_several_keys(place: Place, text: str, key: str, name: str) -> Finding | None:
     """More keys in the line, or a comma at its end."""
+    if "\r" in text.rstrip("\r"):
+        return Finding("a CR that isn't followed by LF ends no line", place.part("\r"),
+                       "`tr '\\r' '\\n'` writes line ends anew")
     if r"\n" in text:
         return Finding("`\\n` stands here as two characters, where a line should end", place,
                        "`printf '%b'` writes such a text with its line ends")
