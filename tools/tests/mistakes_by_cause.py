@@ -62,6 +62,7 @@ TABLES_AND_KEYS = [
     changed("fault C1", "dtim = 1", "dtim = off", "a whole number of 1 to 255", "write `dtim = 1`"),
     changed("fault C1", '"lab"', '"la\nb"', "this one goes on in the next", 'write `ssid = "la b"`'),
     changed("fault C1", "version = 2", "!include other.toml\nversion = 2", "no other file is read from here"),
+    changed("fault C1", '"lab"', 'P"caf\\xc3\\xa9"', "is hostapd's, where", 'write `ssid = "caf\u00e9"`'),
     changed("fault C1", "channel = 6\n", "channel = 6\r", "a CR that isn't followed by LF"),
     changed("fault C1", "queue = 64", "queue = 1e400", "no number of TOML is so large as `1e400`"),
     changed("fault C10 network 0", '"82840b16"', r'"\x82\x84\x0b\x16"', "written with `\\x`", 'rates = "82840b16"'),
@@ -91,6 +92,8 @@ REPORTS = [
 ]
 AMONG_LINES = [
     traced("fault L2 line 1", f"{PROBE[:-1]}\n{PROBE}\n", "an odd number of digits", "this group has 11"),
+    traced("fault L2 line 1", f"{PROBE[:-9]}>\n", "a mark of a pager or an editor", "copy the whole line"),
+    traced("fault L2 line 1", f"{PROBE}$\n{PROBE}$\n", "as `cat -A` shows it"),
     traced("fault L1 line 1", f"T;\n{PROBE}\n", "nothing follows `T`"),
     traced("fault L1 line 1", f"`{PROBE}`\n", "stands around the line, and a trace has no quotes", "write `A 4000"),
     traced("fault L1 line 1", f'"{PROBE}"\nT\n', '`"` stands around the line', "write `A 4000"),
@@ -138,6 +141,9 @@ WORDS = [
     (["r", "my.toml", "my.trace"], "fault words", ["no word `r`", "write `run my.toml my.trace`"]),
 ]
 FILES = [
+    (["check", "my.conf"], "fault file my.conf", ["`my.toml` is there, and may be meant"]),
+    (["play", "my.toml", "my.trace,", "my.trace"], "fault file my.trace,", ["`,` is a part of this name"]),
+    (["run", "", "my.trace"], "fault file ", ["the name of a file is empty: CONFIG, the word 1 behind the command"]),
     (["check", "mytoml"], "fault file mytoml", ["`my.toml` is there, and may be meant"]),
     (["run", "CONFIG", "TRACE"], "fault file CONFIG", ["stands for the name of a file", "as `run my.toml my.trace`"]),
     (["check", "C:\\my.toml"], "fault file C:\\my.toml", ["a path of Windows", "/mnt/c/my.toml"]),

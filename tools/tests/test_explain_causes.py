@@ -5,13 +5,23 @@ import os
 from common import PROGRAM, ToolTest, needs_program, tool
 from explaining import whole
 from explaining.answers import run_program
-from test_explain_outcomes import (CELLAR, CELLARS, CONFIG, HOST, JOINED, OTHER, RATES, THIRD, auth, data, join,
+from test_explain_outcomes import (ATTIC, CELLAR, CELLARS, CONFIG, HOST, JOINED, OTHER, RATES, THIRD, auth, data, join,
                                    managed, null, poll, probe, ssid, wire)
 
 ALL, SNAP, DOUBT = "ffffffffffff", "aaaa03000000", "it may not say what is meant"
 PACKET = "4500001400010000400100000a0001020a000101"
 NEW = [auth(THIRD), join(THIRD)]
+SECOND = [auth(THIRD, CELLAR), join(THIRD, CELLAR, "cellar")]
 COUNTED = data(to=HOST).replace(f"{HOST} 0000", f"{HOST} 1000")
+
+
+def bare(line, cut):
+    """A line without spaces between its fields, and without the octets from one place up to another."""
+    begin = line.index(" ", 2) + 1 if line[0] == "W" else 2
+    digits = line[begin:].replace(" ", "")
+    return line[:begin] + digits[:2 * cut[0]] + digits[2 * cut[1]:]
+
+
 # Of each run after JOINED: what is said of it, and what isn't.
 CASES = [
     # polls
@@ -32,6 +42,20 @@ CASES = [
     ([auth(THIRD, CELLAR), join(THIRD, CELLAR, "cellar"), null(station=OTHER, network=CELLAR),
       data(station=THIRD, network=CELLAR, to=OTHER), f"A a400 01c0 {CELLAR} {OTHER}"],
      ["the unit of line 8 went over the wire alone, since cellar doesn't relay"], []),
+    ([null("4809"), wire(), poll()], ["; `08` is Retry, and Power Management is `10`",
+                                      "the station is awake: in line 5 Retry is 1, and Power Management 0"], []),
+    ([auth(THIRD), null(station=THIRD), join(THIRD), poll("02c0", THIRD)],
+     ["the station is awake: line 6, by which it dozes, came before it was associated"], []),
+    # what is right, and has no remark
+    ([null(), wire(), wire(), data(to=HOST), data(to=HOST), wire()], ["nothing odd"], []),
+    ([data("0001f3", to=HOST), data("0001bf818102", to=HOST), data("0001f3", to=ATTIC)], ["nothing odd"], []),
+    ([*SECOND, data(f"{SNAP} 0806 0001080006040001", station=OTHER, network=CELLAR)], [], ["doesn't relay"]),
+    ([*SECOND, wire(OTHER, bssid=CELLARS), data(station=OTHER, network=CELLAR)], [], ["doesn't relay"]),
+    ([*SECOND, data(station=OTHER, network=CELLAR)], ["a group, and cellar doesn't relay"], []),
+    ([null("4801")], ["a station shows so that it is still there"], []),
+    # what an access point answers
+    ([f"A b000 0000 {THIRD} {ATTIC} {ATTIC} 0000 0000 0200 0000"], ["leave the line out: the program makes its networks' "
+                                                                    "answers itself"], ["has the BSSID as Address 1"]),
     # stations that come later
     ([auth(THIRD), data(station=THIRD), join(THIRD)],
      ["the station isn't associated: it didn't ask to associate before; it associates after that, in line 7"],
@@ -64,6 +88,18 @@ CASES = [
     ([data(to="fffffffffffe")], ["my.trace:5:39", "is a group that nobody is in"], []),
     ([auth(THIRD), join(THIRD, rates="010502040b1617")], ["no station of 802.11b or g has: `17`, 11.5 Mb/s"], []),
     ([auth(THIRD), join(THIRD, rates="010502040b16ff")], [], ["no station of 802.11b or g has"]),
+    # headers that lack octets, without spaces between their fields
+    ([bare(data(f"{SNAP} 0800 01", to=HOST), (2, 4))], ["no network takes it", "Duration"], []),
+    ([bare(auth(THIRD), (1, 2))], ["my.trace:5:3", "an octet is missing before Address 1, where Frame Control 2"],
+     ["Address 1 has"]),
+    ([bare(auth(THIRD), (0, 2))], ["two octets are missing before Address 1"], []),
+    ([bare(data(f"{SNAP} 0800 01", to=HOST), (20, 21))], ["LLC and SNAP begin behind 23 octets", "an octet is missing"],
+     ["have six octets"]),
+    ([bare(data(f"{SNAP} 0800 01", to=HOST), (10, 16))], ["six octets, as many as an address has, are missing"], []),
+    ([bare(wire(rest=f"0800 {PACKET}"), (3, 4))], ["the type `0800` stands behind 11 octets"], ["is a length"]),
+    ([bare(wire(rest=f"0800 {PACKET}"), (6, 12))], ["an address is missing before it"], ["no length"]),
+    ([bare(wire(rest=f"0800 {PACKET}"), (13, 14))], ["`08` alone stands where the type does"], []),
+    ([auth(THIRD).replace(ATTIC, "000200000001")], ["Address 1 is 00:02:00:00:00:01, and attic has"], []),
     # a wrong length is no frame check sequence
     ([f"A 4000 0000 {ALL} {THIRD} {ALL} 0000 0004{b'attic'.hex()} {RATES}"], ["its length `04` has to be `05`"],
      ["check sequence"]),
@@ -84,6 +120,10 @@ CHANGED = [
     (("", ""), [*JOINED, auth(THIRD), join(THIRD, rates="010104")], ["off them in `rates` in my.toml, line 8"]),
     (("aging = false", "aging = true"), [*JOINED[2:], auth(), join(listen="0100"), null(), wire(), "T", "T", "T"],
      ["`aging` in my.toml, line 15"]),
+    (("aging = false", "aging = true"), [*JOINED[2:], auth(), join(listen="0000"), null(), wire(), "T", "T"],
+     ["my.trace:4:62", "Listen Interval `0000` is 0 beacon intervals", "listen interval 0), which line 4 says"]),
+    (('"attic"', '"caf\u00c3\u00a9"'), [probe("caf\u00e9")], ["encoded twice (UTF-8 of UTF-8)",
+                                                              "encoded a second time", 'write `ssid = "caf\u00e9"`']),
     (("max_events = 1000", "max_events = 3"), [*JOINED, data(to=HOST)], ["`max_events` stands in my.toml, line 13"]),
     (('"attic"', '"loft"'), [auth(), managed("2000", f"0100 0a00 {ssid('loft')} {RATES}")],
      ["my.trace:2:67", "the Current AP Address of a reassociation request is missing",

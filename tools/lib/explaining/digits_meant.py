@@ -149,7 +149,14 @@ def of_named_fields(source: Source, number: int, line: str, begin: int, bssids: 
 
 
 def of_end(source: Source, number: int, line: str, at: int) -> Finding | None:
-    """A mark at the end of a line, as other languages end theirs."""
+    """A mark at the end of a line, as other languages end theirs, and pagers and editors those that go on."""
+    if line[at:].strip() in (">", "\u2026", "\u203a", "\u00bb"):
+        return Finding(f"{quoted(line[at:].strip())} at the end of a line is a mark of a pager or an editor, as "
+                       "`less -S` and nano set it: the line goes on behind it, and was cut",
+                       source.place(number, at + 1, len(line) - at), "copy the whole line, with the rest of its octets")
+    if line[at:].strip() == "$" and any(other.endswith("$") for other in source.lines if other != line):
+        return Finding("`$` stands at the end of each line, as `cat -A` shows it",
+                       source.place(number, at + 1, len(line) - at), "leave it out")
     if line[at:].strip() not in (";", ",", ".", "|", "/", ")", "]", "}", "\"", "'", ";;", "),", "\",", "',") or \
             line[octets_from(line)] in "([{\"'`":
         return None

@@ -51,6 +51,10 @@ def missing_file(name: str, advice: str | None, reason: OSError) -> Finding:
             (f": write {home}" if os.path.exists(home) else "; there is no " + home)
     if not os.path.isdir(folder):
         return Finding(f"{quoted(name)} isn't there: there is no folder {quoted(folder)}", None, advice)
+    marked = name.rstrip(",;")
+    if marked != name and os.path.exists(marked):
+        return Finding(f"{quoted(name)} isn't there: {quoted(name[len(marked):])} is a part of this name, since blanks "
+                       "alone separate names", None, f"write {marked}, without a mark behind it")
     plain = name.strip(QUOTES)
     if plain != name and os.path.exists(plain):
         return Finding(f"{quoted(name)} isn't there: the quotes are a part of this name", None, f"write {plain}")
@@ -75,7 +79,10 @@ def nearest_file(name: str, folder: str) -> str | None:
     files = {file.lower(): file for file in filter(like(name), there)}
     close = [files[file] for file in difflib.get_close_matches(base, files, 1, LIKE)]
     dotless = (file for file in there if base and file.lower().replace(".", "") == base.replace(".", ""))
-    return next(dotless, None) or next(iter(close), None)
+    stem, ending = os.path.splitext(base)
+    other = (file for file in sorted(there) if ending not in ENDINGS and os.path.splitext(file.lower())[0] == stem and
+             os.path.splitext(file)[1] in ENDINGS)
+    return next(dotless, None) or next(iter(close), None) or next(other, None)
 
 
 def with_more(name: str, folder: str) -> str | None:

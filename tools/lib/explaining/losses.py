@@ -42,11 +42,18 @@ def of_age(looked: Looked, keys: Keys) -> Reason:
     """Units that were kept for too long."""
     after = {row.address: row.kept for row in looked.step.after[looked.bssid].stations}
     old = [f"{address_text(row.address)} ({row.kept - after[row.address]}, listen interval {row.listen})"
+           f"{since(looked, row.address)}"
            for row in looked.section.stations if row.kept > after.get(row.address, 0)]
     return Reason("units that waited longer than their station sleeps are too old (`aging = true`): of "
                   f"{', '.join(old)}",
                   None, "the listen interval stands in the association request" +
                   (f", `aging`{where}" if (where := keys.where("aging")) else ""))
+
+
+def since(looked: Looked, station: bytes) -> str:
+    """The line by which a station associated, which says how long it sleeps."""
+    line = looked.past.listening.get((looked.bssid, station))
+    return f", which line {line} says" if line else ""
 
 
 def of_form(unit: Unit, octets: bytes) -> Reason:

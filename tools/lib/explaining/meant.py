@@ -2,6 +2,7 @@
 destination that isn't reached. Such a frame does something, often not what was meant."""
 from typing import NamedTuple
 
+from explaining.configuration import Keys
 from explaining.nothing import Looked, slip_of_group, with_data
 from explaining.past import home_of, station_in
 from explaining.reason import Lack, Reason
@@ -9,7 +10,7 @@ from explaining.odd_config import STATIONS_HAVE
 from explaining.rates_lacking import DECIMAL_ID, OF_RATES
 from explaining.stations_meant import of_disassociation, of_mode, of_waking
 from explaining.unheard import nearest
-from explaining.units_meant import of_unit
+from explaining.units_meant import is_packet, is_test, of_unit
 from explaining.values import BASIC, UNITS
 from explaining.wired_meant import doubtful_on_wire
 from fields import FIXED
@@ -40,9 +41,10 @@ class Relay(NamedTuple):
         return f"with `relay = true`{self.place} stations reach each other"
 
 
-def doubts(looked: Looked, relay: Relay) -> list[Reason]:
+def doubts(looked: Looked, relay: Relay, keys: Keys) -> list[Reason]:
     """What is doubtful in a frame that a network took and read: of a unit its destination and its beginning."""
-    first, frame = doubtful(looked, relay), Frame(looked.step.line.octets)
+    frame = Frame(looked.step.line.octets)
+    first = doubtful(looked, relay) or (no_sleep(frame, keys) if looked.step.line.kind == "A" else None)
     is_unit = looked.step.line.kind == "A" and frame.type == DATA and frame.subtype == PLAIN_DATA
     unit = of_unit(frame.body) if is_unit and first else None
     return list(dict.fromkeys(filter(None, (first, unit))))
@@ -84,6 +86,17 @@ def of_identifier(frame: Frame) -> Reason | None:
     return None if written & HIGH_BITS == HIGH_BITS else Reason(
         f"the identifier of the poll, `{frame.octets[2:4].hex()}`, lacks its two high bits, which a station sets; a "
         "network here reads the low 14 bits alone", (2, 4), f"write `{meant}`")
+
+
+def no_sleep(frame: Frame, keys: Keys) -> Reason | None:
+    """A station that says that it doesn't sleep, where units that wait for longer than it sleeps are lost."""
+    entry = keys.table.entries.get("aging") if keys.table else None
+    if frame.type != MANAGEMENT or frame.subtype not in (ASSOCIATION_REQUEST, REASSOCIATION_REQUEST) or \
+            frame.body[2:4] != bytes(2) or entry is None or entry.value.worth is not True:
+        return None
+    return Reason("Listen Interval `0000` is 0 beacon intervals, and units age here (`aging = true`): a unit that "
+                  "waits for this station is lost at the second `T` behind it", (HEADER_LEN + 2, HEADER_LEN + 4),
+                  f"write how many it sleeps, as `0a00` for 10; `aging` stands{keys.where('aging')}")
 
 
 def of_copy(looked: Looked, frame: Frame) -> Reason | None:
@@ -193,6 +206,8 @@ def of_destination(looked: Looked, frame: Frame, relay: Relay) -> Reason | None:
     to, station = frame.third, looked.station(frame.third)
     there, what = f"its destination, Address 3, is {address_text(to)}", \
         "Address 3 of data is the destination: a station, a host on the wire, or all (`ffffffffffff`)"
+    if to == looked.bssid and is_test(frame.body):
+        return None
     if to == looked.bssid:
         return Reason(f"{there}, the network itself, which has no use for it: the unit goes over the wire to that "
                       "address", THIRD, what)
@@ -208,7 +223,8 @@ def of_destination(looked: Looked, frame: Frame, relay: Relay) -> Reason | None:
     if to == frame.transmitter:
         return Reason(f"{there}, the sender itself", THIRD, what)
     others = [address for address in looked.associated() if address != frame.transmitter]
-    if is_group(to) and not relay.is_on and others:
+    is_for_wire = looked.bssid in looked.past.wired or is_packet(frame.body)
+    if is_group(to) and not relay.is_on and others and not is_for_wire:
         return Reason(f"{there}, a group, and {looked.section.name} doesn't relay (`relay = false`): the unit goes "
                       f"over the wire alone, and {address_text(others[0])} doesn't get it", THIRD,
                       relay.advice())

@@ -66,6 +66,20 @@ def without_current(frame: Frame, begin: int) -> Reason | None:
                   "an association request, which has no such field, begins with `0000`")
 
 
+def is_utf8(name: bytes) -> bool:
+    """Whether octets are UTF-8."""
+    return name.decode("utf-8", "replace").encode() == name
+
+
+def encoded_twice(name: bytes) -> bytes | None:
+    """The octets of a name that were encoded a second time, each as a letter; None where they weren't."""
+    try:
+        octets = name.decode().encode("latin-1")
+    except UnicodeError:
+        return None
+    return octets if not octets.isascii() and is_utf8(octets) else None
+
+
 def seen_of(name: bytes) -> bytes:
     """A name without the characters that aren't seen."""
     text = name.decode("utf-8", "replace")
@@ -114,6 +128,11 @@ def unknown_name(asked: bytes, names: list[bytes], span: tuple[int, int]) -> Rea
         return Reason(f"no network is called {ssid_text(asked)}: this is {ssid_text(ended)} with a line end, "
                       f"`{asked[len(ended):].hex()}`, as `echo` writes one behind a "
                       f"text", span, f"write `{element(ended)}`")
+    twice = next((name for name in names if encoded_twice(name) == asked), None)
+    if twice is not None:
+        return Reason(f"no network is called {ssid_text(asked)}: the configuration has it as {ssid_text(twice)}, whose "
+                      "letters are encoded twice (UTF-8 of UTF-8)", span,
+                      f"write `ssid = \"{asked.decode()}\"` in the configuration")
     latin = next((name for name in names if not asked.isascii() and
                   name.decode("utf-8", "replace").encode("latin-1", "replace") == asked), None)
     if latin is not None:

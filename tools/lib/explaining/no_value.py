@@ -84,11 +84,24 @@ def of_quotes(place: Place, text: str, key: str, name: str) -> Finding | None:
     if QUOTES.search(text):
         return Finding(f"these quotes are of print, and TOML's are `\"` and `'`{also_in_quotes(place)}", place,
                        f"write `{name} = {in_form(QUOTES.sub('', text), key)}`")
+    octets = of_octets(text)
+    if octets and key == "ssid":
+        return Finding("`P\"..\"` is hostapd's, where `\\xc3` is an octet, and in TOML it is a letter", place,
+                       f'write `{name} = "{octets}"`')
     wrapped = WRAPPED.fullmatch(text)
     if wrapped and key in TEXT_KEYS:
         return Finding(f"{quoted(text[:wrapped.start(1)])} stands before the text, and a text is between quotes alone",
                        place, f"write `{name} = {in_form(wrapped['text'], key)}`")
     return None
+
+
+def of_octets(text: str) -> str | None:
+    """The letters of a text of hostapd that has octets in it, as `P"caf\\xc3\\xa9"`; None for another text."""
+    found = re.fullmatch(r'P"((?:[^"\\]|\\x[0-9A-Fa-f]{2})*)"', text)
+    if not found or "\\x" not in found[1]:
+        return None
+    octets = re.sub(rb"\\x([0-9A-Fa-f]{2})", lambda octet: bytes([int(octet[1], 16)]), found[1].encode())
+    return octets.decode("utf-8", "replace")
 
 
 def also_in_quotes(place: Place) -> str:

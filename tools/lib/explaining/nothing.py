@@ -186,7 +186,9 @@ def poll(looked: Looked, frame: Frame) -> Reason | None:
         past.woken, past.emptied, past.overlooked, past.missed))
     if not station.doze:
         is_data = "Data frame" in (overlooked or woken)
-        return Reason(f"the station is awake{overlooked or woken}, and a poll brings a unit to one that dozes", (0, 2),
+        vain = past.in_vain.get((looked.bssid, station.address), "")
+        return Reason(f"the station is awake{overlooked or woken or vain}, and a poll brings a unit to one that dozes",
+                      (0, 2),
                       "where it goes on dozing that frame begins with `0811`" if is_data else
                       "a Null that begins with `4811` says before that it dozes")
     of_group = looked.section.kept - sum(row.kept for row in looked.section.stations)
@@ -233,10 +235,15 @@ def mode(looked: Looked, frame: Frame) -> Reason | None:
         return Reason(f"{said}: this line is a copy of line {same}, octet for octet, Address 2 too", (10, 16),
                       f"where {address_text(other)} was meant, which {'is awake' if station.doze else 'dozes'}, write "
                       f"`{other.hex()}`")
-    more = "; `20` is More Data, which isn't read, and Power Management is `10`" if frame.more_data and \
-        not frame.power_management else ""
-    return Reason(said + more, (1, 2),
-                  f"`{'4801' if station.doze else '4811'}` says that it {'is awake' if station.doze else 'dozes'}")
+    is_again = looked.past.first_sent(looked.bssid, frame, looked.step.line.number) is not None
+    odd = "" if frame.power_management else "`20` is More Data, which isn't read" if frame.more_data else \
+        "`08` is Retry" if frame.retry and not is_again else ""
+    more = f"; {odd}, and Power Management is `10`" if odd else ""
+    following = looked.past.next_frame(looked.bssid, frame.transmitter, looked.step.line.number)
+    polls = following is not None and is_poll(following[1])
+    shows = "" if station.doze or more or polls else "a station shows so that it is still there; "
+    return Reason(said + more, (1, 2), f"{shows}`{'4801' if station.doze else '4811'}` says that it "
+                  f"{'is awake' if station.doze else 'dozes'}")
 
 
 def with_data(frame: Frame) -> Reason | None:

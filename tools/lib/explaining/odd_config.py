@@ -5,6 +5,7 @@ from collections.abc import Collection
 
 from explaining import values
 from explaining.configuration import Config, NetworkTable, number_of
+from explaining.names import encoded_twice
 from explaining.rates_meant import without_header
 from explaining.source import LOOK_ALIKES, Finding, Source, plain_text, quoted
 from explaining.toml_scan import NoToml
@@ -68,12 +69,15 @@ def of_dtim(config: Config, interval: int, network: NetworkTable, dtim: int) -> 
 
 def of_blanks(config: Config, asked: Collection[bytes]) -> list[Finding]:
     """Names with a blank at an end, which nobody sees, but for those that stations ask for without it."""
-    return [Finding(f"the SSID of the network {place} {'begins' if name[0].isspace() else 'ends'} with a blank, which "
+    return [Finding(f"the SSID of the network {place} is blanks alone, which nobody sees",
+                    config.place(network.entries["ssid"].value), 'a name that people see is `ssid = "lab"`')
+            for place, network, name in texts_of(config, "ssid") if name and not name.strip()] + \
+        [Finding(f"the SSID of the network {place} {'begins' if name[0].isspace() else 'ends'} with a blank, which "
                     f"is a part of it: a station that asks for {quoted(name.strip())} isn't answered",
                     config.place(network.entries["ssid"].value),
                     f'where the blank isn\'t meant write `ssid = "{name.strip()}"`')
             for place, network, name in texts_of(config, "ssid")
-            if name != name.strip() and name.strip().encode() not in asked] + \
+            if name.strip() and name != name.strip() and name.strip().encode() not in asked] + \
         [Finding(f"the SSID of the network {place} has a character that isn't seen, U+{ord(name[at]):04X}",
                  config.place(network.entries["ssid"].value),
                  f"where it isn't meant write `ssid = \"{without_unseen(config, network, name)}\"`")
@@ -108,6 +112,10 @@ def strange_name(name: str) -> tuple[str, str] | None:
             f'where they aren\'t meant write `ssid = "{name[1:-1]}"`'
     if plain != name:
         return f"has {quoted(name)} as it stands, as the source of a page has it", f'write `ssid = "{plain}"`'
+    twice = encoded_twice(name.encode())
+    if twice is not None:
+        return f"is {quoted(name)}, the octets of {quoted(twice.decode())} encoded a second time: in a text `\\xc3` is " \
+            "a letter", f'where that is meant write `ssid = "{twice.decode()}"`'
     if letters:
         return f"is {quoted(name)}, the digits of {quoted(letters)}: `ssid` is the name as people read it", \
             f'where that is meant write `ssid = "{letters}"`'

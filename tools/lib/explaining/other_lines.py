@@ -7,10 +7,11 @@ from collections.abc import Callable
 from dataclasses import replace
 
 from explaining.answers import Fault, read_fault, run_program
+from explaining.pasted import foreign
 from explaining.source import Finding, Source
 
 QUOTED = re.compile("`[^`]*`|[0-9]+")
-MOST_LOOKED, MOST_NAMED, MOST_OCTETS = 200, 8, 4 << 20
+MOST_LOOKED, MOST_NAMED, MOST_OCTETS, MOST_TRACED = 200, 8, 4 << 20, 10_000
 # What is said of several lines already, or of a text as a whole.
 SAID_ALREADY = re.compile(r"so in |this text is |stands? in line|lines [\d, and]+|for the lines|, in all lines")
 
@@ -53,3 +54,16 @@ def numbers(source: Source, faults: list[Fault]) -> str:
 def is_same(one: Finding, others: list[Finding]) -> bool:
     """Whether the same is said of another line, but for what is quoted and counted there."""
     return len(others) == 1 and QUOTED.sub("`", one.text) == QUOTED.sub("`", others[0].text)
+
+
+def around_both(finding: Finding, trace: Source) -> Finding:
+    """What is said of a line around a text, with the lines of the trace's part of which the same is said."""
+    said = finding.text.split("; so in line")[0]
+    places = [found.place for number in range(1, min(len(trace.lines), MOST_TRACED) + 1)
+              if (found := foreign(trace, number)) and found.text.split("; so in line")[0] == said and found.place]
+    lines = [str(trace.first + place.line - 1) for place in places[:MOST_NAMED]]
+    if not lines:
+        return finding
+    also = f"; so in line{'s' * (len(lines) > 1)} {', '.join(lines)}" if said == finding.text else \
+        f" and {', '.join(lines)}"
+    return replace(finding, text=finding.text + also, advice=(finding.advice or "").replace("the line", "these lines"))

@@ -19,6 +19,7 @@ from explaining.notices import notice
 from explaining.past import Past, station_in
 from explaining.reason import Lack, Reason
 from explaining.refused import refusal_of, refused
+from explaining.shifted import shifted
 from explaining.source import Finding, Place, Source
 from explaining.spans import place_of_octets
 from explaining.unheard import unheard
@@ -88,7 +89,8 @@ class Outcomes:
         """What is said of a line; where it isn't written as a frame is, that is the reason of all that came of it."""
         text = self.trace.line(step.line.number).rstrip()
         slip = preamble(step.line) or other_numbers(text, step.line, step.before) or \
-            misfit(text, step.line, Known(step.before, self.past.seen))
+            misfit(text, step.line, Known(step.before, self.past.seen)) or \
+            shifted(step.line, step.before)
         told = False
         for said in self.of_effects(step, full, slip is not None):
             if not (told and slip):
@@ -123,7 +125,7 @@ class Outcomes:
         """What may not be meant of a frame that did something."""
         line = looked.step.line
         rule = wired_unread_kind(line.octets) if line.kind == "W" else unread_kind(looked.bssid, line.octets)
-        for reason in doubts(looked, self.relay(looked)) if rule is None else ():
+        for reason in doubts(looked, self.relay(looked), self.keys(looked)) if rule is None else ():
             yield Said(What.DOUBTFUL, DOUBT, reason)
 
     def of_silence(self, looked: Looked, is_slip: bool) -> Said | None:
@@ -148,7 +150,7 @@ class Outcomes:
 
     def of_answers(self, step: Step, looked: Looked) -> Iterator[Said]:
         """What a network refused or lost."""
-        keys = Keys(self.tables.get(looked.bssid), self.config)
+        keys = self.keys(looked)
         for sent in step.sent:
             refusal = None if sent.is_wired or sent.bssid != looked.bssid else refusal_of(sent.octets)
             if refusal and step.line.kind == "A":
@@ -164,9 +166,13 @@ class Outcomes:
         for reason in losses(looked, self.relay(looked).is_on, keys):
             yield Said(What.LOST, f"{network_text(looked)} loses a unit", reason)
 
+    def keys(self, looked: Looked) -> Keys:
+        """What the configuration says of a network."""
+        return Keys(self.tables.get(looked.bssid), self.config)
+
     def relay(self, looked: Looked) -> Relay:
         """Whether a network relays between its stations, and where that is said."""
-        keys = Keys(self.tables.get(looked.bssid), self.config)
+        keys = self.keys(looked)
         entry = keys.table.entries.get("relay") if keys.table else None
         return Relay(entry is None or entry.value.worth is not False, keys.where("relay", ","))
 

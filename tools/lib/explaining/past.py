@@ -5,7 +5,7 @@ from collections.abc import Callable, Iterable
 from explaining.line_by_line import Step
 from explaining.reason import Lack
 from explaining.refused import NOTICES, refusal_of
-from frames import (ASSOCIATION_REQUEST, AUTHENTICATION, DATA, DEAUTHENTICATION, DISASSOCIATION, MANAGEMENT,
+from frames import (ASSOCIATION_REQUEST, AUTHENTICATION, DATA, DEAUTHENTICATION, DISASSOCIATION, MANAGEMENT, NULL,
                     REASSOCIATION_REQUEST, Frame, address_text)
 from fields import MANAGEMENT_NAMES
 from in_words import kind_text, status_text
@@ -52,6 +52,7 @@ class Past:
         self.coming = {Lack(frame.octets[4:10], frame.transmitter, True): line_number(number)
                        for number, frame in frames if frame.is_management(ASSOCIATION_REQUEST)}
         self.hosts = {line.octets[6:12] for line in lines if line.kind == "W"}
+        self.wired = {line.bssid for line in lines if line.kind == "W"}
         self.told: dict[tuple[bytes, bytes], str] = {}
         self.answered: dict[tuple[bytes, bytes], str] = {}
         self.refusals: dict[tuple[bytes, bytes], tuple[int, str]] = {}
@@ -61,6 +62,8 @@ class Past:
         self.overlooked: dict[tuple[bytes, bytes], str] = {}
         self.missed: dict[tuple[bytes, bytes], str] = {}
         self.dozing: dict[tuple[bytes, bytes], str] = {}
+        self.in_vain: dict[tuple[bytes, bytes], str] = {}
+        self.listening: dict[tuple[bytes, bytes], int] = {}
         self.seen: set[bytes] = set()
         self.arrivals: dict[Lack, int] = {}
 
@@ -145,11 +148,27 @@ class Past:
                 self.failure(step, bssid, station) if after is not before else None
             if told:
                 self.told[bssid, station] = told
+            self.note_mode(step, bssid, station, after)
             answered = self.notice(step, bssid, station) if after is not before else None
             if answered:
                 self.answered[bssid, station] = answered
             if after is not before:
                 self.note_arrival(step, station_in(before, station), station_in(after, station), bssid)
+
+    def note_mode(self, step: Step, bssid: bytes, station: bytes, after: Section) -> None:
+        """Notes a frame by which a station dozes, and that was answered by a notice, since it wasn't associated."""
+        frame, row = Frame(step.line.octets), station_in(after, station)
+        if frame.type != DATA or frame.octets[4:10] != bssid:
+            return
+        odd = "More Data" if frame.more_data else "Retry" if frame.retry else ""
+        if row is not None and row.aid is not None:
+            self.in_vain.pop((bssid, station), None)
+            if odd and frame.subtype == NULL and not frame.power_management and not row.doze:
+                self.in_vain[bssid, station] = f": in line {self.line_number(step.line.number)} {odd} is 1, and " \
+                    "Power Management 0"
+        elif frame.power_management:
+            self.in_vain[bssid, station] = f": line {self.line_number(step.line.number)}, by which it dozes, came " \
+                "before it was associated"
 
     def note_arrival(self, step: Step, before: Station | None, after: Station | None, bssid: bytes) -> None:
         """Notes the last line by which a station came, and a mode that it told where none is read (11.2.3.2)."""
@@ -163,6 +182,9 @@ class Past:
             self.arrivals[Lack(bssid, after.address, True)] = number
             self.told.pop((bssid, after.address), None)
             self.answered.pop((bssid, after.address), None)
+        is_join = frame.type == MANAGEMENT and frame.subtype in (ASSOCIATION_REQUEST, REASSOCIATION_REQUEST)
+        if is_join and after.aid is not None and self.failure(step, bssid, after.address) is None:
+            self.listening[bssid, after.address] = number
         if frame.type == DATA:
             self.overlooked.pop((bssid, after.address), None)
         elif frame.type == MANAGEMENT and frame.power_management:

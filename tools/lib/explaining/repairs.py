@@ -6,8 +6,8 @@ from explaining.check_sequences import FCS_LEN, LEAST_LEN, ends_with_fcs
 from explaining.likeness import BEGINNINGS
 from explaining.reason import Reason
 from fields import ELEMENT_NAMES
-from frames import (ASSOCIATION_REQUEST, AUTHENTICATION, CONTROL, DATA, DEAUTHENTICATION, DISASSOCIATION, HEADER_LEN,
-                    MANAGEMENT, PLAIN_DATA, PROBE_REQUEST, PS_POLL, REASSOCIATION_REQUEST, Frame, is_group,
+from frames import (ASSOCIATION_REQUEST, AUTHENTICATION, BROADCAST, CONTROL, DATA, DEAUTHENTICATION, DISASSOCIATION,
+                    HEADER_LEN, MANAGEMENT, PLAIN_DATA, PROBE_REQUEST, PS_POLL, REASSOCIATION_REQUEST, Frame, is_group,
                     number)
 from in_words import kind_text
 from reading import FIXED_LEN, POLL_LEN, SNAP, hears, unread_kind
@@ -66,6 +66,9 @@ def changes(bssid: bytes, octets: bytes, current: bytes | None = None) -> Iterat
     head = octets[:2]
     yield head + DURATION + octets[2:], Reason("the two octets of Duration are missing behind Frame Control", (2, 4),
                                                f"write `{head.hex()} 0000`, and Address 1 behind it")
+    for receiver in (bssid, BROADCAST):
+        if octets[3:9] == receiver:
+            yield from of_cut_head(octets)
     yield from of_addresses(bssid, octets)
     if any(octets[16:22]):
         yield octets[:16] + bssid + octets[16:], Reason("Address 3 is missing behind Address 2", (16, 22),
@@ -78,6 +81,15 @@ def changes(bssid: bytes, octets: bytes, current: bytes | None = None) -> Iterat
     if ends_with_fcs(octets):
         yield octets[:-FCS_LEN], Reason("the last four octets are the frame check sequence, and a trace has frames "
                                         "without it", (len(octets) - FCS_LEN, len(octets)), "leave them out")
+
+
+def of_cut_head(octets: bytes) -> Iterator[tuple[bytes, Reason]]:
+    """A frame whose Address 1 stands an octet too early."""
+    reason = Reason(f"an octet is missing before Address 1, where Frame Control 2 and "
+                    f"{'AID' if Frame(octets).type == CONTROL else 'Duration'} 2 stand, and here three: "
+                    f"`{octets[:3].hex()}`", (0, 3), "write all four octets there, as `b000 0000`")
+    for begin in (octets[:2], *sorted(begin for begin in BEGINNINGS if begin[0] == octets[0])):
+        yield begin + (octets[1:3] if Frame(octets).type == CONTROL else DURATION) + octets[3:], reason
 
 
 def of_control(octets: bytes) -> Iterator[tuple[bytes, Reason]]:

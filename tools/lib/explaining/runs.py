@@ -136,10 +136,19 @@ def of_receivers(frames: list[Line], hearings: list[Hearing], traces: list[Sourc
     alone = [hearing for hearing in hearings if not hearing.has_frames_of_its_own()]
     if len(alone) == len(hearings) and to_one:
         return [of_other_networks(to_one, hearings, traces)]
-    findings = [Finding(f"{hearing.name}: no frame of this trace is to it, on the air or on its wire; it took "
-                        f"{frames_text(hearing.count('A'))} to all, and lines T: {hearing.count('T')}")
-                for hearing in alone if len(alone) < len(hearings)]
+    findings = of_alone(alone) if len(alone) < len(hearings) else []
     return findings + of_untaken([line for line in frames if line.number not in told], hearings, traces)
+
+
+def of_alone(alone: list[Hearing]) -> list[Finding]:
+    """Networks to which no frame of a trace is, all at once."""
+    if not alone:
+        return []
+    took = f"took {frames_text(alone[0].count('A'))} to all, and lines T: {alone[0].count('T')}"
+    if len(alone) == 1:
+        return [Finding(f"{alone[0].name}: no frame of this trace is to it, on the air or on its wire; it {took}")]
+    named = ", ".join(hearing.name.removeprefix("network ") for hearing in alone)
+    return [Finding(f"networks {named}: no frame of this trace is to them, on the air or on their wires; each {took}")]
 
 
 def of_other_networks(to_one: list[Line], hearings: list[Hearing], traces: list[Source]) -> Finding:

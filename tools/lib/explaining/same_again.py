@@ -8,13 +8,15 @@ from explaining.toml_scan import NoToml, scan
 
 QUOTED = re.compile("`[^`]*`")
 MOST_NAMED, MOST_LOOKED = 8, 5000
+WHOLE = ("this is ", "this text is ")
 SAID_ALREADY = ("; so in line", "stands a second time", "other lines too")
 
 
 def with_others(source: Source, finding: Finding, explain_line: Callable[[NoToml], Finding]) -> Finding:
     """A finding with the numbers of the lines behind it of which the same is to be said, each read by itself."""
     place = finding.place
-    if place is None or any(words in finding.text + (finding.advice or "") for words in SAID_ALREADY):
+    is_whole = finding.text.startswith(WHOLE) and "YAML" not in finding.text
+    if place is None or is_whole or any(words in finding.text + (finding.advice or "") for words in SAID_ALREADY):
         return finding
     numbers = []
     begin = sum(len(line) + 1 for line in source.lines[:place.line])

@@ -22,6 +22,8 @@ def of_waking(looked: Looked, frame: Frame) -> Reason | None:
     if following and is_poll(following[1]):
         return Reason(f"the station dozed, and this frame says that it is awake{sent}; its poll in line {following[0]} "
                       "brings nothing then", (1, 2), f"where it goes on dozing write `{dozing.hex()}`")
+    if station.kept:  # it wakes to get them, as stations do
+        return None
     unit = past.next_unit(looked.bssid, frame.transmitter, number)
     if unit is None or past.dozes_behind(looked.bssid, frame.transmitter, number):
         return None

@@ -5,8 +5,9 @@ from collections.abc import Iterable
 import called
 from explaining.check_sequences import LEAST_LEN
 from explaining.reason import Reason
-from explaining.repairs import repaired
-from frames import ASSOCIATION_REQUEST, BROADCAST, MANAGEMENT, PROBE_REQUEST, REASSOCIATION_REQUEST, Frame, address_text
+from explaining.repairs import ANSWERS, repaired
+from frames import (ASSOCIATION_REQUEST, AUTHENTICATION, BROADCAST, DATA, MANAGEMENT, PROBE_REQUEST,
+                    REASSOCIATION_REQUEST, Frame, address_text, number)
 from in_words import address_word, name_in
 
 NAMING = (PROBE_REQUEST, ASSOCIATION_REQUEST, REASSOCIATION_REQUEST)
@@ -24,9 +25,14 @@ def unheard(octets: bytes, networks: dict[bytes, str]) -> Reason | None:
         reason = repaired(bssid, octets)
         if reason:
             return reason
+    if octets[2:8] in networks or octets[2:8] == BROADCAST:
+        return Reason("two octets are missing before Address 1, where Frame Control 2 and Duration 2 stand, and here "
+                      f"`{octets[:2].hex()}` alone", (0, 2), "write both, as `b000 0000` of an authentication")
     if frame.transmitter in networks:
         return Reason(f"it is to {address_word(frame.receiver)} and from {networks[frame.transmitter]}: a network "
                       "sends this, and a trace has what networks hear", (4, 10),
+                      "leave the line out: the program makes its networks' answers itself, and the report has them"
+                      if is_answer(frame) else
                       "a station's frame has the BSSID as Address 1 and the station as Address 2")
     if frame.receiver == frame.transmitter:
         bssid = next((bssid for bssid in networks if bssid == frame.third), next(iter(networks)))
@@ -44,6 +50,15 @@ def unheard(octets: bytes, networks: dict[bytes, str]) -> Reason | None:
                   (4, 10), f"write `{like.hex()}`")
 
 
+def is_answer(frame: Frame) -> bool:
+    """Whether access points alone send such a frame: a response, a beacon, an authentication that answers, data with
+    From DS."""
+    if frame.type == DATA:
+        return frame.from_ds and not frame.to_ds
+    return frame.type == MANAGEMENT and (frame.subtype in ANSWERS or frame.subtype == AUTHENTICATION and
+                                         number(frame.body[2:4]) == 2)
+
+
 def by_name(octets: bytes, networks: dict[bytes, str]) -> Reason | None:
     """A request to another address that names one of the networks."""
     frame = Frame(octets)
@@ -56,9 +71,17 @@ def by_name(octets: bytes, networks: dict[bytes, str]) -> Reason | None:
 
 
 def nearest(address: bytes, others: Iterable[bytes]) -> bytes | None:
-    """The address that differs in one digit, or has two digits swapped, or its octets the other way round."""
+    """The address that differs in one digit, or has two digits or two octets swapped, or its octets the other way
+    round."""
     return next((other for other in others if other != address and
-                 (other == address[::-1] or is_slip(address.hex(), other.hex()))), None)
+                 (other == address[::-1] or is_slip(address.hex(), other.hex()) or is_swapped(address, other))), None)
+
+
+def is_swapped(one: bytes, other: bytes) -> bool:
+    """Whether two octets that stand side by side are swapped."""
+    places = [place for place, (mine, theirs) in enumerate(zip(one, other)) if mine != theirs]
+    return len(places) == 2 and places[1] == places[0] + 1 and \
+        one[places[0]:places[1] + 1] == other[places[0]:places[1] + 1][::-1]
 
 
 def is_slip(one: str, other: str) -> bool:

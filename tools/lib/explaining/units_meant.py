@@ -9,7 +9,8 @@ from frames import HEADER_LEN
 from reading import LEAST_TYPE, SNAP
 
 LLC_LEN, TYPE_LEN, ADDRESSES_LEN = 3, 2, 12
-UNNUMBERED = 0x03
+# Unnumbered commands and responses of LLC: UI, XID, TEST, SABME, DISC, UA, DM and FRMR, without and with P/F.
+UNNUMBERED = {0x03, 0x13, 0xAF, 0xBF, 0xE3, 0xF3, 0x6F, 0x7F, 0x43, 0x53, 0x63, 0x73, 0x0F, 0x1F, 0x87, 0x97}
 MOST_BEFORE, MOST_WRONG = 8, 2  # octets before LLC and SNAP, and wrong ones within them
 # Pairs of service access points of other protocols (IEEE Std 802, LLC): STP, IPX, NetBIOS, ISO, raw IPX.
 OTHER_PROTOCOLS = {bytes.fromhex(pair) for pair in ("4242", "e0e0", "f0f0", "fefe", "ffff")}
@@ -42,7 +43,20 @@ def at(begin: int, reason: Reason) -> Reason:
 
 def is_other_protocol(body: bytes) -> bool:
     """Whether a unit has an LLC header of another protocol than those with a type."""
-    return body[:2] in OTHER_PROTOCOLS or len(body) >= LLC_LEN and body[2] == UNNUMBERED
+    return body[:2] in OTHER_PROTOCOLS or len(body) >= LLC_LEN and body[2] in UNNUMBERED
+
+
+def is_test(body: bytes) -> bool:
+    """Whether a unit answers a TEST or XID command (IEEE Std 802.2), as stations answer those of an access point."""
+    return len(body) >= LLC_LEN and body[1] & 1 == 1 and body[2] in (0xE3, 0xF3, 0xAF, 0xBF)
+
+
+def is_packet(body: bytes) -> bool:
+    """Whether a unit begins as a packet of its type does, as those by which stations ask a router or a server."""
+    kind, packet = body[len(SNAP):len(SNAP) + TYPE_LEN].hex(), body[len(SNAP) + TYPE_LEN:]
+    begins = {"0800": packet[:1] == b"\x45" and len(packet) > 1, "0806": packet[:2] == b"\0\1",
+              "86dd": packet[:1].hex()[:1] == "6"}
+    return body.startswith(SNAP) and begins.get(kind, False)
 
 
 def of_strange_type(kind: bytes) -> Reason | None:

@@ -99,6 +99,8 @@ def explain(texts: Texts, answer: Answer) -> list[str]:
 def of_all_lines(texts: Texts, fault: Fault) -> list[Finding]:
     """The reasons for the first fault, and of a trace's line the others that have one too."""
     findings, trace = findings_of(texts, fault), texts.traces[0] if len(texts.traces) == 1 else None
+    if fault.code == "C1" and texts.is_joined and trace and len(findings) == 1:
+        return [other_lines.around_both(findings[0], trace)]
     if fault.line is None or texts.program is None or texts.config is None or trace is None or \
             len(trace.octets) > other_lines.MOST_OCTETS:
         return findings

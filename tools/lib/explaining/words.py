@@ -321,7 +321,9 @@ def of_file(fault: Fault, words: list[str]) -> list[Finding]:
                         f"give a text by `{called.program()} < my.input`, or `live CONFIG < LINES`")]
     advice = "`-` names a file here, and not standard input" if name == "-" else None
     if name == "":
-        return [Finding("the name of a file is empty", None, "a variable of the shell may be unset")]
+        which = {1: "CONFIG", 2: "TRACE"}.get(words.index(""), "a TRACE") if "" in words else ""
+        return [Finding("the name of a file is empty" + f": {which}, the word {words.index('')} behind the command" *
+                        bool(which), None, "a variable of the shell may be unset")]
     try:
         mode = os.stat(name).st_mode
     except NotADirectoryError:
