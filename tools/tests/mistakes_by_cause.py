@@ -16,7 +16,7 @@ SEVERAL_LINES = [
     of_config("fault C1", YAML, "my.toml:2:8", "`:` stands where TOML has `=`; so in line 4"),
     of_config("fault C1", CONFIG.replace(" = ", ": "), "this is YAML", "; so in lines 2, 3, 4, "),
     of_config("fault C1", CONFIG.replace(" = ", " => "), "`>` stands behind `=`", "; so in lines 2, 3, 4, "),
-    of_config("fault C1", CONFIG.replace("\n", ";\n"), "a line ends without `;`; so in lines 2, 3, 4"),
+    of_config("fault C1", CONFIG.replace("0\n", "0;\n").replace("4\n", "4;\n"), "a line ends without `;`; so in lines"),
     of_config("fault C1", CONFIG.replace("true", "True").replace("false", "False"), "`True` is no truth value",
               "; so in lines 16, 27, 28"),
     of_config("fault C1", CONFIG.replace('"', ""), "a text stands in quotes; so in lines 8"),

@@ -5,8 +5,8 @@ import os
 from common import PROGRAM, ToolTest, needs_program, tool
 from explaining import whole
 from explaining.answers import run_program
-from test_explain_outcomes import (ATTIC, CELLAR, CELLARS, CONFIG, HOST, JOINED, OTHER, RATES, THIRD, auth, data, join,
-                                   managed, null, poll, probe, ssid, wire)
+from test_explain_outcomes import (ATTIC, CELLAR, CELLARS, CONFIG, HOST, JOINED, OTHER, RATES, STATION, THIRD, auth, data,
+                                   join, managed, null, poll, probe, ssid, wire)
 
 ALL, SNAP, DOUBT = "ffffffffffff", "aaaa03000000", "it may not say what is meant"
 PACKET = "4500001400010000400100000a0001020a000101"
@@ -54,8 +54,11 @@ CASES = [
     ([*SECOND, data(station=OTHER, network=CELLAR)], ["a group, and cellar doesn't relay"], []),
     ([null("4801")], ["a station shows so that it is still there"], []),
     # what an access point answers
-    ([f"A b000 0000 {THIRD} {ATTIC} {ATTIC} 0000 0000 0200 0000"], ["leave the line out: the program makes its networks' "
-                                                                    "answers itself"], ["has the BSSID as Address 1"]),
+    ([f"A b000 0000 {THIRD} {ATTIC} {ATTIC} 0000 0000 0200 0000"],
+     ["leave the line out: the program makes its networks' answers itself"], ["has the BSSID as Address 1"]),
+    ([null(), wire(), f"A c811 0000 {ATTIC} {STATION} {ATTIC} 0000 0600"],
+     ["asks by it for what is kept, and here by a PS-Poll", f"write `A a400 01c0 {ATTIC} {STATION}`"], []),
+    ([f"A c811 0000 {ATTIC} {STATION} {ATTIC} 0000 0600"], ["write `4811` for `c811`"], ["PS-Poll: write"]),
     # stations that come later
     ([auth(THIRD), data(station=THIRD), join(THIRD)],
      ["the station isn't associated: it didn't ask to associate before; it associates after that, in line 7"],

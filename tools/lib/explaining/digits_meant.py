@@ -154,7 +154,7 @@ def of_end(source: Source, number: int, line: str, at: int) -> Finding | None:
         return Finding(f"{quoted(line[at:].strip())} at the end of a line is a mark of a pager or an editor, as "
                        "`less -S` and nano set it: the line goes on behind it, and was cut",
                        source.place(number, at + 1, len(line) - at), "copy the whole line, with the rest of its octets")
-    if line[at:].strip() == "$" and any(other.endswith("$") for other in source.lines if other != line):
+    if line[at:].strip() == "$" and sum(other.endswith("$") for other in source.lines) > 1:
         return Finding("`$` stands at the end of each line, as `cat -A` shows it",
                        source.place(number, at + 1, len(line) - at), "leave it out")
     if line[at:].strip() not in (";", ",", ".", "|", "/", ")", "]", "}", "\"", "'", ";;", "),", "\",", "',") or \

@@ -114,8 +114,8 @@ def strange_name(name: str) -> tuple[str, str] | None:
         return f"has {quoted(name)} as it stands, as the source of a page has it", f'write `ssid = "{plain}"`'
     twice = encoded_twice(name.encode())
     if twice is not None:
-        return f"is {quoted(name)}, the octets of {quoted(twice.decode())} encoded a second time: in a text `\\xc3` is " \
-            "a letter", f'where that is meant write `ssid = "{twice.decode()}"`'
+        return f"is {quoted(name)}, the octets of {quoted(twice.decode())} encoded a second time: in a text `\\xc3` " \
+            "is a letter", f'where that is meant write `ssid = "{twice.decode()}"`'
     if letters:
         return f"is {quoted(name)}, the digits of {quoted(letters)}: `ssid` is the name as people read it", \
             f'where that is meant write `ssid = "{letters}"`'

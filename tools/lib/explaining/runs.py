@@ -12,8 +12,10 @@ from explaining.joined import of_joined_frames
 from explaining.intervals import of_each_network
 from explaining.kept import GroupUnits, of_kept
 from explaining.line_by_line import steps
+from explaining.nothing import line_in
 from explaining.outcomes import Outcomes, What, is_told_in_sum
 from explaining.reason import Reason
+from explaining.repairs import TWO_HIGH_BITS
 from explaining.repeated import repeated
 from explaining.several import of_intervals, of_order
 from explaining.source import Finding, Source, in_order
@@ -25,7 +27,7 @@ from frames import BROADCAST, DATA, Frame, address_text, is_group, number
 from progress import Progress
 from texts import Line, frames_text, read_report, trace_line
 
-MOST_NAMED, MOST_UNITS, QOS = 3, 8, 0x80
+MOST_NAMED, MOST_UNITS, QOS, QOS_NULL = 3, 8, 0x80, 12
 RECEIVER, SENDER, WIRED_LEN = (4, 10), (10, 16), 14
 MAKES_TRACES = called.fellow("trace-from-capture")
 # What has its frame check sequence on, by the word of a line: where it was, and what to do.
@@ -296,11 +298,9 @@ def of_unread(hearing: Hearing, traces: list[Source], outcomes: Outcomes | None)
     qos = [line for line in summed.get("U3", []) if Frame(line.octets).is_qos]
     if qos:
         all_data = "all" if len(qos) == len(data) else f"{len(qos)} of {len(data)}"
-        begin = qos[0].octets[:2]
         findings.append(Finding(f"{hearing.name}: data frames of QoS (WMM), which it can't read (U3): {all_data}"
-                                f"{also_in(qos, traces)}", place_of(traces, qos[0], (0, 2)), "let the stations do "
-                                f"without it; in a trace write `{begin[0] & ~QOS:02x}{begin[1]:02x}` for "
-                                f"`{begin.hex()}`, and leave out the two octets of QoS Control behind the header"))
+                                f"{also_in(qos, traces)}", place_of(traces, qos[0], (0, 2)),
+                                f"let the stations do without it; {instead_of_qos(hearing, qos[0], outcomes)}"))
     own = [line for line in summed.get("U6", []) if Frame(line.octets).transmitter == hearing.section.bssid]
     asked = [line for line in summed.get("U6", [])
              if outcomes and outcomes.is_anothers(hearing.section.bssid, line.octets)]
@@ -316,6 +316,21 @@ def of_unread(hearing: Hearing, traces: list[Source], outcomes: Outcomes | None)
             findings.append(Finding(f"{hearing.name}: events unread ({kind}): {len(lines)} of {len(hearing.heard)} "
                                     f"({KINDS[kind]}){also_in(lines, traces)}", place_of(traces, lines[0])))
     return findings
+
+
+def instead_of_qos(hearing: Hearing, line: Line, outcomes: Outcomes | None) -> str:
+    """What to write for a frame of QoS: for the QoS Null of a station that dozes already, by which it asks for what is
+    kept (a trigger frame), a PS-Poll."""
+    frame, begin = Frame(line.octets), line.octets[:2]
+    station = next((row for row in hearing.section.stations if row.address == frame.transmitter), None)
+    since = line_in(outcomes.past.dozing.get((hearing.section.bssid, frame.transmitter), "")) if outcomes else 0
+    number = outcomes.past.line_number(line.number) if outcomes else 0
+    if frame.subtype == QOS_NULL and frame.power_management and station and station.aid and 0 < since < number:
+        aid = (station.aid | TWO_HIGH_BITS).to_bytes(2, "little").hex()
+        return "a station that dozes asks by it for what is kept, and here by a PS-Poll: write " \
+            f"`A a400 {aid} {hearing.section.bssid.hex()} {frame.transmitter.hex()}`"
+    return f"in a trace write `{begin[0] & ~QOS:02x}{begin[1]:02x}` for `{begin.hex()}`, and leave out the two octets " \
+        "of QoS Control behind the header"
 
 
 def of_reasons(hearing: Hearing, homes: dict[int, Source]) -> list[Finding]:
