@@ -5,8 +5,8 @@ import os
 from common import PROGRAM, ToolTest, needs_program, tool
 from explaining import whole
 from explaining.answers import run_program
-from test_explain_outcomes import (ATTIC, CELLAR, CELLARS, CONFIG, HOST, JOINED, OTHER, RATES, STATION, THIRD, auth, data,
-                                   join, managed, null, poll, probe, ssid, wire)
+from test_explain_outcomes import (ATTIC, CELLAR, CELLARS, CONFIG, HOST, JOINED, OTHER, RATES, STATION, THIRD, auth,
+                                   data, join, managed, null, poll, probe, ssid, wire)
 
 ALL, SNAP, DOUBT = "ffffffffffff", "aaaa03000000", "it may not say what is meant"
 PACKET = "4500001400010000400100000a0001020a000101"
@@ -125,8 +125,9 @@ CHANGED = [
      ["`aging` in my.toml, line 15"]),
     (("aging = false", "aging = true"), [*JOINED[2:], auth(), join(listen="0000"), null(), wire(), "T", "T"],
      ["my.trace:4:62", "Listen Interval `0000` is 0 beacon intervals", "listen interval 0), which line 4 says"]),
-    (('"attic"', '"caf\u00c3\u00a9"'), [probe("caf\u00e9")], ["encoded twice (UTF-8 of UTF-8)",
-                                                              "encoded a second time", 'write `ssid = "caf\u00e9"`']),
+    (('"attic"', '"caf\u00c3\u00a9"'),
+     [f"A 4000 0000 {ALL} {THIRD} {ALL} 0000 0005636166c3a9 {RATES}"],
+     ["encoded twice (UTF-8 of UTF-8)", "encoded a second time", 'write `ssid = "caf\u00e9"`']),
     (("max_events = 1000", "max_events = 3"), [*JOINED, data(to=HOST)], ["`max_events` stands in my.toml, line 13"]),
     (('"attic"', '"loft"'), [auth(), managed("2000", f"0100 0a00 {ssid('loft')} {RATES}")],
      ["my.trace:2:67", "the Current AP Address of a reassociation request is missing",

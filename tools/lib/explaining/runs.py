@@ -329,8 +329,8 @@ def instead_of_qos(hearing: Hearing, line: Line, outcomes: Outcomes | None) -> s
         aid = (station.aid | TWO_HIGH_BITS).to_bytes(2, "little").hex()
         return "a station that dozes asks by it for what is kept, and here by a PS-Poll: write " \
             f"`A a400 {aid} {hearing.section.bssid.hex()} {frame.transmitter.hex()}`"
-    return f"in a trace write `{begin[0] & ~QOS:02x}{begin[1]:02x}` for `{begin.hex()}`, and leave out the two octets " \
-        "of QoS Control behind the header"
+    return f"in a trace write `{begin[0] & ~QOS:02x}{begin[1]:02x}` for `{begin.hex()}`, and leave out the two " \
+        "octets of QoS Control behind the header"
 
 
 def of_reasons(hearing: Hearing, homes: dict[int, Source]) -> list[Finding]:
