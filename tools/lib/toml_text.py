@@ -1,5 +1,5 @@
-"""A configuration's TOML. The program reads version 1.1, and Python's library 1.0: what 1.1 has besides, and the program
-takes, is written as 1.0 has it (https://toml.io/en/v1.1.0)."""
+"""A configuration's TOML. The program reads version 1.1, and Python's library 1.0. What 1.1 has besides is written as
+1.0 has it (https://toml.io/en/v1.1.0)."""
 import re
 import tomllib
 
@@ -10,8 +10,8 @@ ESCAPE = re.compile(r"\\(?:x([0-9A-Fa-f]{2})|.)", re.DOTALL)
 
 
 def loads(text: str) -> dict:
-    """The tables of a text; tomllib.TOMLDecodeError, with the place in this text, where it is no TOML. A byte order mark
-    before it is passed over."""
+    """The tables of a text, whatever byte order mark stands before it; tomllib.TOMLDecodeError, with the place in this
+    text, where it is no TOML."""
     text = text.removeprefix("\ufeff")
     try:
         return tomllib.loads(text)

@@ -22,8 +22,9 @@ def array(ssid='"lab"', end=" ", comma=""):
 class TomlText(ToolTest):
     """What version 1.1 has besides 1.0."""
 
-    TEXTS = (array(), array(end="\n    "), array(end=" # }, that is\n"), array(comma=","), array(comma=", # the last\n"),
-             array(r'"\x6cab"'), array(r'"\x6c\x61\x62"', end="\n"), array("'lab'", end="\r\n"), f"\ufeff{array()}")
+    TEXTS = (array(), array(end="\n    "), array(end=" # }, that is\n"), array(comma=","),
+             array(comma=", # the last\n"), array(r'"\x6cab"'), array(r'"\x6c\x61\x62"', end="\n"),
+             array("'lab'", end="\r\n"), f"\ufeff{array()}")
 
     def test_each_is_read(self):
         """With the same values."""
