@@ -7,7 +7,6 @@ import subprocess
 import tomllib
 import zlib
 from collections import Counter
-from types import SimpleNamespace
 
 import mistakes
 import mistakes_by_cause
@@ -41,7 +40,7 @@ WORDS = [
     (["--", "--version"], "fault words", ["no word `--version`", "run CONFIG TRACE"]),
     (["check"], "fault words", ["CONFIG is missing", "check CONFIG"]),
     (["run", "my.toml"], "fault words", ["TRACE is missing", "run CONFIG TRACE"]),
-    (["run", "my.toml", "my.trace", "my.trace"], "fault words", ["two words", "play CONFIG TRACE..."]),
+    (["run", "my.toml", "my.trace", "my.trace"], "fault words", ["two words", "play my.toml my.trace my.trace"]),
     (["check", "my.toml", "my.trace"], "fault words", ["takes a configuration alone", "write `run my.toml my.trace`"]),
     (["chekc", "my.toml"], "fault words", ["no word `chekc`", "write `check my.toml`"]),
     (["RUN", "my.toml", "my.trace"], "fault words", ["no word `RUN`", "write `run my.toml my.trace`"]),
@@ -255,7 +254,7 @@ class Mistakes(ToolTest):
             self.write("my.toml", octets_of(mistake.config))
             config = self.path("my.toml")
             with self.assertRaises(LiveFault) as caught:
-                check_config(SimpleNamespace(config=config, program=PROGRAM))
+                check_config(PROGRAM, config)
             told = str(caught.exception).replace(config, "my.toml")
             self.assertEqual(told.split("\n")[0], f"my.toml: {mistake.said}")
             for words in mistake.says:
@@ -268,7 +267,7 @@ class Mistakes(ToolTest):
         self.write("program", b"#!/bin/sh\necho killed by somebody >&2\nexit 9\n")
         os.chmod(self.path("program"), 0o755)
         with self.assertRaises(LiveFault) as caught:
-            check_config(SimpleNamespace(config="my.toml", program=self.path("program")))
+            check_config(self.path("program"), "my.toml")
         self.assertEqual(str(caught.exception), "my.toml: killed by somebody")
 
     def write(self, name, octets):
