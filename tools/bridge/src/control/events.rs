@@ -11,7 +11,9 @@ use crate::formats::frames::Address;
 use crate::os::clock::{Duration, Instant};
 use crate::stations::news::{Forgotten, News};
 
+/// How many events of a network are kept.
 const MOST_OF_NETWORK: usize = 1000;
+/// How many events an answer has at most.
 const MOST_TOLD: usize = 1000;
 /// How long the next answer waits for each event of the last one, so that telling them takes little of the bridge's time.
 const FOR_EACH: Duration = Duration::from_micros(20);

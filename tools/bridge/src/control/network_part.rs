@@ -12,6 +12,7 @@ use crate::outbound::air::MOST_OCTETS;
 use crate::stations::station::{State, Station};
 use crate::stations::tally::Tally;
 
+/// How many stations of a network are listed at most.
 const MOST_STATIONS: usize = 1000;
 
 /// The network of this place.

@@ -14,7 +14,7 @@ const DATA_RETRIES: usize = 17;
 const MORE_PRESENT: u32 = 1 << 31;
 /// Of the fields up to the retries, in the order of their bits: their lengths and their alignments.
 const LENGTHS: [usize; 18] = [8, 1, 1, 4, 2, 1, 1, 2, 2, 2, 1, 1, 1, 1, 2, 2, 1, 1];
-const ALIGNMENTS: [usize; 18] = [8, 1, 1, 2, 1, 1, 1, 2, 2, 2, 1, 1, 1, 1, 2, 2, 1, 1];
+const ALIGNMENTS: [usize; LENGTHS.len()] = [8, 1, 1, 2, 1, 1, 1, 2, 2, 2, 1, 1, 1, 1, 2, 2, 1, 1];
 const HAS_FCS: u8 = 0x10;
 const BAD_FCS: u8 = 0x40;
 const BAD_PLCP: u16 = 0x0002;

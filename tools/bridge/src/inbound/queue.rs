@@ -30,6 +30,7 @@ pub struct InboundQueue {
     /// How many frames wait in all queues, and whether any of these was dropped so far.
     frames: usize,
     has_dropped: bool,
+    /// What waits with stations that are held: it comes out by `pop` alone.
     pub held: HeldFrames,
 }
 

@@ -9,6 +9,7 @@ use crate::os::clock::Instant;
 
 /// How many frames of a priority wait at most of one sender to one receiver.
 pub const MOST_OF_FLOW: usize = 32;
+/// The room of a queue.
 pub const MOST_FRAMES: usize = 8192;
 pub const MOST_OCTETS: usize = 2 << 20;
 

@@ -41,7 +41,7 @@ impl Token {
         match self {
             Token::Client(place) => FIRST_CLIENT + place as u64,
             Token::Wire(place) => FIRST_WIRE + place as u64,
-            single => SINGLE.iter().take_while(|one| **one != single).count() as u64,
+            single => SINGLE.iter().position(|one| *one == single).expect("it is in the list") as u64,
         }
     }
 

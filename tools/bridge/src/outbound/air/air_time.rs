@@ -18,6 +18,7 @@ pub struct Size {
     pub octets: usize,
     /// In units of 500 kb/s.
     pub rate: u8,
+    /// Whether its receiver acknowledges it.
     pub is_acknowledged: bool,
 }
 

@@ -23,6 +23,7 @@ enum Acknowledged {
 /// What is known of a station that falls asleep.
 #[derive(Debug)]
 pub struct Falling {
+    /// Whether the mark is answered.
     is_answered: bool,
     with_radio: Vec<WithRadio>,
     /// When outcomes are waited for no more.

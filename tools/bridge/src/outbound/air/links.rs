@@ -363,10 +363,12 @@ impl Link {
     }
 }
 
+/// The fragment and sequence number.
 fn number(frame: &[u8]) -> Option<u16> {
     Frame::of(frame)?.sequence_control()
 }
 
+/// Whether it is a frame of data, be it a Null frame.
 fn is_unit(frame: &[u8]) -> bool {
     Frame::of(frame).map_or(false, |frame| frame.frame_type() == FrameType::Data)
 }

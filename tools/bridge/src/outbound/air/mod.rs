@@ -139,6 +139,7 @@ struct Sent {
 }
 
 impl Sent {
+    /// Whether the bridge made it.
     fn is_own(&self) -> bool {
         matches!(self.kind, FrameKind::Own { .. })
     }
@@ -206,6 +207,7 @@ pub struct Transmitter {
     interface: Interface,
     /// How many frames were sent.
     pub sent: u64,
+    /// A station falls asleep and leaves by calls of this type alone: they take out what waits for it too.
     pub sleepers: Sleepers,
     /// Of each network whether units for the group follow its last beacon and came last.
     follows_dtim: Vec<bool>,

@@ -17,6 +17,7 @@ use crate::os::clock::{Duration, Instant};
 use crate::outbound::air::frame::OutboundFrame;
 use crate::outbound::air::scheduler::Place;
 
+/// How many wait of a network.
 pub const MOST_WAITING: usize = 64;
 /// How often one goes: 50 a second take about 6 % of the air at 1 Mb/s.
 pub const EVERY: Duration = Duration::from_millis(20);

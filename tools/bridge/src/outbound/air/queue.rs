@@ -10,6 +10,7 @@ use crate::outbound::air::scheduler::{Place, Scheduler};
 /// The most frames that wait of a network for one station, and for its groups or for all who aren't associated.
 pub const MOST_FOR_STATION: usize = 64;
 const MOST_FOR_OTHERS: usize = 256;
+/// The most octets that wait of a network.
 pub const MOST_OCTETS: usize = 2 << 20;
 /// How many frames wait for a station before what was kept for it waits apart.
 const MOST_BEFORE_BACKLOG: usize = 16;

@@ -89,6 +89,7 @@ fn with_more(share: f64, weight: f64, lost: i32, is_acknowledged: bool) -> f64 {
     }
 }
 
+/// A rate that the station and the network have.
 #[derive(Debug, Clone, Copy)]
 struct Rate {
     rate: u8,

@@ -317,6 +317,7 @@ impl<R: Copy + Ord + Hash, T> NetworkQueues<R, T> {
         }
     }
 
+    /// Whether it counts as a network that waits.
     fn waits(&self) -> bool {
         !self.ready.is_empty() || self.waiting > 0 && !self.is_passed_over
     }

@@ -41,6 +41,7 @@ const FEW: usize = 64;
 /// By which number the answer to a mark is known.
 pub type Mark = u64;
 
+/// The octets of a unit as a frame.
 pub type Octets = Rc<Vec<u8>>;
 
 #[derive(Debug, Clone, Copy, PartialEq, Eq)]
@@ -191,6 +192,7 @@ impl Sleepers {
         dropped.len()
     }
 
+    /// A station is associated, and awake.
     pub fn joins(&mut self, place: Place, station: Address, now: Instant) {
         if self.mode(place, station) != Mode::Awake {
             self.change(place, station, Mode::Awake, None, now);
@@ -336,6 +338,7 @@ impl Sleepers {
         step
     }
 
+    /// Whether something is to be done for stations that fell asleep.
     pub fn has_next(&self) -> bool {
         !self.steps.is_empty()
     }
