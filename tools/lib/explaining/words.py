@@ -237,7 +237,7 @@ def of_more_files(first: str, files: list[str], form: str) -> Finding:
     if first == "run" and all(map(os.path.isfile, files)):
         meant = sorted(files, key=lambda name: not CONFIGURATION.search(text_of(name)))
         return Finding(f"`run` takes two words and no more, one trace, and there are {count}", None,
-                       f"write `{shlex.join(['play', *meant])}`: it plays several traces at once")
+                       f"write `{shlex.join(['play', *meant])}`: `play CONFIG TRACE...` plays several at once")
     if first == "check" and all(CONFIGURATION.search(text_of(file)) for file in files):
         each = ", then ".join(f"`{shlex.join([first, file])}`" for file in files[:MOST_SHOWN])
         return Finding(f"`check` takes one configuration, and there are {count} words", None, f"write {each}")
