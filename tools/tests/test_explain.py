@@ -40,7 +40,7 @@ WORDS = [
     (["--", "--version"], "fault words", ["no word `--version`", "run CONFIG TRACE"]),
     (["check"], "fault words", ["CONFIG is missing", "check CONFIG"]),
     (["run", "my.toml"], "fault words", ["TRACE is missing", "run CONFIG TRACE"]),
-    (["run", "my.toml", "my.trace", "my.trace"], "fault words", ["two words", "play my.toml my.trace my.trace"]),
+    (["run", "my.toml", "my.trace", "my.trace"], "fault words", ["two words", "play CONFIG TRACE..."]),
     (["check", "my.toml", "my.trace"], "fault words", ["takes a configuration alone", "write `run my.toml my.trace`"]),
     (["chekc", "my.toml"], "fault words", ["no word `chekc`", "write `check my.toml`"]),
     (["RUN", "my.toml", "my.trace"], "fault words", ["no word `RUN`", "write `run my.toml my.trace`"]),
