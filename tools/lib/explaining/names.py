@@ -105,6 +105,12 @@ def length_meant(octets: bytes, place: int, asked: bytes) -> Reason | None:
 
 def unknown_name(asked: bytes, names: list[bytes], span: tuple[int, int]) -> Reason:
     """A name that no network has."""
+    return (written_otherwise(asked, names, span) or encoded_otherwise(asked, names, span)
+            or like_another(asked, names, span) or near_or_none(asked, names, span))
+
+
+def written_otherwise(asked: bytes, names: list[bytes], span: tuple[int, int]) -> Reason | None:
+    """The configuration has the name with what isn't meant to be a part of it."""
     in_quotes = next((name for name in names if len(name) > 2 and name[:1] == name[-1:] and name[:1] in QUOTES and
                       name[1:-1] == asked), None)
     if in_quotes is not None:
@@ -123,6 +129,11 @@ def unknown_name(asked: bytes, names: list[bytes], span: tuple[int, int]) -> Rea
         return Reason(f"no network is called {ssid_text(asked)}; one is with a character more that isn't seen, "
                       f"`{unseen.hex()}`", span,
                       f"write `ssid = \"{asked.decode('utf-8', 'replace')}\"` anew in the configuration")
+    return None
+
+
+def encoded_otherwise(asked: bytes, names: list[bytes], span: tuple[int, int]) -> Reason | None:
+    """The name has other octets for the same letters, or a line end behind them."""
     ended = next((name for name in names if asked.rstrip(b"\r\n") == name), None) if asked[-1:] == b"\n" else None
     if ended is not None:
         return Reason(f"no network is called {ssid_text(asked)}: this is {ssid_text(ended)} with a line end, "
@@ -143,6 +154,11 @@ def unknown_name(asked: bytes, names: list[bytes], span: tuple[int, int]) -> Rea
         return Reason(f"no network is called {ssid_text(asked)} in these octets, `{asked.hex()}`: "
                       f"{ssid_text(composed)} has "
                       f"the same letters composed otherwise, `{composed.hex()}`", span, f"write `{element(composed)}`")
+    return None
+
+
+def like_another(asked: bytes, names: list[bytes], span: tuple[int, int]) -> Reason | None:
+    """The name is hidden, differs from another in one way alone, or stands for its digits."""
     if asked.strip(b"\0") == b"":
         return Reason(f"its SSID is {len(asked)} zeros, as the beacon of a network that hides its name has it", span,
                       f"write the name, as `{element(names[0])}`")
@@ -163,6 +179,11 @@ def unknown_name(asked: bytes, names: list[bytes], span: tuple[int, int]) -> Rea
                       "`ssid` is the name as people read it",
                       span, f"write `ssid = \"{asked.decode('utf-8', 'replace')}\"` in "
                       "the configuration")
+    return None
+
+
+def near_or_none(asked: bytes, names: list[bytes], span: tuple[int, int]) -> Reason:
+    """The name in UTF-16, a name that is near, or which there are."""
     texts = {name.decode("utf-8", "replace"): name for name in names}
     wide = next((name for text, name in texts.items() if asked in map(text.encode, WIDE)), None)
     if wide is not None:

@@ -41,16 +41,26 @@ def address_fault(text: str) -> tuple[str, tuple[int, int], str | None] | None:
     if text.isascii() and re.fullmatch(r"[0-9A-Fa-f]{2}(?:[^0-9A-Za-z:.\- \t][0-9A-Fa-f]{2}){5}", text):
         return "an address has its six pairs with `:` between", whole, ":".join(re.findall("[0-9a-f]{2}", text.lower()))
     stray = re.search(r"[^0-9A-Fa-f:.\-\s]", text)
-    if stray and plain_letter(stray[0]):
+    return fault_of_stray(text, stray) if stray else fault_of_parts(text)
+
+
+def fault_of_stray(text: str, stray: re.Match[str]) -> tuple[str, tuple[int, int], str | None]:
+    """An address with a character that none has."""
+    plain_one = plain_letter(stray[0])
+    if plain_one:
         plain = plain_text(text)
         fault = address_fault(plain)
-        return (f"{quoted(stray[0])} isn't {quoted(plain_letter(stray[0]) or '')}, and an address has six pairs of "
-                "hexadecimal digits with `:` between", stray.span(), fault[2] if fault else plain.lower())
-    if stray:
-        letter = {"O": "0", "o": "0", "l": "1", "I": "1"}.get(stray[0])
-        mended = re.sub("[Oo]", "0", re.sub("[lI]", "1", text)) if letter else None
-        mended = mended if mended and address_fault(mended) is None else None
-        return f"{quoted(stray[0])} is no hexadecimal digit", (stray.start(), stray.end()), mended
+        return (f"{quoted(stray[0])} isn't {quoted(plain_one)}, and an address has six pairs of hexadecimal digits "
+                "with `:` between", stray.span(), fault[2] if fault else plain.lower())
+    letter = {"O": "0", "o": "0", "l": "1", "I": "1"}.get(stray[0])
+    mended = re.sub("[Oo]", "0", re.sub("[lI]", "1", text)) if letter else None
+    mended = mended if mended and address_fault(mended) is None else None
+    return f"{quoted(stray[0])} is no hexadecimal digit", stray.span(), mended
+
+
+def fault_of_parts(text: str) -> tuple[str, tuple[int, int], str | None]:
+    """Digits that aren't six pairs with `:` between."""
+    whole = 0, len(text)
     digits = re.sub(r"[:.\-\s]", "", text)
     parts = re.split(r"[:\-]", text.strip())
     if len(parts) == 6 and all(1 <= len(part) <= 2 for part in parts):

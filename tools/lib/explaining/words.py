@@ -48,62 +48,74 @@ def explain(fault: Fault, words: list[str]) -> list[Finding]:
 
 def of_words(fault: Fault, words: list[str]) -> list[Finding]:
     """Words that the program doesn't have."""
-    if not words:
-        return []
+    return [of_all_words(words) or of_known_word(words) or of_other_word(words)] if words else []
+
+
+def of_all_words(words: list[str]) -> Finding | None:
+    """What is wrong with the words whatever the first one is."""
     unreadable = [word for word in words if not word.isascii() and os.fsencode(word) != utf8_of(word)]
     if unreadable:
-        return [Finding("a word isn't UTF-8, and the program reads no other words", None,
-                        "give the file another name, or a link to it")]
+        return Finding("a word isn't UTF-8, and the program reads no other words", None,
+                       "give the file another name, or a link to it")
     dashed = next((word for word in words if word[:1] in DASHES), None)
     if dashed:
-        return [of_dashes(words, dashed)]
+        return of_dashes(words, dashed)
     cut = cut_name(words) or odd_words.of_shell(words) or odd_words.of_joined_words(words, SUBCOMMANDS)
     if not cut and words[0] in SUBCOMMANDS:
         cut = odd_words.of_two_commands(words[0], words[1:], SUBCOMMANDS)
     if cut:
-        return [cut]
+        return cut
     begin = next((at for at, word in enumerate(words) if os.path.basename(word) not in ITSELF), len(words))
     if 0 < begin < len(words) and not os.path.isfile(words[begin - 1]) and words[begin] in SUBCOMMANDS:
-        return [Finding(f"{quoted(words[begin - 1])} stands among the program's words, which begin with its "
-                        f"command", None,
-                        f"write `{shlex.join(words[begin:])}` behind the program's name alone")]
+        return Finding(f"{quoted(words[begin - 1])} stands among the program's words, which begin with its command",
+                       None, f"write `{shlex.join(words[begin:])}` behind the program's name alone")
+    return None
+
+
+def of_known_word(words: list[str]) -> Finding | None:
+    """A first word that is the program's, another tool's, or several in one."""
     first, rest = words[0], words[1:]
     if first in ("-h", "--help", "help", "-V", "--version"):
-        return [Finding(f"the program has no word {quoted(first)}", None, f"its words are {FORMS}")]
+        return Finding(f"the program has no word {quoted(first)}", None, f"its words are {FORMS}")
     if first in SUBCOMMANDS:
-        return [of_subcommand(first, rest)]
+        return of_subcommand(first, rest)
     several = names_within(first)
     if several:
-        return [of_several(several + rest, first)]
+        return of_several(several + rest, first)
     if first in OF_OTHERS:
         tool = called.fellow(OF_OTHERS[first])
-        return [Finding(f"the program has no word {quoted(first)}: it is one of "
-                        f"{tool}", None, f"write `{shlex.join([*tool.split(), *OF_ITSELF.get(first, [first])])}`")]
+        return Finding(f"the program has no word {quoted(first)}: it is one of {tool}", None,
+                       f"write `{shlex.join([*tool.split(), *OF_ITSELF.get(first, [first])])}`")
     if first in FELLOWS:
-        return [Finding(f"the program has no word {quoted(first)}: it is a tool of its own", None,
-                        f"write `{shlex.join([*called.fellow(first).split(), *rest])}`")]
+        return Finding(f"the program has no word {quoted(first)}: it is a tool of its own", None,
+                       f"write `{shlex.join([*called.fellow(first).split(), *rest])}`")
+    return None
+
+
+def of_other_word(words: list[str]) -> Finding:
+    """A first word that nobody has."""
+    first, rest = words[0], words[1:]
     close = [CALLED[first.lower()]] if first.lower() in CALLED else \
         difflib.get_close_matches(first.lower(), list(SUBCOMMANDS), 1, 0.6)
     if close:
         write = shlex.join([close[0], *rest]) if len(rest) >= LEAST[close[0]] else SUBCOMMANDS[close[0]]
-        return [Finding(f"the program has no word {quoted(first)}", None, f"write `{write}`")]
+        return Finding(f"the program has no word {quoted(first)}", None, f"write `{write}`")
     command = next((word for word in rest if word in SUBCOMMANDS), None)
     if command is not None:
         files = [word for word in words if word != command and not word.startswith("-")]
         options = [OCTETS] * (command == "live" and OCTETS in words)
-        return [Finding(f"the command comes first, and here {quoted(first)} does", None,
-                        f"write `{shlex.join([command, *options, *files])}`")]
+        return Finding(f"the command comes first, and here {quoted(first)} does", None,
+                       f"write `{shlex.join([command, *options, *files])}`")
     if first.startswith("-"):
         files = [value_of(word) for word in words if not word.startswith("-") or is_like_file(value_of(word))]
         more = f"write `{form_for(files)}`; " if files else ""
-        return [Finding(f"the program has no word {quoted(first)}, and no options", None,
-                        f"{more}its words are {FORMS}")]
+        return Finding(f"the program has no word {quoted(first)}, and no options", None, f"{more}its words are {FORMS}")
     if is_like_file(first):
-        return [of_missing_command(words)]
+        return of_missing_command(words)
     if rest and all(os.path.isfile(word) for word in rest):
-        return [Finding(f"the program has no word {quoted(first)}", None, f"write `{form_for(rest)}`; its words are "
-                        f"{FORMS}")]
-    return [Finding(f"the program has no word {quoted(first)}", None, f"its words are {FORMS}")]
+        return Finding(f"the program has no word {quoted(first)}", None, f"write `{form_for(rest)}`; its words are "
+                       f"{FORMS}")
+    return Finding(f"the program has no word {quoted(first)}", None, f"its words are {FORMS}")
 
 
 def of_missing_command(files: list[str]) -> Finding:
