@@ -1,56 +1,68 @@
-"""A configuration's TOML. The program reads version 1.1, and Python's library 1.0. What 1.1 has besides is written as
-1.0 has it (https://toml.io/en/v1.1.0)."""
-import re
+"""A configuration's TOML as values. The program reads version 1.1, and Python's library 1.0: where a text is 1.1 alone,
+the scanner of tools/explain reads it."""
 import tomllib
+from typing import Any
 
-# What has a meaning of its own wherever it stands: strings of four kinds, comments, brackets, commas and line ends.
-TOKEN = re.compile(r'"""(?:\\.|[^\\])*?"{3,5}' r"|'''.*?'{3,5}" r'|"(?:\\.|[^"\\\n])*"' r"|'[^'\n]*'"
-                   r"|#[^\n]*|[{}\[\],]|\r?\n", re.DOTALL)
-ESCAPE = re.compile(r"\\(?:x([0-9A-Fa-f]{2})|.)", re.DOTALL)
+from explaining.toml_scan import NoToml, Value, scan
 
 
-def loads(text: str) -> dict:
+def loads(text: str) -> dict[str, Any]:
     """The tables of a text, whatever byte order mark stands before it; tomllib.TOMLDecodeError, with the place in this
-    text, where it is no TOML."""
+    text, where it is no TOML. Of version 1.1 alone, a time is its text."""
     text = text.removeprefix("\ufeff")
     try:
         return tomllib.loads(text)
     except tomllib.TOMLDecodeError as fault:
         try:
-            return tomllib.loads(as_version_1_0(text))
-        except tomllib.TOMLDecodeError:
+            return scanned(text)
+        except NoToml:
             raise fault from None
 
 
-def escaped(match: re.Match[str]) -> str:
-    """An escape as version 1.0 has it."""
-    return r"\u00" + match[1] if match[1] else r"\u001b" if match[0] == r"\e" else match[0]
+def scanned(text: str) -> dict[str, Any]:
+    """The same by the scanner; NoToml where it is none."""
+    top: dict[str, Any] = {}
+    for table in scan(text):
+        held = top
+        if table.name:
+            holder, last = holder_of(top, table.name)
+            if table.is_of_array:
+                holder[last] = [*holder.get(last, []), {}]
+            held = inner(holder, last)
+        for entry in table.entries:
+            put(held, entry.key, worth_of(entry.value))
+    return top
 
 
-def as_version_1_0(text: str) -> str:
-    """The same text with inline tables on one line, no comma before their end, and no escapes of version 1.1."""
-    written: list[str] = []
-    opened: list[str] = []
-    place = 0
-    for token in TOKEN.finditer(text):
-        written.append(text[place:token.start()])
-        place = token.end()
-        written.append(in_table(token[0], written) if "{" in opened else token[0])
-        if token[0].startswith('"'):
-            written[-1] = ESCAPE.sub(escaped, token[0])
-        elif token[0] in "{[":
-            opened.append(token[0])
-        elif token[0] in "}]" and opened:
-            opened.pop()
-    return "".join(written) + text[place:]
+def worth_of(value: Value) -> Any:
+    """What a value is worth; a table's keys are in one another."""
+    if value.kind == "array":
+        return [worth_of(item) for item in value.items]
+    if value.kind != "table":
+        return value.worth
+    table: dict[str, Any] = {}
+    for entry in value.entries:
+        put(table, entry.key, worth_of(entry.value))
+    return table
 
 
-def in_table(token: str, written: list[str]) -> str:
-    """A token within an inline table; a comma that stands before the end of one is taken back."""
-    if token.startswith("#") or token.endswith("\n"):
-        return " "
-    if token == "}":
-        last = next((number for number in reversed(range(len(written))) if written[number].strip()), 0)
-        if written[last].strip() == ",":
-            written[last] = ""
-    return token
+def put(table: dict[str, Any], key: tuple[str, ...], worth: Any) -> None:
+    """Puts a value under a key, perhaps of several parts."""
+    holder, last = holder_of(table, key)
+    holder[last] = worth
+
+
+def holder_of(table: dict[str, Any], key: tuple[str, ...]) -> tuple[dict[str, Any], str]:
+    """The table that has the last part of a key, which may be new, and this part."""
+    for part in key[:-1]:
+        table = inner(table, part)
+    return table, key[-1]
+
+
+def inner(table: dict[str, Any], part: str) -> dict[str, Any]:
+    """The table under a part of a key, of several the last one; NoToml where something else is there."""
+    found = table.setdefault(part, {})
+    found = found[-1] if isinstance(found, list) and found else found
+    if not isinstance(found, dict):
+        raise NoToml("a table", 0, 1, part)
+    return found

@@ -3,9 +3,10 @@ import os
 import tomllib
 import unittest
 
-from common import ToolTest, needs_program, run_program, tool
+from common import CASES, ToolTest, needs_program, run_program, tool
 
 import toml_text
+from texts import read_text
 
 HEAD = "version = 1\nchannel = 6\ninterval = 100\nqueue = 16\n"
 VALUES = ('bssid = "02:00:00:00:00:01", ssid = {ssid}, rates = "82840B16", dtim = 1,{end}max_stations = 8, '
@@ -43,6 +44,29 @@ class TomlText(ToolTest):
                 self.assertEqual(run_program("check", path), "ok 1\n")
                 status, line, said = tool("frame", "--config", path, "auth", "02:aa:00:00:00:01", "lab")
                 self.assertEqual((status, line[:6], said), (0, "A b000", ""))
+
+    def test_scanner_and_library_agree(self):
+        """Of a text that both read."""
+        tables = ("a.b = 1\n'c d' = [1, {e = 2, f.g = true}]\n[h]\ni.j = 0x0f\n"
+                  "[[k.l]]\nm = 'x'\n[[k.l]]\nm = 1_0\n[k.n]\n")
+        inputs = [os.path.join(folder, "input") for folder in CASES.values()]
+        configs = [read_text(file).partition("---\n")[0] for file in inputs if os.path.exists(file)]
+        count = 0
+        for text in (tables, "", "a = []\n", array(), *configs):
+            try:
+                wanted = tomllib.loads(text)
+            except tomllib.TOMLDecodeError:
+                continue
+            count += 1
+            with self.subTest(text=text):
+                self.assertEqual(toml_text.scanned(text), wanted)
+        self.assertGreater(count, 50)
+
+    def test_a_value_is_no_table(self):
+        """Where a table is put under a value, the library's fault is told."""
+        for text in ("a = 1\n[a.b]\n", "a = [1]\n[a.b]\n", "a = 1\na.b = 2\n", "a = [1]\n[[a]]\n"):
+            with self.subTest(text=text), self.assertRaises(tomllib.TOMLDecodeError):
+                toml_text.loads(text)
 
     def test_strings_stay_as_they_are(self):
         """Nothing within a string is taken for a bracket, a comment or an escape that it isn't."""
