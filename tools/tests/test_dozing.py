@@ -1,6 +1,7 @@
 """Tests of what the cases of stations that doze count, and of the stations that are made up for them."""
 import contextlib
 import os
+import select
 import socket
 import subprocess
 import time
@@ -182,6 +183,28 @@ class Sent(unittest.TestCase):
         self.assertLess(stamps[4] - stamps[0], 0.4)
         self.assertGreaterEqual(stamps[5], 0.5)
         self.assertEqual(stamps, sorted(stamps))
+
+
+class Taken(unittest.TestCase):
+    """What the program `stamped` takes."""
+
+    def test_all_that_came_is_told_if_it_is_ended_meanwhile(self):
+        """More than a pipe holds, so that it still tells as the signal comes."""
+        number = 9000
+        with socket.socket(socket.AF_INET, socket.SOCK_DGRAM) as free:
+            free.bind(("127.0.0.1", 0))
+            port = free.getsockname()[1]
+        words = [os.path.join(GUEST_TOOLS, "stamped"), "receive", "127.0.0.1", str(port), "1000000", "1", "--stamps"]
+        with subprocess.Popen(words, stdout=subprocess.PIPE) as receiving:
+            self.assertEqual(receiving.stdout.readline(), b"ready\n")
+            with socket.socket(socket.AF_INET, socket.SOCK_DGRAM) as sending:
+                for _ in range(number):
+                    sending.sendto(time.monotonic_ns().to_bytes(8, "big"), ("127.0.0.1", port))
+            self.assertTrue(select.select([receiving.stdout], [], [], 60)[0], "it begins to tell")
+            receiving.terminate()
+            delays, stamps = receiving.communicate(timeout=60)[0].splitlines()
+        self.assertEqual(len(delays.split()), len(stamps.split()))
+        self.assertGreater(len(stamps.split()), 6000)
 
 
 class Heard(made_up.Habit):
