@@ -3,7 +3,7 @@ use Rattle.std.proofs.Common.{◌≡◌, ℕ, Bool, true, false, [], ◌∷◌, 
 use Rattle.mac_frame.specs.Samples.{network, station}
 use Rattle.association.specs.Samples.{other_station, frame}
 use Rattle.association.specs.Authentication.{auth_status, authentication}
-use Rattle.association.proofs.Rows.{Computes}
+use Rattle.mac_frame.proofs.Rows.{Computes}
 
 -- ---- statuses
 

@@ -4,7 +4,7 @@ use Rattle.mac_frame.specs.Samples.{network, station}
 use Rattle.elements.specs.Elements.{Pair}
 use Rattle.association.specs.Samples.{other_station, frame, four_rates, ssid}
 use Rattle.association.specs.Joining.{assoc_status, aid_field, association_response}
-use Rattle.association.proofs.Rows.{Computes}
+use Rattle.mac_frame.proofs.Rows.{Computes}
 
 -- ---- statuses
 

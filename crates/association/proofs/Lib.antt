@@ -1,4 +1,3 @@
-pub mod Rows
 pub mod AuthenticationRows
 pub mod JoiningRows
 pub mod LeavingRows

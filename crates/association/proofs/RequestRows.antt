@@ -10,7 +10,7 @@ use Rattle.station_state.specs.declared.class.Class.TheVariants.{One, Two, Three
 use Rattle.association.specs.Asked.{class_of}
 use Rattle.association.specs.Request.{Request, Probe, Auth, Assoc, Disassoc, Deauth, Msdu, Null, Poll, request_of}
 use Rattle.association.specs.Samples.{ssid}
-use Rattle.association.proofs.Rows.{Computes}
+use Rattle.mac_frame.proofs.Rows.{Computes}
 
 -- a management frame to the network, by its first octet
 abbrev managed : ℕ → List ℕ → List ℕ

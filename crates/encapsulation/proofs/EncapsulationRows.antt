@@ -3,7 +3,7 @@ use Rattle.std.proofs.Common.{◌≡◌, ℕ, List, [], ◌∷◌, ◌++◌, rep
 use Rattle.encapsulation.specs.declared.ethernet.Kind.TheVariants.{Typed, Sized}
 use Rattle.encapsulation.specs.Encapsulation.{rfc1042_header, on_air, on_wire}
 use Rattle.encapsulation.proofs.Samples.{station, host, to_station}
-use Rattle.encapsulation.proofs.Rows.{Computes}
+use Rattle.mac_frame.proofs.Rows.{Computes}
 
 -- ---- to the air
 

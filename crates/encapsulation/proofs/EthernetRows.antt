@@ -6,7 +6,7 @@ use Rattle.encapsulation.specs.declared.ethernet.Kind.{Kind}
 use Rattle.encapsulation.specs.declared.ethernet.Kind.TheVariants.{Typed, Sized}
 use Rattle.encapsulation.specs.Ethernet.{Ethernet, IsEthernet, ethernet_of}
 use Rattle.encapsulation.proofs.Samples.{station, host, to_station}
-use Rattle.encapsulation.proofs.Rows.{Computes}
+use Rattle.mac_frame.proofs.Rows.{Computes}
 
 -- the frame from the host to the station
 abbrev between : Kind → List ℕ → Ethernet
