@@ -1,46 +1,22 @@
 -- The least number that is free, computed of some numbers that are out.
 use Rattle.std.proofs.Common.{◌≡◌, ℕ, ◌<◌, ◌≤◌, zero, suc, true, nat_le, [], ◌∷◌, refl, arith}
 use Rattle.aid_pool.specs.LeastFree.{IsLeastFree, least_free, is_among}
+use Rattle.mac_frame.proofs.Rows.{Computes}
 
-the_first_is_1 : least_free (is_among []) ≡ 1
+least_numbers : Computes least_free (
+    ("the first is 1", is_among [], 1)
+    ∷ ("the second is 2", is_among (1 ∷ []), 2)
+    ∷ ("the third is 3", is_among (1 ∷ 2 ∷ []), 3)
+    ∷ ("number 1 comes again", is_among (2 ∷ []), 1)
+    ∷ ("a gap is filled", is_among (1 ∷ 2 ∷ 4 ∷ 5 ∷ []), 3)
+    ∷ ("the least of two gaps is filled", is_among (5 ∷ 3 ∷ 1 ∷ []), 2)
+    ∷ ("a number that stands twice is one", is_among (1 ∷ 1 ∷ []), 2)
+    ∷ ("number 0 is none", is_among (0 ∷ []), 1)
+    ∷ ("the last is 2007", λ n. nat_le n 2006, 2007)
+    ∷ ("none is past 2007", λ n. nat_le n 2007, 0)
+    ∷ [])
 unfolding least_free
-the_first_is_1 = refl
-
-the_second_is_2 : least_free (is_among (1 ∷ [])) ≡ 2
-unfolding least_free
-the_second_is_2 = refl
-
-the_third_is_3 : least_free (is_among (1 ∷ 2 ∷ [])) ≡ 3
-unfolding least_free
-the_third_is_3 = refl
-
-number_1_comes_again : least_free (is_among (2 ∷ [])) ≡ 1
-unfolding least_free
-number_1_comes_again = refl
-
-a_gap_is_filled : least_free (is_among (1 ∷ 2 ∷ 4 ∷ 5 ∷ [])) ≡ 3
-unfolding least_free
-a_gap_is_filled = refl
-
-the_least_of_two_gaps_is_filled : least_free (is_among (5 ∷ 3 ∷ 1 ∷ [])) ≡ 2
-unfolding least_free
-the_least_of_two_gaps_is_filled = refl
-
-a_number_that_stands_twice_is_one : least_free (is_among (1 ∷ 1 ∷ [])) ≡ 2
-unfolding least_free
-a_number_that_stands_twice_is_one = refl
-
-number_0_is_none : least_free (is_among (0 ∷ [])) ≡ 1
-unfolding least_free
-number_0_is_none = refl
-
-the_last_is_2007 : least_free (λ n. nat_le n 2006) ≡ 2007
-unfolding least_free
-the_last_is_2007 = refl
-
-none_is_past_2007 : least_free (λ n. nat_le n 2007) ≡ 0
-unfolding least_free
-none_is_past_2007 = refl
+least_numbers = refl
 
 -- ---- the relation
 
