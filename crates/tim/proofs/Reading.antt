@@ -1,13 +1,12 @@
 -- The tests by which a TIM is read are met exactly by what shows something.
 use Rattle.std.proofs.Common.{◌≡◌, ◌==◌, ◌↔◌, ◌⊎◌, ℕ, zero, suc, ◌+◌, ◌-◌, ◌*◌, ◌/◌, ◌%◌, ◌<◌, ◌≤◌, Bool, true, false, ◌&&◌, nat_lt, IsTrue, List, [], ◌∷◌, length, get_or, refl, sym, ◌∙◌, subst, inl, inr, ⊎_elim, arith}
 use Rattle.std.specs.Int.{bit_at, from_bool}
-use Rattle.std.proofs.lemmas.Bool.{cases_lt, le-leb, leb-true, lt-ltb, ltb-true, eqb-true, eq-eqb, ne_eqb, and_parts, and_from, or_cases, or_left, or_right, not-true, not_from_true, not_from_false, false_from_ne_true, false≢true}
+use Rattle.std.proofs.lemmas.Bool.{cases_lt, le-leb, leb-true, lt-ltb, ltb-true, eqb-true, eq-eqb, and_parts, and_from, or_cases, or_left, or_right, not-true, not_from_true, false≢true}
 use Rattle.std.proofs.lemmas.Bool.Decides.{nat_tests}
 use Rattle.std.proofs.lemmas.Nat.Bits.{bit_at_lowest}
 use Rattle.tim.specs.Tim.{IsAid, first_place, HasNumber, ShowsTim, tim_id}
 use Rattle.tim.specs.Spelling.{is_placed, is_trimmed, is_spelled}
-use Rattle.tim.proofs.Octets.{from_bool-true}
-use Rattle.tim.proofs.Spelling.{IsUsed, IsSpelled, spelled, shows}
+use Rattle.tim.proofs.Spelling.{IsUsed, IsSpelled, shows}
 
 -- ---- one number
 
@@ -79,21 +78,6 @@ trimmed-used first octets some test =
     (λ more. inl (record { ends = more; begins = begins_zero octets (not-true _ parts.1) }))
     (cases_lt (get_or octets (length octets - 1) 0) 1)
 
--- where the first two aren't both 0, they aren't found to be
-not_begins : (octets : List ℕ) → (2 ≤ length octets → 0 < get_or octets 0 0 + get_or octets 1 0) → (nat_lt 1 (length octets) && get_or octets 0 0 == 0 && get_or octets 1 0 == 0) ≡ false
-not_begins octets begins = false_from_ne_true _ (λ all.
-    let parts = and_parts _ _ all in
-    let both = and_parts _ _ parts.0 in
-    omega (arith, begins (ltb-true 1 (length octets) both.0), eqb-true (get_or octets 0 0) 0 both.1, eqb-true (get_or octets 1 0) 0 parts.1))
-
-pub trimmed-from : (first : ℕ) (octets : List ℕ) → IsUsed octets ⊎ ((first ≡ 0) × (octets ≡ 0 ∷ [])) → is_trimmed first octets ≡ true
-trimmed-from first octets used = ⊎_elim
-    (λ u. and_from _ _
-    (or_left _ _ (not_from_false _ (ne_eqb (get_or octets (length octets - 1) 0) 0 (λ none. omega (arith, u.ends, none)))))
-    (not_from_false _ (not_begins octets u.begins)))
-    (λ z. subst (λ f. is_trimmed f octets ≡ true) (sym z.0) (subst (λ os. is_trimmed 0 os ≡ true) (sym z.1) refl))
-    used
-
 -- ---- all of it
 
 pub spelled-from_test : (count period control : ℕ) (octets : List ℕ) → ((place : ℕ) → get_or octets place 0 < 256) → is_spelled count period control octets ≡ true → (count < period) × (bit_at control 0 ≡ 1 → count ≡ 0) × IsSpelled (first_place control) octets
@@ -117,18 +101,6 @@ spelled-from_test count period control octets in_octets test =
       },
     )
 
-pub test-from_spelled : (count period control : ℕ) (octets : List ℕ) → count < period → (bit_at control 0 ≡ 1 → count ≡ 0) → IsSpelled (first_place control) octets → is_spelled count period control octets ≡ true
-test-from_spelled count period control octets counted at_0 s =
-    and_from _ _
-    (and_from _ _
-    (and_from _ _ (lt-ltb count period counted)
-    (⊎_elim
-    (λ even. let zero_is : control % 2 ≡ 0 = omega arith in or_left _ _ (eq-eqb (control % 2) 0 zero_is))
-    (λ more. let odd : control % 2 ≡ 1 = omega arith in or_right _ _ (eq-eqb count 0 (at_0 (bit_at_lowest control ∙ odd))))
-    (cases_lt (control % 2) 1)))
-    (placed-from (first_place control) octets s.some s.within s.no_number_0))
-    (trimmed-from (first_place control) octets s.used)
-
 -- ---- a whole element
 
 -- the lowest bit, as a truth value
@@ -145,20 +117,6 @@ read_shows t count period control half octets members string in_t test half_is n
     let in_control : (n : ℕ) → IsTrue (members n) ↔ HasNumber (first_place control) octets n = subst (λ h. (n : ℕ) → IsTrue (members n) ↔ HasNumber (2 * h) octets n) half_is numbers in
     subst (λ u. ShowsTim u count period (control % 2 == 1) members) (sym string)
     (shows count period control (control % 2 == 1) octets members s.0 (in_fields 3) (in_fields 4) (lowest_bit control) at_0 s.2 (λ n aid. in_control n))
-
--- what shows something passes the tests
-pub shown_passes : (t : List ℕ) (count period control : ℕ) (octets : List ℕ) → t ≡ tim_id ∷ (length octets + 3) ∷ count ∷ period ∷ control ∷ octets → (count' period' : ℕ) (group : Bool) (members : ℕ → Bool) → ShowsTim t count' period' group members → is_spelled count period control octets ≡ true
-shown_passes t count period control octets string count' period' group members w =
-    let fields = tim_id ∷ (length octets + 3) ∷ count ∷ period ∷ control ∷ octets in
-    let both : fields ≡ tim_id ∷ (length w.octets + 3) ∷ count' ∷ period' ∷ w.control ∷ w.octets = sym string ∙ w.string in
-    let count_is : count ≡ count' = cc in
-    let period_is : period ≡ period' = cc in
-    let control_is : control ≡ w.control = cc in
-    let octets_is : octets ≡ w.octets = cc in
-    (λ i. is_spelled (count_is i) (period_is i) (control_is i) (octets_is i))
-    ∙ test-from_spelled count' period' w.control w.octets w.count_below_period
-    (λ bit. w.group_at_0 (from_bool-true group (sym w.traffic_indicator ∙ bit)))
-    (spelled t count' period' group members w)
 
 -- the numbers that octets have are association identifiers
 pub has-aid : (first : ℕ) (octets : List ℕ) (n : ℕ) → first + length octets ≤ 251 → ¬ HasNumber first octets 0 → HasNumber first octets n → IsAid n
