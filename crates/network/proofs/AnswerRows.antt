@@ -9,6 +9,7 @@ use Rattle.ap_config.specs.declared.setting.Setting.{Setting}
 use Rattle.network.specs.Network.{Network, empty_network, answer, table_of}
 use Rattle.station_state.specs.declared.state.StationState.TheVariants.{Authenticated, Associated}
 use Rattle.ap_config.specs.Samples.{station, network, setting}
+use Rattle.mac_frame.proofs.Rows.{Computes}
 
 -- ---- requests
 
@@ -66,23 +67,19 @@ a_station_is_authenticated = refl
 a_third_step_is_refused : of setting (Auth station 0 3 ∷ []) ≡ record empty_network { sequence = 1; air = authenticated_with station 0x00 0x00 14 ∷ [] }
 a_third_step_is_refused = refl
 
-shared_key_leaves_a_station_authenticated : (of setting (auth station ∷ Auth station 1 1 ∷ [])).stations ≡ (station, Authenticated) ∷ []
-shared_key_leaves_a_station_authenticated = refl
-
 there_is_no_room_for_a_second_station : of narrower (auth station ∷ auth other_station ∷ []) ≡ record empty_network { stations = (station, Authenticated) ∷ []; sequence = 2; air = authenticated_with station 0x00 0x00 0 ∷ authenticated_with other_station 0x10 0x00 1 ∷ [] }
 there_is_no_room_for_a_second_station = refl
-
-a_station_that_left_makes_room : (of narrower (auth station ∷ auth other_station ∷ Deauth station ∷ auth other_station ∷ [])).stations ≡ (other_station, Authenticated) ∷ []
-a_station_that_left_makes_room = refl
 
 a_known_station_needs_no_room : (of narrower (auth station ∷ auth station ∷ [])).air ≡ authenticated_with station 0x00 0x00 0 ∷ authenticated_with station 0x10 0x00 0 ∷ []
 a_known_station_needs_no_room = refl
 
-a_known_station_keeps_its_place : (of setting (auth station ∷ auth other_station ∷ auth station ∷ [])).stations ≡ (station, Authenticated) ∷ (other_station, Authenticated) ∷ []
-a_known_station_keeps_its_place = refl
-
-a_station_that_comes_again_goes_last : (of setting (auth station ∷ auth other_station ∷ Deauth station ∷ auth station ∷ [])).stations ≡ (other_station, Authenticated) ∷ (station, Authenticated) ∷ []
-a_station_that_comes_again_goes_last = refl
+stations_after_authentication : Computes (λ (asked : Setting × List Request). (of asked.0 asked.1).stations) (
+    ("shared key leaves a station authenticated", (setting, auth station ∷ Auth station 1 1 ∷ []), (station, Authenticated) ∷ [])
+    ∷ ("a station that left makes room", (narrower, auth station ∷ auth other_station ∷ Deauth station ∷ auth other_station ∷ []), (other_station, Authenticated) ∷ [])
+    ∷ ("a known station keeps its place", (setting, auth station ∷ auth other_station ∷ auth station ∷ []), (station, Authenticated) ∷ (other_station, Authenticated) ∷ [])
+    ∷ ("a station that comes again goes last", (setting, auth station ∷ auth other_station ∷ Deauth station ∷ auth station ∷ []), (other_station, Authenticated) ∷ (station, Authenticated) ∷ [])
+    ∷ [])
+stations_after_authentication = refl
 
 -- ---- association
 
@@ -94,33 +91,22 @@ its_row_is_shown : table_of (of setting (auth station ∷ asks station ∷ [])) 
 unfolding least_free
 its_row_is_shown = refl
 
-a_basic_rate_is_missing : (of setting (auth station ∷ Assoc station false 10 lacking ∷ [])).air ≡ authenticated_with station 0x00 0x00 0 ∷ responded_with station 0x10 0x00 18 no_number ∷ []
+answered_frames : Computes (λ (asked : Setting × List Request). (of asked.0 asked.1).air) (
+    ("a basic rate is missing", (setting, auth station ∷ Assoc station false 10 lacking ∷ []), authenticated_with station 0x00 0x00 0 ∷ responded_with station 0x10 0x00 18 no_number ∷ [])
+    ∷ ("the rates come before the room", (narrow, auth station ∷ auth other_station ∷ asks other_station ∷ Assoc station false 10 lacking ∷ []), authenticated_with station 0x00 0x00 0 ∷ authenticated_with other_station 0x10 0x00 0 ∷ responded_with other_station 0x20 0x00 0 number_1 ∷ responded_with station 0x30 0x00 18 no_number ∷ [])
+    ∷ [])
 unfolding least_free
-a_basic_rate_is_missing = refl
+answered_frames = refl
 
-there_is_no_room_to_associate : (of narrow (auth station ∷ auth other_station ∷ asks station ∷ asks other_station ∷ [])).stations ≡ (station, Associated 1 10 false) ∷ (other_station, Authenticated) ∷ []
+associated_stations : Computes (λ (asked : Setting × List Request). (of asked.0 asked.1).stations) (
+    ("there is no room to associate", (narrow, auth station ∷ auth other_station ∷ asks station ∷ asks other_station ∷ []), (station, Associated 1 10 false) ∷ (other_station, Authenticated) ∷ [])
+    ∷ ("an identifier comes again", (narrow, auth station ∷ auth other_station ∷ asks station ∷ Disassoc station ∷ asks other_station ∷ []), (station, Authenticated) ∷ (other_station, Associated 1 10 false) ∷ [])
+    ∷ ("who has a place needs no room", (narrow, auth station ∷ asks station ∷ auth other_station ∷ asks other_station ∷ asks station ∷ []), (station, Associated 1 10 false) ∷ (other_station, Authenticated) ∷ [])
+    ∷ ("a reassociation keeps the identifier", (setting, auth station ∷ asks station ∷ Assoc station true 20 named ∷ []), (station, Associated 1 20 false) ∷ [])
+    ∷ ("an authentication frees the identifier", (setting, auth station ∷ asks station ∷ auth station ∷ auth other_station ∷ asks other_station ∷ []), (station, Authenticated) ∷ (other_station, Associated 1 10 false) ∷ [])
+    ∷ [])
 unfolding least_free
-there_is_no_room_to_associate = refl
-
-an_identifier_comes_again : (of narrow (auth station ∷ auth other_station ∷ asks station ∷ Disassoc station ∷ asks other_station ∷ [])).stations ≡ (station, Authenticated) ∷ (other_station, Associated 1 10 false) ∷ []
-unfolding least_free
-an_identifier_comes_again = refl
-
-the_rates_come_before_the_room : (of narrow (auth station ∷ auth other_station ∷ asks other_station ∷ Assoc station false 10 lacking ∷ [])).air ≡ authenticated_with station 0x00 0x00 0 ∷ authenticated_with other_station 0x10 0x00 0 ∷ responded_with other_station 0x20 0x00 0 number_1 ∷ responded_with station 0x30 0x00 18 no_number ∷ []
-unfolding least_free
-the_rates_come_before_the_room = refl
-
-who_has_a_place_needs_no_room : (of narrow (auth station ∷ asks station ∷ auth other_station ∷ asks other_station ∷ asks station ∷ [])).stations ≡ (station, Associated 1 10 false) ∷ (other_station, Authenticated) ∷ []
-unfolding least_free
-who_has_a_place_needs_no_room = refl
-
-a_reassociation_keeps_the_identifier : (of setting (auth station ∷ asks station ∷ Assoc station true 20 named ∷ [])).stations ≡ (station, Associated 1 20 false) ∷ []
-unfolding least_free
-a_reassociation_keeps_the_identifier = refl
-
-an_authentication_frees_the_identifier : (of setting (auth station ∷ asks station ∷ auth station ∷ auth other_station ∷ asks other_station ∷ [])).stations ≡ (station, Authenticated) ∷ (other_station, Associated 1 10 false) ∷ []
-unfolding least_free
-an_authentication_frees_the_identifier = refl
+associated_stations = refl
 
 -- ---- leaving, and frames that are not taken
 
