@@ -3,49 +3,38 @@ use Rattle.std.proofs.Common.{◌≡◌, ℕ, Bool, true, false, List, [], ◌�
 use Rattle.air_share.specs.declared.lane.Lane.{Lane}
 use Rattle.air_share.specs.Lanes.{chosen, after_turn, after_telling}
 use Rattle.air_share.specs.LaneRuns.{LaneEvent, Waits, Serve, Tell, lane_step, lanes_after, air_by, air_of}
+use Rattle.air_share.proofs.Rows.{Computes}
 
 lane : (scale debt : ℕ) → Bool → Lane
 lane scale debt waits = record { debt = debt; scale = scale; waits = waits }
 
 -- ---- whose turn it is
 
-the_least_debt_goes : chosen (lane 1 30 true ∷ lane 1 10 true ∷ lane 1 20 true ∷ []) ≡ Some 1
+turns : Computes chosen (
+    ("the least debt goes", lane 1 30 true ∷ lane 1 10 true ∷ lane 1 20 true ∷ [], Some 1)
+    ∷ ("of equals the lowest place goes", lane 1 30 true ∷ lane 1 10 true ∷ lane 2 10 true ∷ [], Some 1)
+    ∷ ("who does not wait is passed over", lane 1 0 false ∷ lane 1 40 true ∷ lane 1 0 false ∷ [], Some 1)
+    ∷ ("where none waits nobody goes", lane 1 0 false ∷ lane 1 40 false ∷ [], None)
+    ∷ ("without lanes nobody goes", [], None)
+    ∷ [])
 unfolding chosen lane
-the_least_debt_goes = refl
-
-of_equals_the_lowest_place_goes : chosen (lane 1 30 true ∷ lane 1 10 true ∷ lane 2 10 true ∷ []) ≡ Some 1
-unfolding chosen lane
-of_equals_the_lowest_place_goes = refl
-
-who_does_not_wait_is_passed_over : chosen (lane 1 0 false ∷ lane 1 40 true ∷ lane 1 0 false ∷ []) ≡ Some 1
-unfolding chosen lane
-who_does_not_wait_is_passed_over = refl
-
-where_none_waits_nobody_goes : chosen (lane 1 0 false ∷ lane 1 40 false ∷ []) ≡ None
-unfolding chosen lane
-where_none_waits_nobody_goes = refl
-
-without_lanes_nobody_goes : chosen [] ≡ None
-unfolding chosen
-without_lanes_nobody_goes = refl
+turns = refl
 
 -- ---- what a turn costs
 
-all_are_forgiven_what_it_owed : after_turn (lane 3 30 true ∷ lane 2 10 true ∷ []) 1 7 ≡ lane 3 20 true ∷ lane 2 14 true ∷ []
+what_a_turn_costs : Computes (λ x. after_turn x 1 7) (
+    ("all are forgiven what it owed", lane 3 30 true ∷ lane 2 10 true ∷ [], lane 3 20 true ∷ lane 2 14 true ∷ [])
+    ∷ ("no debt falls below 0", lane 3 4 false ∷ lane 2 10 true ∷ [], lane 3 0 false ∷ lane 2 14 true ∷ [])
+    ∷ [])
 unfolding after_turn lane
-all_are_forgiven_what_it_owed = refl
+what_a_turn_costs = refl
 
-no_debt_falls_below_0 : after_turn (lane 3 4 false ∷ lane 2 10 true ∷ []) 1 7 ≡ lane 3 0 false ∷ lane 2 14 true ∷ []
-unfolding after_turn lane
-no_debt_falls_below_0 = refl
-
-what_is_told_is_added : after_telling (lane 3 4 false ∷ lane 2 10 true ∷ []) 0 5 ≡ lane 3 19 false ∷ lane 2 10 true ∷ []
+what_is_told : Computes (λ (of : List Lane × ℕ × ℕ). after_telling of.0 of.1 of.2) (
+    ("what is told is added", (lane 3 4 false ∷ lane 2 10 true ∷ [], 0, 5), lane 3 19 false ∷ lane 2 10 true ∷ [])
+    ∷ ("what is told of no lane changes nothing", (lane 3 4 false ∷ [], 1, 5), lane 3 4 false ∷ [])
+    ∷ [])
 unfolding after_telling lane
-what_is_told_is_added = refl
-
-what_is_told_of_no_lane_changes_nothing : after_telling (lane 3 4 false ∷ []) 1 5 ≡ lane 3 4 false ∷ []
-unfolding after_telling lane
-what_is_told_of_no_lane_changes_nothing = refl
+what_is_told = refl
 
 -- ---- runs
 
@@ -57,14 +46,6 @@ one_and_two = lane 2 0 true ∷ lane 1 0 true ∷ []
 six_turns : List LaneEvent
 six_turns = Serve 100 ∷ Serve 100 ∷ Serve 100 ∷ Serve 100 ∷ Serve 100 ∷ Serve 100 ∷ []
 
-weight_1_gets_a_third : air_of 0 one_and_two six_turns ≡ 200
-unfolding air_by lane_step chosen after_turn one_and_two six_turns lane
-weight_1_gets_a_third = refl
-
-weight_2_gets_two_thirds : air_of 1 one_and_two six_turns ≡ 400
-unfolding air_by lane_step chosen after_turn one_and_two six_turns lane
-weight_2_gets_two_thirds = refl
-
 -- the first lane waits for nothing during three turns of the second, and then waits
 idle_and_then_both : List LaneEvent
 idle_and_then_both =
@@ -74,18 +55,19 @@ equals : List Lane
 unfolding lane
 equals = lane 1 0 true ∷ lane 1 0 true ∷ []
 
--- the other owes its last turn, and none of those before
-idle_time_is_not_made_up_for : air_of 0 equals idle_and_then_both ≡ 300
-unfolding air_by lane_step chosen after_turn equals idle_and_then_both lane
-idle_time_is_not_made_up_for = refl
-
 -- it was told that a turn of the first took five times as long
 a_long_turn : List LaneEvent
 a_long_turn = Serve 100 ∷ Tell 0 400 ∷ Serve 100 ∷ Serve 100 ∷ Serve 100 ∷ Serve 100 ∷ Serve 100 ∷ []
 
-what_is_told_is_paid_for : air_of 1 equals a_long_turn ≡ 500
-unfolding air_by lane_step chosen after_turn after_telling equals a_long_turn lane
-what_is_told_is_paid_for = refl
+air : Computes (λ (of : ℕ × List Lane × List LaneEvent). air_of of.0 of.1 of.2) (
+    ("weight 1 gets a third", (0, one_and_two, six_turns), 200)
+    ∷ ("weight 2 gets two thirds", (1, one_and_two, six_turns), 400)
+    -- the other owes its last turn, and none of those before
+    ∷ ("idle time is not made up for", (0, equals, idle_and_then_both), 300)
+    ∷ ("what is told is paid for", (1, equals, a_long_turn), 500)
+    ∷ [])
+unfolding air_by lane_step chosen after_turn one_and_two six_turns lane equals idle_and_then_both after_telling a_long_turn
+air = refl
 
 -- ---- the bound is met
 

@@ -6,5 +6,6 @@ pub mod Runs
 pub mod Joins
 pub mod Calls
 pub mod ShareRuns
+pub mod Rows
 pub mod LaneRows
 pub mod ShareRows

@@ -4,6 +4,7 @@ use Rattle.air_share.specs.Lanes.{chosen, after_turn, after_telling}
 use Rattle.air_share.specs.LaneRuns.{lane_step, air_by}
 use Rattle.air_share.specs.Shares.{Network, new_network, Event, Push, Told, Send, Drop, step, after, next_turn, lane_events_by}
 use Rattle.air_share.specs.ShareRuns.{air_share_of, came, left, came_by, left_by}
+use Rattle.air_share.proofs.Rows.{Computes}
 
 -- an office of weight 2 and a guest of weight 1, each with two frames
 two_networks : List Network
@@ -13,29 +14,16 @@ scales_are_a_common_multiple_over_the_weights : map new_network (2 ∷ 3 ∷ [])
     ≡ record { scale = 360360; debt = 0; waiting = [] } ∷ record { scale = 240240; debt = 0; waiting = [] } ∷ []
 scales_are_a_common_multiple_over_the_weights = refl
 
-the_first_ticket_goes : next_turn two_networks ≡ Some (record { place = 0; ticket = 11; cost = 300 })
+turns : Computes next_turn (
+    ("the first ticket goes", two_networks, Some (record { place = 0; ticket = 11; cost = 300 }))
+    ∷ ("then the other network has its turn", step two_networks Send, Some (record { place = 1; ticket = 21; cost = 300 }))
+    ∷ ("the greater weight goes again", after two_networks (Send ∷ Send ∷ []), Some (record { place = 0; ticket = 12; cost = 300 }))
+    ∷ ("without frames nobody goes", map new_network (2 ∷ 1 ∷ []), None)
+    ∷ ("a dropped frame does not go", step two_networks (Drop 0), Some (record { place = 0; ticket = 12; cost = 300 }))
+    ∷ ("what is told lets the other go first", after two_networks (Told 0 1 ∷ []), Some (record { place = 1; ticket = 21; cost = 300 }))
+    ∷ [])
 unfolding next_turn two_networks step chosen
-the_first_ticket_goes = refl
-
-then_the_other_network_has_its_turn : next_turn (step two_networks Send) ≡ Some (record { place = 1; ticket = 21; cost = 300 })
-unfolding next_turn two_networks step chosen
-then_the_other_network_has_its_turn = refl
-
-the_greater_weight_goes_again : next_turn (after two_networks (Send ∷ Send ∷ [])) ≡ Some (record { place = 0; ticket = 12; cost = 300 })
-unfolding next_turn two_networks step chosen
-the_greater_weight_goes_again = refl
-
-without_frames_nobody_goes : next_turn (map new_network (2 ∷ 1 ∷ [])) ≡ None
-unfolding next_turn chosen
-without_frames_nobody_goes = refl
-
-a_dropped_frame_does_not_go : next_turn (step two_networks (Drop 0)) ≡ Some (record { place = 0; ticket = 12; cost = 300 })
-unfolding next_turn two_networks step chosen
-a_dropped_frame_does_not_go = refl
-
-what_is_told_lets_the_other_go_first : next_turn (after two_networks (Told 0 1 ∷ [])) ≡ Some (record { place = 1; ticket = 21; cost = 300 })
-unfolding next_turn two_networks step chosen
-what_is_told_lets_the_other_go_first = refl
+turns = refl
 
 some_events : List Event
 some_events = Send ∷ Push 0 13 200 ∷ Drop 0 ∷ Send ∷ Told 1 40 ∷ Send ∷ []
@@ -49,10 +37,9 @@ what_came_to_the_first : came 0 some_events ≡ record { ticket = 13; cost = 200
 unfolding came_by some_events
 what_came_to_the_first = refl
 
-the_air_of_the_first : air_share_of 0 two_networks some_events ≡ 500
+air : Computes (λ x. air_share_of x two_networks some_events) (
+    ("the air of the first", 0, 500)
+    ∷ ("the air of the second", 1, 340)
+    ∷ [])
 unfolding air_by lane_step chosen after_turn after_telling two_networks some_events step lane_events_by
-the_air_of_the_first = refl
-
-the_air_of_the_second : air_share_of 1 two_networks some_events ≡ 340
-unfolding air_by lane_step chosen after_turn after_telling two_networks some_events step lane_events_by
-the_air_of_the_second = refl
+air = refl
