@@ -163,7 +163,3 @@ pub moment-reading : {W : Type 0} (taken : W → Option (List ℕ)) (failed : W 
 moment-reading taken failed face reading m next old new h all =
     let some = said-for reading in
     moment-answered taken failed face m next (some.0 ∷ []) old new h (all some.0 some.1)
-
--- a line more has ended, and no network has changed
-pub moment-line : (lines : ℕ) (ns : List NetworkState) → IsMoment (at lines ns) → IsMoment (at (lines + 1) ns)
-moment-line lines ns h = few-more ns lines (lines + 1) (omega arith) h

@@ -52,11 +52,6 @@ refuses-may n e result Clock is clock =
 
 -- ---- one network
 
--- the event changes no setting
-pub setting-after : (n : NetworkState) (e : Event) (reply : Reply) → bssid_of (after_if n (taken_if (Some e) (Some reply))) ≡ bssid_of n
-setting-after n e (Sends air wire) = refl
-setting-after n e (Refuses why) = refl
-
 -- a network that took the event that a line is to it or refused it, if it is one to it, and the reply that was put
 record MayHaveReplied {W : Type 0} (o : Through W) (number place : ℕ) (said : Line) (n next : NetworkState) : Type 0 where
   reply : Option Reply

@@ -23,6 +23,7 @@ use Rattle.live.specs.AnswerOctets.{record_of, told}
 use Rattle.live_rules.specs.Records.{record_asks, record_len}
 use Rattle.live.specs.Written.{written_answer, written_count, live_text}
 use Rattle.live.specs.declared.face.Face.TheVariants.{Lines, Records}
+use Rattle.mac_frame.proofs.Rows.{Computes}
 
 abbrev cr : List ℕ
 cr = 13 ∷ []
@@ -53,69 +54,49 @@ pub a_piece_ends_the_line_before_it : lines_in (partial_in (codes "T" ++ lf ++ c
     ≡ Octets (codes "A 00") ∷ []
 a_piece_ends_the_line_before_it = refl
 
-pub the_rest_of_a_long_line_is_no_line : lines_in TooLong (codes "T" ++ lf ++ codes "T" ++ lf) ≡ TooLong ∷ Octets (codes "T") ∷ []
-the_rest_of_a_long_line_is_no_line = refl
+pub lines_in_order : Computes (λ x. x) (
+    ("rest of a long line is no line", lines_in TooLong (codes "T" ++ lf ++ codes "T" ++ lf), TooLong ∷ Octets (codes "T") ∷ [])
+    ∷ ("a long line without LF counts", last_line TooLong, TooLong ∷ [])
+    ∷ ("a text that ends with LF has no last line", last_line (partial_in (codes "T" ++ lf)), [])
+    ∷ [])
+lines_in_order = refl
 
-pub a_long_line_goes_on : partial_after TooLong (codes "T") ≡ TooLong
-a_long_line_goes_on = refl
-
-pub a_long_line_without_lf_counts : last_line TooLong ≡ TooLong ∷ []
-a_long_line_without_lf_counts = refl
-
-pub a_text_that_ends_with_lf_has_no_last_line : last_line (partial_in (codes "T" ++ lf)) ≡ []
-a_text_that_ends_with_lf_has_no_last_line = refl
-
--- spaces count, whatever the line is
-pub the_longest_line : line_with (35 ∷ replicate 65535 32) ≡ Octets (35 ∷ replicate 65535 32)
-the_longest_line = refl
-
-pub one_octet_too_many : line_with (35 ∷ replicate 65536 32) ≡ TooLong
-one_octet_too_many = refl
-
-pub a_cr_may_still_be_dropped : partial_in (replicate 65536 32 ++ cr) ≡ Octets (replicate 65536 32 ++ cr)
-a_cr_may_still_be_dropped = refl
-
-pub two_octets_too_many : partial_in (replicate 65536 32 ++ cr ++ cr) ≡ TooLong
-two_octets_too_many = refl
+pub single_lines : Computes (λ x. x) (
+    ("a long line goes on", partial_after TooLong (codes "T"), TooLong)
+    -- spaces count, whatever the line is
+    ∷ ("the longest line", line_with (35 ∷ replicate 65535 32), Octets (35 ∷ replicate 65535 32))
+    ∷ ("one octet too many", line_with (35 ∷ replicate 65536 32), TooLong)
+    ∷ ("a CR may still be dropped", partial_in (replicate 65536 32 ++ cr), Octets (replicate 65536 32 ++ cr))
+    ∷ ("two octets too many", partial_in (replicate 65536 32 ++ cr ++ cr), TooLong)
+    ∷ [])
+single_lines = refl
 
 -- ---- what lines ask
 
-pub capital_i_asks_for_tables : asked_by bssids (Octets (codes "I")) ≡ ForTables
-capital_i_asks_for_tables = refl
-
-pub spaces_after_it_are_dropped : asked_by bssids (Octets (codes "I  ")) ≡ ForTables
-spaces_after_it_are_dropped = refl
-
-pub a_space_before_it_is_a_fault : asked_by bssids (Octets (codes " I")) ≡ Says (Err UnknownKind)
-a_space_before_it_is_a_fault = refl
-
-pub a_word_after_it_is_a_fault : asked_by bssids (Octets (codes "I 0")) ≡ Says (Err UnknownKind)
-a_word_after_it_is_a_fault = refl
-
-pub small_i_is_a_fault : asked_by bssids (Octets (codes "i")) ≡ Says (Err UnknownKind)
-small_i_is_a_fault = refl
-
-pub a_tick : asked_by bssids (Octets (codes "T ")) ≡ Says (Ok (Some line.Tick))
-a_tick = refl
+pub what_lines_ask : Computes (asked_by bssids) (
+    ("capital I asks for tables", Octets (codes "I"), ForTables)
+    ∷ ("spaces after it are dropped", Octets (codes "I  "), ForTables)
+    ∷ ("a space before it is a fault", Octets (codes " I"), Says (Err UnknownKind))
+    ∷ ("a word after it is a fault", Octets (codes "I 0"), Says (Err UnknownKind))
+    ∷ ("small i is a fault", Octets (codes "i"), Says (Err UnknownKind))
+    ∷ ("a tick", Octets (codes "T "), Says (Ok (Some line.Tick)))
+    ∷ [])
+what_lines_ask = refl
 
 -- ---- answers
-
-pub skipped_lines_have_none : live_text start (Octets [] ∷ Octets (codes "# T") ∷ Octets (codes "  ") ∷ []) ≡ []
-unfolding digits
-skipped_lines_have_none = refl
 
 pub a_fault_has_the_number_of_its_line : live_text start (Octets [] ∷ Octets (codes "#") ∷ Octets (codes "A 4") ∷ [])
     ≡ codes "fault L2 line 3" ++ lf
 unfolding digits hex_on_literals
 a_fault_has_the_number_of_its_line = refl
 
-pub too_long_is_l5 : live_text start (TooLong ∷ []) ≡ codes "fault L5 line 1" ++ lf
-unfolding digits
-too_long_is_l5 = refl
-
-pub an_unknown_network_is_l4 : live_text start (Octets (codes "W 02:00:00:00:00:09 00") ∷ []) ≡ codes "fault L4 line 1" ++ lf
+pub answers : Computes (live_text start) (
+    ("skipped lines have none", Octets [] ∷ Octets (codes "# T") ∷ Octets (codes "  ") ∷ [], [])
+    ∷ ("too long is L5", TooLong ∷ [], codes "fault L5 line 1" ++ lf)
+    ∷ ("an unknown network is L4", Octets (codes "W 02:00:00:00:00:09 00") ∷ [], codes "fault L4 line 1" ++ lf)
+    ∷ [])
 unfolding digits hex_on_literals
-an_unknown_network_is_l4 = refl
+answers = refl
 
 pub a_probe_to_all_is_answered_in_order_of_place : live_text start
     (Octets (codes "A 40000000ffffffffffff02aa00000001ffffffffffff00000000010402040b16") ∷ [])
@@ -211,31 +192,20 @@ the_low_octet_of_a_length_comes_first = refl
 pub eight_octets_say_no_length : record_len (65 ∷ 0 ∷ 0 ∷ 0 ∷ 0 ∷ 0 ∷ 0 ∷ 1 ∷ []) ≡ None
 eight_octets_say_no_length = refl
 
-pub a_record_of_the_air : record_asks bssids (65 ∷ 0 ∷ 0 ∷ 0 ∷ 0 ∷ 0 ∷ 0 ∷ 2 ∷ 0 ∷ 7 ∷ 8 ∷ [])
-    ≡ brings (line.Air (7 ∷ 8 ∷ []))
-a_record_of_the_air = refl
-
 pub one_of_the_wire_names_its_network : record_asks bssids (87 ∷ 2 ∷ 0 ∷ 0 ∷ 0 ∷ 0 ∷ 2 ∷ 1 ∷ 0 ∷ 7 ∷ [])
     ≡ brings (line.Wire 1 (7 ∷ []))
 one_of_the_wire_names_its_network = refl
 
-pub a_record_of_no_network_is_l4 : record_asks bssids (87 ∷ 2 ∷ 0 ∷ 0 ∷ 0 ∷ 0 ∷ 9 ∷ 0 ∷ 0 ∷ []) ≡ has_fault UnknownNetwork
-a_record_of_no_network_is_l4 = refl
-
-pub the_air_has_no_bssid : record_asks bssids (65 ∷ 2 ∷ 0 ∷ 0 ∷ 0 ∷ 0 ∷ 1 ∷ 0 ∷ 0 ∷ []) ≡ has_fault UnknownKind
-the_air_has_no_bssid = refl
-
-pub a_tick_has_no_octets : record_asks bssids (84 ∷ 0 ∷ 0 ∷ 0 ∷ 0 ∷ 0 ∷ 0 ∷ 1 ∷ 0 ∷ 7 ∷ []) ≡ has_fault UnknownKind
-a_tick_has_no_octets = refl
-
-pub a_record_that_is_a_tick : record_asks bssids (84 ∷ 0 ∷ 0 ∷ 0 ∷ 0 ∷ 0 ∷ 0 ∷ 0 ∷ 0 ∷ []) ≡ brings line.Tick
-a_record_that_is_a_tick = refl
-
-pub one_that_asks_for_tables : record_asks bssids (73 ∷ 0 ∷ 0 ∷ 0 ∷ 0 ∷ 0 ∷ 0 ∷ 0 ∷ 0 ∷ []) ≡ ForTables
-one_that_asks_for_tables = refl
-
-pub small_letters_are_no_kinds : record_asks bssids (97 ∷ 0 ∷ 0 ∷ 0 ∷ 0 ∷ 0 ∷ 0 ∷ 0 ∷ 0 ∷ []) ≡ has_fault UnknownKind
-small_letters_are_no_kinds = refl
+pub records : Computes (record_asks bssids) (
+    ("a record of the air", 65 ∷ 0 ∷ 0 ∷ 0 ∷ 0 ∷ 0 ∷ 0 ∷ 2 ∷ 0 ∷ 7 ∷ 8 ∷ [], brings (line.Air (7 ∷ 8 ∷ [])))
+    ∷ ("a record of no network is L4", 87 ∷ 2 ∷ 0 ∷ 0 ∷ 0 ∷ 0 ∷ 9 ∷ 0 ∷ 0 ∷ [], has_fault UnknownNetwork)
+    ∷ ("the air has no BSSID", 65 ∷ 2 ∷ 0 ∷ 0 ∷ 0 ∷ 0 ∷ 1 ∷ 0 ∷ 0 ∷ [], has_fault UnknownKind)
+    ∷ ("a tick has no octets", 84 ∷ 0 ∷ 0 ∷ 0 ∷ 0 ∷ 0 ∷ 0 ∷ 1 ∷ 0 ∷ 7 ∷ [], has_fault UnknownKind)
+    ∷ ("a record that is a tick", 84 ∷ 0 ∷ 0 ∷ 0 ∷ 0 ∷ 0 ∷ 0 ∷ 0 ∷ 0 ∷ [], brings line.Tick)
+    ∷ ("one that asks for tables", 73 ∷ 0 ∷ 0 ∷ 0 ∷ 0 ∷ 0 ∷ 0 ∷ 0 ∷ 0 ∷ [], ForTables)
+    ∷ ("small letters are no kinds", 97 ∷ 0 ∷ 0 ∷ 0 ∷ 0 ∷ 0 ∷ 0 ∷ 0 ∷ 0 ∷ [], has_fault UnknownKind)
+    ∷ [])
+records = refl
 
 pub two_networks_are_open : written_count Records 2 ≡ 79 ∷ 0 ∷ 0 ∷ 0 ∷ 0 ∷ 0 ∷ 2 ∷ 0 ∷ 0 ∷ []
 two_networks_are_open = refl
