@@ -1,5 +1,5 @@
 -- A line is taken at one place after another.
-use Rattle.std.proofs.Common.{◌≡◌, ℕ, ◌+◌, ◌<◌, ◌≤◌, Bool, true, false, cond, ltb, List, [], ◌∷◌, ◌++◌, Some, None, length, refl, sym, ap, ◌∙◌, arith, append-nil, inl, inr}
+use Rattle.std.proofs.Common.{◌≡◌, ℕ, ◌+◌, ◌<◌, ◌≤◌, Bool, true, false, cond, ltb, List, [], ◌∷◌, ◌++◌, Some, None, length, refl, sym, ◌∙◌, arith, append-nil, inl, inr}
 use Rattle.std.specs.Prelude.{option_to_list}
 use Rattle.std.proofs.lemmas.Bool.{cases_lt}
 use Rattle.ap_config.specs.Places.{network_at}
@@ -8,7 +8,7 @@ use Rattle.bss_core.specs.RadioView.{RadioView, view_at}
 use Rattle.events.specs.Lines.{event_for, taken_of}
 use Rattle.events.specs.declared.event.Event.{Event}
 use Rattle.events.specs.declared.line.Line.{Line}
-use Rattle.replay.specs.Replay.{TakesAt, TakesLine, TakesOf}
+use Rattle.replay.specs.Replay.{TakesLine, TakesOf}
 
 -- ---- what a network takes of a line
 
@@ -30,18 +30,6 @@ taken-none place n history line none =
 
 -- ---- one place
 
-pub takes-some : (place : ℕ) (line : Line) (e : Event) (old new : RadioView)
-    → event_for place (network_at old.config place).bssid line ≡ Some e → TakesAt place e old new
-    → TakesOf place line old new
-takes-some place line e old new some t = record {
-  config = t.config;
-  there =
-      t.there
-      ∙ ap (λ (es : List Event). (view_at old place).history ++ es)
-      (taken-some place (network_at old.config place) (view_at old place).history line e some);
-  others = t.others;
-}
-
 pub takes-none : (place : ℕ) (line : Line) (r : RadioView)
     → event_for place (network_at r.config place).bssid line ≡ None → TakesOf place line r r
 takes-none place line r none = record {
@@ -61,13 +49,6 @@ pub record TakesBelow (count : ℕ) (line : Line) (old new : RadioView) : Type 0
       → (view_at new place).history
       ≡ (view_at old place).history ++ taken_of place (network_at old.config place) (view_at old place).history line
   pub rest : (place : ℕ) → count ≤ place → (view_at new place).history ≡ (view_at old place).history
-
-pub takes-nowhere : (line : Line) (r : RadioView) → TakesBelow 0 line r r
-takes-nowhere line r = record {
-  config = refl;
-  below = λ place low. absurd (omega (arith, low));
-  rest = λ place high. refl;
-}
 
 pub takes-next : (place : ℕ) (line : Line) (r0 r1 r2 : RadioView) → TakesBelow place line r0 r1
     → TakesOf place line r1 r2 → TakesBelow (place + 1) line r0 r2
