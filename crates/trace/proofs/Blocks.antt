@@ -1,9 +1,8 @@
 -- Blocks of characters, of which those before the first space count.
-use Rattle.std.proofs.Common.{◌≡◌, ◌≢◌, ◌∙◌, ◌+◌, ◌≤◌, ◌<◌, ◌++◌, ℕ, Bool, true, false, zero, suc, List, [], ◌∷◌, length, take, drop}
+use Rattle.std.proofs.Common.{◌≡◌, ◌∙◌, ◌+◌, ◌≤◌, ◌++◌, ℕ, Bool, true, false, zero, suc, List, [], ◌∷◌, length, take, drop}
 use Rattle.std.proofs.Common.{refl, ap, sym, min, arith, append_assoc, length-append, one-add, take_at, take-append-drop}
 use Rattle.std.specs.List.{prefix_len}
 use Rattle.std.specs.Prelude.{not}
-use Rattle.std.proofs.lemmas.Bool.{ne_eqb}
 use Rattle.std.proofs.lemmas.List.{length-take, take-take}
 use Rattle.std.proofs.lemmas.List.Sums.{prefix_len-le-length}
 use Rattle.std.proofs.lemmas.Simd.{put_chunk_is}
@@ -28,10 +27,6 @@ run_first (suc n) (x ∷ xs) = by (run_first n xs) (is_space x) refl
     by : StartsWithRun n xs → (b : Bool) → is_space x ≡ b → StartsWithRun (suc n) (x ∷ xs)
     by below true is = rw is (rw is refl)
     by below false is = rw (is, one-add (run_of n xs)) (ap (λ (t : List ℕ). x ∷ t) below)
-
--- there are some where the first is no space
-pub run_some : (character : ℕ) (rest : List ℕ) → character ≢ 32 → 0 < run_of 16 (character ∷ rest)
-run_some character rest other = rw (ne_eqb character 32 other) (omega arith)
 
 pub run_within : (n : ℕ) (text : List ℕ) → run_of n text ≤ min n (length text)
 run_within n text =

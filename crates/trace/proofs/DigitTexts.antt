@@ -3,12 +3,12 @@ use Rattle.std.proofs.Common.{◌≡◌, ◌≢◌, ◌∙◌, ◌+◌, ◌%◌,
 use Rattle.std.proofs.Common.{Result, Ok, Err, refl, sym, ap, subst, inl, inr, arith}
 use Rattle.std.specs.List.{AllPass}
 use Rattle.std.specs.Prelude.{not, IsErr, slice_index, if◌then◌else◌}
-use Rattle.std.proofs.lemmas.Bool.{cases_eq, ne_eqb, lt-ltb, le-ltb, eq-eqb}
+use Rattle.std.proofs.lemmas.Bool.{cases_eq, ne_eqb, lt-ltb, le-ltb}
 use Rattle.std.proofs.lemmas.List.{length-take, take_rest}
 use Rattle.std.proofs.lemmas.List.Elements.{All-cons, All-head, All-nil, All-tail}
 use Rattle.hex.specs.Hex.{decode_of, is_hex_digit}
 use Rattle.hex.specs.declared.error.FromHexError.{FromHexError}
-use Rattle.hex.proofs.HexLemmas.{decode_of-odd, decode_of-ok, decode_of-digits}
+use Rattle.hex.proofs.HexLemmas.{decode_of-ok, decode_of-digits}
 use Rattle.trace.specs.TraceText.{is_space, digits_of, octets_of, within_limit}
 use Rattle.trace.specs.declared.fault.LineFault.TheVariants.{NotHexadecimal, TooMany}
 
@@ -50,10 +50,6 @@ spelled_front text memory n e few =
 
 -- ---- spaces among digits
 
--- a space is none
-pub no_digit : (character : ℕ) (rest : List ℕ) → character ≡ 32 → digits_of (character ∷ rest) ≡ digits_of rest
-no_digit character rest is = rw (eq-eqb character 32 is) refl
-
 -- another character may be one
 pub one_digit : (character : ℕ) (rest : List ℕ) → character ≢ 32
     → digits_of (character ∷ rest) ≡ character ∷ digits_of rest
@@ -74,19 +70,6 @@ pub record LookedAt (text rest : List ℕ) (is_odd : Bool) : Type 0 where
   pub digits : AllPass is_hex_digit (digits_of rest) → AllPass is_hex_digit (digits_of text)
   pub back : AllPass is_hex_digit (digits_of text) → AllPass is_hex_digit (digits_of rest)
   pub count : length (digits_of text) % 2 ≡ (length (digits_of rest) + (if is_odd then 1 else 0)) % 2
-
-pub look_none : (text : List ℕ) → LookedAt text text false
-look_none text = record { digits = λ all. all; back = λ all. all; count = omega arith }
-
-pub look_past : (text : List ℕ) (character : ℕ) (rest : List ℕ) (is_odd : Bool) → LookedAt text (character ∷ rest) is_odd
-    → character ≡ 32 → LookedAt text rest is_odd
-look_past text character rest is_odd s is =
-    let same = no_digit character rest is in
-    record {
-      digits = λ all. s.digits (subst (AllPass is_hex_digit) (sym same) all);
-      back = λ all. subst (AllPass is_hex_digit) same (s.back all);
-      count = s.count ∙ ap (λ (ds : List ℕ). (length ds + (if is_odd then 1 else 0)) % 2) same;
-    }
 
 pub look_more : (text : List ℕ) (character : ℕ) (rest : List ℕ) (is_odd : Bool) → LookedAt text (character ∷ rest) is_odd
     → character ≢ 32 → is_hex_digit character ≡ true → LookedAt text rest (not is_odd)
@@ -115,12 +98,6 @@ look_other text character rest is_odd s other lacks = no_octets text (by (decode
         (subst (AllPass is_hex_digit) (one_digit character rest other) all) in
         cc (sym lacks ∙ here)
     by (Err fault) is = refl
-
--- all were looked at
-pub look_odd : (text : List ℕ) → LookedAt text [] true → octets_of text ≡ Err NotHexadecimal
-look_odd text s =
-    let count = s.count in
-    ap within_limit (decode_of-odd (digits_of text) (omega (arith, count)))
 
 pub look_even : (text rest : List ℕ) (is_odd : Bool) → LookedAt text rest is_odd → length rest < 1 → is_odd ≡ false
     → 8192 < length (digits_of text) → octets_of text ≡ Err TooMany

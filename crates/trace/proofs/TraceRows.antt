@@ -7,6 +7,7 @@ use Rattle.ap_config.specs.Samples.{network, radio}
 use Rattle.trace.specs.TraceText.{lines_of, lines_from}
 use Rattle.events.specs.declared.line.Line.TheVariants.{Air, Wire, Tick}
 use Rattle.trace.specs.declared.fault.TraceFault.{TraceFault}
+use Rattle.mac_frame.proofs.Rows.{Computes}
 
 abbrev tab : List ℕ
 tab = 9 ∷ []
@@ -31,25 +32,15 @@ pub probe_is_read : (config : RadioConfig)
 unfolding hex_on_literals
 probe_is_read config = refl
 
-pub either_case : (config : RadioConfig)
-    → lines_of config (codes "A aAbB" ++ lf ++ codes "A CcDd") ≡ Ok (Air (170 ∷ 187 ∷ []) ∷ Air (204 ∷ 221 ∷ []) ∷ [])
+pub strings : (config : RadioConfig) → Computes (lines_of config) (
+    ("either case", codes "A aAbB" ++ lf ++ codes "A CcDd", Ok (Air (170 ∷ 187 ∷ []) ∷ Air (204 ∷ 221 ∷ []) ∷ []))
+    -- also within an octet, and more than one
+    ∷ ("spaces among digits", codes "A   1  2 34 5 6 7 8", Ok (Air (18 ∷ 52 ∷ 86 ∷ 120 ∷ []) ∷ []))
+    ∷ ("most octets are read", codes "A " ++ replicate 8192 48, Ok (Air (replicate 4096 0) ∷ []))
+    ∷ ("one octet too many", codes "A " ++ replicate 8194 48, Err (fault 5 1))
+    ∷ [])
 unfolding hex_on_literals
-either_case config = refl
-
--- also within an octet, and more than one
-pub spaces_among_digits : (config : RadioConfig)
-    → lines_of config (codes "A   1  2 34 5 6 7 8") ≡ Ok (Air (18 ∷ 52 ∷ 86 ∷ 120 ∷ []) ∷ [])
-unfolding hex_on_literals
-spaces_among_digits config = refl
-
-pub most_octets_are_read : (config : RadioConfig)
-    → lines_of config (codes "A " ++ replicate 8192 48) ≡ Ok (Air (replicate 4096 0) ∷ [])
-unfolding hex_on_literals
-most_octets_are_read config = refl
-
-pub one_octet_too_many : (config : RadioConfig) → lines_of config (codes "A " ++ replicate 8194 48) ≡ Err (fault 5 1)
-unfolding hex_on_literals
-one_octet_too_many config = refl
+strings config = refl
 
 -- no digits, with spaces after the word or none
 abbrev empty : List (List ℕ)
@@ -101,18 +92,10 @@ pub each_network_by_its_place : lines_of two (codes "W 02:aa:00:00:00:02 00" ++ 
 unfolding hex_on_literals
 each_network_by_its_place = refl
 
-pub address_in_either_case : lines_of two (codes "W 02:aA:00:00:00:02 aB") ≡ Ok (Wire 1 (171 ∷ []) ∷ [])
-unfolding hex_on_literals
-address_in_either_case = refl
-
 pub any_run_of_spaces_parts_words : lines_of two (codes "W   02:00:00:00:00:01   0 80 0  " ++ cr ++ lf) ≡ Ok
     (Wire 0 (8 ∷ 0 ∷ []) ∷ [])
 unfolding hex_on_literals
 any_run_of_spaces_parts_words = refl
-
-pub wired_frame_of_no_octets : lines_of two (codes "W 02:00:00:00:00:01") ≡ Ok (Wire 0 [] ∷ [])
-unfolding hex_on_literals
-wired_frame_of_no_octets = refl
 
 -- nothing and spaces; five pairs, also before odd digits; no space after six, or another character
 abbrev of_no_address : List (List ℕ)
@@ -133,23 +116,22 @@ of_no_network =
 pub unknown_networks : map (lines_of two) of_no_network ≡ replicate 4 (Err (fault 4 1))
 unknown_networks = refl
 
-pub odd_digits_of_a_wired_frame : lines_of two (codes "W 02:00:00:00:00:01 4") ≡ Err (fault 2 1)
+pub wired_frames : Computes (lines_of two) (
+    ("address in either case", codes "W 02:aA:00:00:00:02 aB", Ok (Wire 1 (171 ∷ []) ∷ []))
+    ∷ ("wired frame of no octets", codes "W 02:00:00:00:00:01", Ok (Wire 0 [] ∷ []))
+    ∷ ("odd digits of a wired frame", codes "W 02:00:00:00:00:01 4", Err (fault 2 1))
+    ∷ ("too many octets of a wired frame", codes "W 02:00:00:00:00:01 " ++ replicate 8194 48, Err (fault 5 1))
+    ∷ [])
 unfolding hex_on_literals
-odd_digits_of_a_wired_frame = refl
-
-pub too_many_octets_of_a_wired_frame : lines_of two (codes "W 02:00:00:00:00:01 " ++ replicate 8194 48) ≡ Err
-    (fault 5 1)
-unfolding hex_on_literals
-too_many_octets_of_a_wired_frame = refl
+wired_frames = refl
 
 -- ---- ticks
 
-pub tick_is_read : (config : RadioConfig) → lines_of config (codes "T") ≡ Ok (Tick ∷ [])
-tick_is_read config = refl
-
-pub tick_with_spaces_before_a_carriage_return : (config : RadioConfig)
-    → lines_of config (codes "T  " ++ cr ++ lf) ≡ Ok (Tick ∷ [])
-tick_with_spaces_before_a_carriage_return config = refl
+pub ticks : (config : RadioConfig) → Computes (lines_of config) (
+    ("tick is read", codes "T", Ok (Tick ∷ []))
+    ∷ ("tick with spaces before a carriage return", codes "T  " ++ cr ++ lf, Ok (Tick ∷ []))
+    ∷ [])
+ticks config = refl
 
 pub lines_of_each_kind : lines_of two
     (codes "T" ++ lf ++ codes "A 01" ++ lf ++ codes "W 02:aa:00:00:00:02 02" ++ lf ++ codes "T" ++ lf)
@@ -159,27 +141,19 @@ lines_of_each_kind = refl
 
 -- ---- lines
 
-pub no_lines : (config : RadioConfig) → lines_of config [] ≡ Ok []
-no_lines config = refl
-
 pub last_line_lacks_its_end : (config : RadioConfig)
     → lines_of config (codes "A 01" ++ lf ++ codes "A 02") ≡ lines_of config (codes "A 01" ++ lf ++ codes "A 02" ++ lf)
 unfolding hex_on_literals
 last_line_lacks_its_end config = refl
 
-pub skipped_lines_count : (config : RadioConfig)
-    → lines_of config (codes "# A 4" ++ lf ++ lf ++ codes "A 4" ++ lf) ≡ Err (fault 2 3)
+pub lines : (config : RadioConfig) → Computes (lines_of config) (
+    ("no lines", [], Ok [])
+    ∷ ("skipped lines count", codes "# A 4" ++ lf ++ lf ++ codes "A 4" ++ lf, Err (fault 2 3))
+    ∷ ("lines of spaces are skipped", codes "  " ++ lf ++ codes " " ++ cr ++ lf ++ codes "   ", Ok [])
+    ∷ ("first fault of two", codes "A 00" ++ lf ++ codes "A 4" ++ lf ++ codes "X", Err (fault 2 2))
+    ∷ [])
 unfolding hex_on_literals
-skipped_lines_count config = refl
-
-pub lines_of_spaces_are_skipped : (config : RadioConfig)
-    → lines_of config (codes "  " ++ lf ++ codes " " ++ cr ++ lf ++ codes "   ") ≡ Ok []
-lines_of_spaces_are_skipped config = refl
-
-pub first_fault_of_two : (config : RadioConfig)
-    → lines_of config (codes "A 00" ++ lf ++ codes "A 4" ++ lf ++ codes "X") ≡ Err (fault 2 2)
-unfolding hex_on_literals
-first_fault_of_two config = refl
+lines config = refl
 
 -- ---- the ends of lines
 
@@ -193,22 +167,14 @@ ends_are_dropped config = refl
 
 -- ---- the number of lines
 
-pub most_lines_are_read : (bssids : List (List ℕ)) → lines_from bssids 1000000 (codes "A" ∷ []) ≡ Ok (Air [] ∷ [])
+pub numbers_of_lines : (bssids : List (List ℕ)) → Computes (lines_from bssids 1000000) (
+    ("most lines are read", codes "A" ∷ [], Ok (Air [] ∷ []))
+    ∷ ("one line too many", codes "A" ∷ codes "X" ∷ [], Err (fault 5 1000001))
+    ∷ ("skipped line too many", codes "#" ∷ codes "#" ∷ [], Err (fault 5 1000001))
+    ∷ ("fault before the limit", codes "X" ∷ codes "X" ∷ [], Err (fault 1 1000000))
+    ∷ [])
 unfolding hex_on_literals
-most_lines_are_read bssids = refl
-
-pub one_line_too_many : (bssids : List (List ℕ))
-    → lines_from bssids 1000000 (codes "A" ∷ codes "X" ∷ []) ≡ Err (fault 5 1000001)
-unfolding hex_on_literals
-one_line_too_many bssids = refl
-
-pub skipped_line_too_many : (bssids : List (List ℕ))
-    → lines_from bssids 1000000 (codes "#" ∷ codes "#" ∷ []) ≡ Err (fault 5 1000001)
-skipped_line_too_many bssids = refl
-
-pub fault_before_the_limit : (bssids : List (List ℕ))
-    → lines_from bssids 1000000 (codes "X" ∷ codes "X" ∷ []) ≡ Err (fault 1 1000000)
-fault_before_the_limit bssids = refl
+numbers_of_lines bssids = refl
 
 -- a character of no text
 pub comment_of_any_octets : (config : RadioConfig)
