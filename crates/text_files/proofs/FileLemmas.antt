@@ -18,12 +18,6 @@ told P name unread.Failed Memory is so = tt
 told P name unread.Failed other is so = absurd is
 told P name unread.NoMemory fault is so = subst (λ f. IsOfUnread name P f) (sym is) tt
 
--- the same, of what follows from it
-pub told_more : (P Q : Type 0) (name : List ℕ) (fault : Fault) → (P → Q) → IsOfUnread name P fault → IsOfUnread name Q fault
-told_more P Q name (File given) f is = (is.0, f is.1)
-told_more P Q name Memory f is = tt
-told_more P Q name other f is = absurd is
-
 -- each file was read
 abbrev pub AreReadOf : {O : Type 0} → (O → Option (List ℕ) → Type 0) → List (Opened O) → List (Result (List ℕ) Fault) → Type 0
 AreReadOf gives [] [] = Unit {0}

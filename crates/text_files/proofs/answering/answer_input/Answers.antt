@@ -1,7 +1,7 @@
 -- A file that could not be read ends it before anything is read of the source; else it is the access point's run.
 use Rattle.std.proofs.Common.{[], inr}
 use Rattle.std.proofs.lemmas.Result.{err_from_is_err_and}
-use Rattle.text_files.proofs.AnsweredLemmas.{answered_failures, unread_ends_answers}
+use Rattle.text_files.proofs.AnsweredLemmas.{unread_ends_answers}
 use Rattle.text_files.proofs.FileLemmas.{unread_first}
 use Rattle.text_files.proofs.answering.answer_input.Goals as goal
 
