@@ -1,5 +1,5 @@
 -- The value of one address is set, or one is taken out: what becomes of the others.
-use Rattle.std.proofs.Common.{◌≡◌, ℕ, Bool, true, false, cond, List, [], ◌∷◌, ◌++◌, Option, Some, None, is_some, refl, sym, inl, inr, arith}
+use Rattle.std.proofs.Common.{◌≡◌, ℕ, true, false, List, [], ◌∷◌, ◌++◌, None, is_some, refl, sym, inl, inr, arith}
 use Rattle.std.specs.Map.{set_value, remove_entry}
 use Rattle.std.specs.Str.{bytes_eq}
 use Rattle.std.proofs.lemmas.Bool.{both_ways, cases_Bool, false_from_ne_true}
@@ -27,10 +27,6 @@ pub other_way : (a b : List ℕ) → bytes_eq a b ≡ false → bytes_eq b a ≡
 other_way a b h = false_from_ne_true (bytes_eq b a) (λ same. both_ways (bytes_eq a b) h ((bytes_eq-Decides a b).1 (sym ((bytes_eq-Decides b a).0 same))))
 
 module _ {V : Type 0} where
-  pub not-here : (b : Bool) (value : V) (rest : Option V) → cond b (Some value) rest ≡ None → (b ≡ false) × (rest ≡ None)
-  not-here true value rest h = absurd (cc)
-  not-here false value rest h = (refl, h)
-
   -- another address that is not there does not come
   pub unknown-stays : (k a : List ℕ) (l : V) (t : Entries V) → bytes_eq k a ≡ false → value_of k t ≡ None → value_of k (with_entry a l t) ≡ None
   unknown-stays k a l [] other h = rw other refl

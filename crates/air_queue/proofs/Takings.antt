@@ -10,18 +10,14 @@ use Rattle.crossbeam_queue.specs.Fifo.{Merges}
 use Rattle.events.specs.Items.{items_of}
 use Rattle.events.specs.declared.air_item.AirItem.{AirItem}
 use Rattle.air_queue.specs.Passes.{TakenIn, NetPassView, HasEach}
-use Rattle.air_queue.specs.Rule.{IsKept, IsNetworkAt, IsRadio, IsRadioWith, Accounts, AllTaken, left_of, pushed_by, networks_of, taken_in_of, taking_in, after_taking}
+use Rattle.air_queue.specs.Rule.{IsKept, IsNetworkAt, IsRadio, IsRadioWith, Accounts, AllTaken, left_of, networks_of, taken_in_of, taking_in, after_taking}
 use Rattle.air_queue.specs.declared.known.Known.{Known}
-use Rattle.air_queue.specs.declared.known.Known.TheVariants.{Network, Radio, Spent}
+use Rattle.air_queue.specs.declared.known.Known.TheVariants.{Radio, Spent}
 use Rattle.air_queue.proofs.Counts.{same_count}
 use Rattle.air_queue.proofs.Entries.{get-here, get-other}
 use Rattle.air_queue.proofs.RuleSteps.{takes_in}
 
 -- ---- kinds of pass
-
-pub network_is : (place : ℕ) (v : Known) → IsNetworkAt place v → v ≡ Network place (pushed_by v)
-network_is place (Network at pushed) is = ap (λ k. Network k pushed) is
-network_is place v is = absurd is
 
 pub radio_is : (out : List AirItem) (v : Known) → IsRadioWith out v → v ≡ Radio out (networks_of v) (taken_in_of v)
 radio_is out (Radio left networks taken_in) is = ap (λ l. Radio l networks taken_in) is
@@ -33,11 +29,6 @@ radio_with v is = absurd is
 
 pub is_radio : (out : List AirItem) (v : Known) → IsRadioWith out v → IsRadio v
 is_radio out v is = subst IsRadio (sym (radio_is out v is)) tt
-
-pub radio-taking : (v u : Known) → IsRadio v → IsRadio (taking_in v u)
-radio-taking (Radio left networks taken_in) (Network place pushed) is = tt
-radio-taking (Radio left networks taken_in) u is = tt
-radio-taking v u is = absurd is
 
 -- a pass of the radio takes in one of a network
 pub takes : (port : ℕ) (v : Known) (other place : ℕ) (u : Known) → IsRadio v → IsNetworkAt place u → Merges IsKept port v other u (taking_in v u) Spent

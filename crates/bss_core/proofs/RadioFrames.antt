@@ -1,7 +1,7 @@
 -- The frames of a radio: those of a network that left, those in the queue and those that wait are all that it sent.
-use Rattle.std.proofs.Common.{◌≡◌, ℕ, ◌+◌, ◌≤◌, ◌<◌, ltb, List, [], ◌∷◌, ◌++◌, length, take, drop, Option, Some, None, slice_get, map, refl, sym, ap, subst, ◌∙◌, arith, inl, inr}
+use Rattle.std.proofs.Common.{◌≡◌, ℕ, ◌+◌, ◌≤◌, ◌<◌, ltb, List, [], ◌∷◌, ◌++◌, length, take, Option, Some, None, slice_get, map, refl, sym, ap, subst, ◌∙◌, arith, inl, inr}
 use Rattle.std.proofs.lemmas.Bool.{cond_both, cases_lt, ltb-true}
-use Rattle.std.proofs.lemmas.List.{length-append, length-set, take_more, drop_more, get_or_past, append_assoc, take-append-drop, take-append-le, get_or-map, length-map}
+use Rattle.std.proofs.lemmas.List.{length-append, length-set, take_more, get_or_past, append_assoc, take-append-drop, take-append-le, get_or-map, length-map}
 use Rattle.std.proofs.lemmas.Option.{slice_get_within, get_or_from_slice_get}
 use Rattle.network.specs.Network.{alone}
 use Rattle.ap_config.specs.Places.{names_network, network_at, setting_at}
@@ -25,11 +25,6 @@ pub take-frame : (frames : List (List ℕ)) (number : ℕ) (octets : List ℕ) �
 take-frame frames number octets is =
     take_more frames number octets (slice_get_within frames number octets is)
     ∙ ap (λ (x : List ℕ). take number frames ++ x ∷ []) (get_or_from_slice_get frames number octets octets is)
-
-pub drop-frame : (frames : List (List ℕ)) (number : ℕ) (octets : List ℕ) → slice_get frames number ≡ Some octets → drop number frames ≡ octets ∷ drop (number + 1) frames
-drop-frame frames number octets is =
-    drop_more frames number octets (slice_get_within frames number octets is)
-    ∙ ap (λ (x : List ℕ). x ∷ drop (number + 1) frames) (get_or_from_slice_get frames number octets octets is)
 
 -- ---- no frame is lost, doubled or moved
 

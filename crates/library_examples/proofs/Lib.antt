@@ -1,2 +1,1 @@
 pub mod NetworkSection
-pub mod Turns

@@ -2,8 +2,8 @@
 use Rattle.std.proofs.Common.{◌≡◌, ℕ, zero, suc, ◌+◌, List, [], ◌∷◌, length, map, take, drop, refl, sym, ap, ◌∙◌}
 use Rattle.std.proofs.Common.{arith}
 use Rattle.std.specs.Prelude.{sum}
-use Rattle.std.proofs.lemmas.List.{take-take, drop-drop, drop-take, length-take-le, length-drop, take-append-drop}
-use Rattle.std.proofs.lemmas.List.Sums.{sum_by-cons, sum_by-append}
+use Rattle.std.proofs.lemmas.List.{take-take, drop-drop, drop-take, length-take-le, length-drop}
+use Rattle.std.proofs.lemmas.List.Sums.{sum_by-cons}
 use Rattle.networks.specs.SentFrames.{cut_by}
 
 pub length-cut : (lengths octets : List ℕ) → length (cut_by lengths octets) ≡ length lengths
@@ -21,11 +21,6 @@ lengths-cut (len ∷ lengths) octets whole =
     ∙ ap (λ (n : ℕ). n ∷ map length (cut_by lengths (drop len octets))) first
 
 -- ---- the first of them, and the others
-
-pub sum-parts : (count : ℕ) (lengths : List ℕ) → sum (take count lengths) + sum (drop count lengths) ≡ sum lengths
-sum-parts count lengths =
-    sym (sum_by-append (λ (n : ℕ). n) (take count lengths) (drop count lengths))
-    ∙ ap sum (take-append-drop count lengths)
 
 pub front-cut : (count : ℕ) (lengths octets : List ℕ)
     → cut_by (take count lengths) (take (sum (take count lengths)) octets) ≡ take count (cut_by lengths octets)

@@ -6,7 +6,7 @@ use Rattle.std.proofs.lemmas.List.{get_or-map, get_or_append_left, get_or-append
 use Rattle.std.proofs.lemmas.Nat.{and_le_r, and_mask}
 use Rattle.std.proofs.lemmas.Simd.{SwzOk, SwzOk-from_below, get_or-swz_l_below, swz_l}
 use Rattle.std.proofs.lemmas.Simd.{Each1-all, Each1-get_or, Each1-weaker, Each1-zip2, Each2-splat, below_from_Fits}
-use Rattle.std.proofs.lemmas.Simd.{get_or-replicate, get_or-zip2, length-zip2}
+use Rattle.std.proofs.lemmas.Simd.{get_or-replicate, get_or-zip2}
 use lib.Lanes.{Each1, pick_l, zip2}
 use Rattle.hex.specs.Hex.{lower_digits}
 use Rattle.text_io.specs.Pairs.{SpellsAt}
@@ -45,12 +45,6 @@ pub low_l-small : (v : List ℕ) → Each1 (λ n. n < 16) (low_l v)
 low_l-small v =
     let small = Each1-all (λ a. bit_and a 15 < 16) (λ a. omega (arith, and_le_r a 15)) v in
     Each1-zip2 bit_and (λ n. n < 16) v (replicate 16 15) (Each2-splat (λ a b. bit_and a b < 16) v 16 15 small)
-
-pub length-high_l : (v : List ℕ) → length v ≡ 16 → length (high_l v) ≡ 16
-length-high_l v long = length-zip2 halved v (replicate 16 4) long ∙ long
-
-pub length-low_l : (v : List ℕ) → length v ≡ 16 → length (low_l v) ≡ 16
-length-low_l v long = length-zip2 bit_and v (replicate 16 15) long ∙ long
 
 get_or-high_l : (v : List ℕ) (j : ℕ) → length v ≡ 16 → j < 16 → get_or (high_l v) j 0 ≡ get_or v j 0 / 16
 get_or-high_l v j long lt =
