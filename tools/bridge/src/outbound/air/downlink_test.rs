@@ -4,8 +4,8 @@
 //! such that both come to the same:
 //!
 //! 1. The receiver of a network whose turn it is isn't compared: the model says whose it is, and all others are held.
-//! 2. What became of a frame is told before the next one goes, so the bridge holds no receiver. What took more air than
-//!    was reckoned is told by `used`.
+//! 2. What became of a frame is told before the next one goes, so the bridge holds no receiver. What a frame took is
+//!    told by `used`: its first try as it goes, and once it is told of, what all its tries took beyond that.
 //! 3. Time nearly stands still, or goes on by half a second: units are in time, or late in any case (`lateness`).
 //! 4. A unit comes for a station that dozes only as an answer to a poll.
 //! 5. What became of a unit is told before its station's doze is settled, and before it wakes or leaves. Units go back
@@ -289,7 +289,7 @@ impl Pair {
                 let frame = packet[SENDING_LEN..].to_vec();
                 assert_eq!(ticket_of(&frame), last.ticket);
                 assert_eq!(frame[1] & 0x08 != 0, last.fate == Fate::GoesAgain);
-                self.charge(last.network, used);
+                self.charge(last.network, used, takes(&packet, packet[RATE_AT], 1));
                 sent = Some((last, packet));
             }
         }
@@ -306,10 +306,21 @@ impl Pair {
         self.air.accounts()[place].used
     }
 
-    /// A network is charged beside for what it used since.
-    fn charge(&mut self, place: Place, before: Duration) {
-        let more = self.used(place) - before;
-        assert!(self.beside.used(place, microseconds(more)));
+    /// A network is charged beside for what a frame of it took, and was charged for just that since.
+    fn charge(&mut self, place: Place, before: Duration, took: Duration) {
+        assert_eq!(self.used(place) - before, took);
+        assert!(self.beside.used(place, microseconds(took)));
+    }
+
+    /// How the radio sent a packet: mostly at the rate that it was asked for, and sometimes more often than it was.
+    fn outcome(&mut self, packet: &[u8], is_acknowledged: bool) -> Outcome {
+        let rate = match self.seeded.below(8) {
+            0 => None,
+            1 => Some(NO_RATE),
+            2..=3 => Some(BAND[self.seeded.below(BAND.len())]),
+            _ => Some(packet[RATE_AT]),
+        };
+        Outcome { is_acknowledged, retries: [0, 1, 2, 3, u8::MAX][self.seeded.below(5)], rate }
     }
 
     /// The radio tells of a frame. Its station may fall asleep before that, wake again or leave.
@@ -322,10 +333,9 @@ impl Pair {
         let is_unit = packet[SENDING_LEN] == DATA;
         let may_be_lost = receiver > 0 && is_unit && self.room(place, receiver) > 0;
         let is_acknowledged = !may_be_lost || self.seeded.below(4) > 0;
-        let outcome = Outcome { is_acknowledged, retries: self.seeded.below(4) as u8, rate: Some(packet[8]) };
-        let used = self.used(place);
+        let (outcome, used) = (self.outcome(packet, is_acknowledged), self.used(place));
         self.air.reported(place, &packet[SENDING_LEN..], outcome, self.now);
-        self.charge(place, used);
+        self.charge(place, used, takes_more(packet, outcome));
         let told = self.beside.told((place, receiver), ticket, is_acknowledged);
         assert!(self.count(told).is_some());
         if dozes {
@@ -448,11 +458,31 @@ impl Pair {
 
 const DATA: u8 = 0x08;
 const ACTION: u8 = 0xd0;
+/// Where the header of a packet says at which rate it goes, and how often it is tried again at most.
+const RATE_AT: usize = 8;
+const RETRIES_AT: usize = 12;
+/// No rate of the band.
+const NO_RATE: u8 = 0;
 
 /// The ticket of a frame: behind the header, and in data behind that of LLC.
 fn ticket_of(frame: &[u8]) -> u64 {
     let from = if frame[0] == DATA { 32 } else { 24 };
     u64::from_be_bytes(frame[from..from + 8].try_into().unwrap())
+}
+
+/// What so many tries of a packet take at a rate.
+fn takes(packet: &[u8], rate: u8, tries: u32) -> Duration {
+    let frame = &packet[SENDING_LEN..];
+    let is_acknowledged = !Frame::of(frame).unwrap().receiver().is_group();
+    Size { octets: frame.len(), rate, is_acknowledged }.cost().tries(tries)
+}
+
+/// What a packet took that went so, beyond its first try at the rate that it was asked for.
+fn takes_more(packet: &[u8], outcome: Outcome) -> Duration {
+    let asked = packet[RATE_AT];
+    let rate = outcome.rate.filter(|rate| BAND.contains(rate)).unwrap_or(asked);
+    let tries = 1 + u32::from(outcome.retries.min(packet[RETRIES_AT]));
+    takes(packet, rate, tries).saturating_sub(takes(packet, asked, 1))
 }
 
 /// The answers of one receiver after another.
