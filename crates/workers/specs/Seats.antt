@@ -1,5 +1,5 @@
 -- What stands under a network's lock (profile).
-use Rattle.std.specs.Prelude.{ℕ, ◌<◌, ◌≤◌, ◌≡◌, ◌≢◌, [], ◌∷◌, ◌++◌, List, length}
+use Rattle.std.specs.Prelude.{ℕ, Bool, ◌<◌, ◌≤◌, ◌≡◌, ◌≢◌, [], ◌∷◌, ◌++◌, List, length}
 use Rattle.std.specs.FinMap as finite
 use Rattle.air_queue.specs.Passes.{QueueName, NetPassView, RadioPassView}
 use Rattle.ap_config.specs.Places.{setting_at}
@@ -16,6 +16,11 @@ use Rattle.workers.specs.declared.outcome.Outcome.TheVariants.{NotHeard, Took, F
 pub record SeatView : Type 0 where
   pub network : BssView
   pub pass : NetPassView
+
+-- what was told last of the frames of the network at a place, to whoever has no lock
+pub record ToldView : Type 0 where
+  pub place : ℕ
+  pub waits : Bool
 
 -- The network is the one at the pass's place of the configuration, the pass is one to the queue of this name, and
 -- what was pushed and then what waits is all that the network alone sends for its history.

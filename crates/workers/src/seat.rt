@@ -1,14 +1,14 @@
 //! What stands under a network's lock (*profile*).
 
-ghost use Rattle.std.specs.Prelude.{◌≡◌, ◌≤◌, ◌+◌, [], length};
+ghost use Rattle.std.specs.Prelude.{◌≡◌, ◌≤◌, ◌+◌, [], true, length};
 ghost use Rattle.std.specs.Fn.{FnOnceTakesAt, FnOnceReturnsAt};
 ghost use Rattle.air_queue.specs.Passes.{NetPassView};
 ghost use Rattle.network.specs.BssView.{BssView};
-ghost use Rattle.workers.specs.Seats.{IsSeated, IsNetworkOf, AnswersEvent, HandsFrame};
+ghost use Rattle.workers.specs.Seats.{IsSeated, IsNetworkOf, AnswersEvent, HandsFrame, ToldView};
 
 use crate::name::ApName;
 use crate::outcome::Outcome;
-use crate::waiting::Waiting;
+use crate::waiting::{Told, Waiting};
 use air_queue::{AirQueue, NetPass};
 use events::{AirItem, Event, Handed};
 use network::Bss;
@@ -17,13 +17,12 @@ use std::sync::Wait;
 
 /// A network of the access point N with its pass to the air queue, as they stand under one lock (*profile*). What was
 /// pushed and then what waits is all that the network alone sends for its history: no frame is lost, doubled or
-/// overtaken. If it told last that none waits, none does: so it tells before its lock is let go.
+/// overtaken. If it told last that none waits, none does: so it tells before its lock is let go, and of its own place.
 #[derive(Drop)]
 pub struct Seat<N: ApName> {
     bss: Bss,
     pass: NetPass,
-    /// Whether frames wait, as it told last.
-    told: bool,
+    told: Told,
     of: PhantomData<N>,
 }
 
@@ -35,20 +34,24 @@ impl<N: ApName> Model for Seat<N> {
 
     ghost view = { λ s. record { network = s.bss; pass = s.pass } };
 
-    ghost invariant = { λ s. IsSeated N.config N.queue s.bss s.pass × (s.told ≡ false → s.bss.waiting ≡ []) };
+    ghost invariant = { λ s.
+        IsSeated N.config N.queue s.bss s.pass
+        × (s.told.place ≡ s.pass.place)
+        × (s.told.waits ≡ false → s.bss.waiting ≡ []) };
 }
 
 impl<N: ApName> Seat<N> {
-    /// The seat of a network that took no event, which has told nothing: its frames may wait.
-    pub(crate) fn new(bss: Bss, pass: NetPass) -> Seat<N>
+    /// The seat of a network that took no event, of which was told that its frames may wait.
+    pub(crate) fn new(bss: Bss, pass: NetPass, told: Told) -> Seat<N>
         requires seated { IsSeated N.config N.queue bss pass }
         requires fresh { bss.history ≡ [] }
+        requires told { told ≡ record { place = pass.place; waits = true } }
         ensures { result ≡ record { network = bss; pass = pass } }
     {
         Seat {
             bss,
             pass,
-            told: true,
+            told,
             of: PhantomData,
         }
     }
@@ -62,7 +65,7 @@ impl<N: ApName> Seat<N> {
     {
         let outcome = Outcome::from(self.bss.take(event));
         let waits = self.bss.waiting_len() > 0;
-        self.told = waiting.tell(self.pass.place(), self.told, waits);
+        waiting.tell(&mut self.told, waits);
         outcome
     }
 
@@ -96,7 +99,7 @@ impl<N: ApName> Seat<N> {
             match self.hand(rt, queue) {
                 Handed::Moved => {}
                 Handed::Nothing => {
-                    self.told = waiting.tell(self.pass.place(), self.told, false);
+                    waiting.tell(&mut self.told, false);
                     return count;
                 }
                 Handed::QueueFull => return count,

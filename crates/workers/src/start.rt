@@ -41,13 +41,14 @@ impl<N: ApName> Ap<N> {
         } = parts;
         let bssids = config.bssids(alloc)?;
         let callers = open_callers(alloc, callers)?;
-        let seats = seat_networks::<N>(alloc, config, nets)?;
+        let mut waiting = Waiting::new();
+        let seats = seat_networks::<N>(alloc, config, nets, &mut waiting)?;
         let ap = Ap {
             alloc,
             bssids,
             seats,
             queue,
-            waiting: Waiting::new(),
+            waiting,
         };
         let transmitter = Transmitter {
             pass: radio,
@@ -68,11 +69,12 @@ fn open_callers(alloc: Global, count: u32) -> Result<Vec<Caller>, NoMemory>
     Ok(callers)
 }
 
-/// Each network under a lock of its own, with its pass, in order of place.
+/// Each network under a lock of its own, with its pass, in order of place. Of each is told that its frames may wait.
 fn seat_networks<N: ApName>(
     alloc: Global,
     config: RadioConfig,
     nets: Vec<NetPass>,
+    waiting: &mut Waiting,
 ) -> Result<Vec<Mutex<Seat<N>>>, NoMemory>
     requires config { config ≡ N.config }
     requires sound { fault_of config ≡ None }
@@ -89,7 +91,8 @@ fn seat_networks<N: ApName>(
     let mut seats = Vec::new(alloc);
     for (network, pass) in networks.into_vec().into_iter().zip(nets) {
         let bss = Bss::new(alloc, channel, interval, network)?;
-        seats.push(Mutex::new(Seat::new(bss, pass)))?;
+        let told = waiting.begin(pass.place());
+        seats.push(Mutex::new(Seat::new(bss, pass, told)))?;
     }
     Ok(seats)
 }

@@ -1,22 +1,48 @@
 //! Whose frames wait, for who has no lock (*profile*).
 
-ghost use Rattle.std.specs.Prelude.{◌≡◌, ◌<◌, ◌^◌};
+ghost use Rattle.std.specs.Prelude.{◌≡◌, ◌<◌, ◌^◌, true};
 ghost use Rattle.ap_config.specs.Configuration.{most_networks};
+ghost use Rattle.workers.specs.Seats.{ToldView};
 
+use std::marker::Model;
 use std::sync::atomic::{AtomicU64, Ordering};
 
-/// Whose frames may wait, by a bit for each place, as whoever has a network's lock tells it. Anybody may read it.
+/// Whose frames may wait, by a bit for each place. Whoever has what was [`Told`] of a place tells it. Anybody may read it.
 #[derive(Drop)]
 pub(crate) struct Waiting {
     bits: AtomicU64,
 }
 
+/// What was told last of the frames of the network at a place. It is made and changed by telling alone: where it stands
+/// under a lock, nobody tells without that lock.
+#[derive(Drop)]
+pub(crate) struct Told {
+    place: usize,
+    waits: bool,
+}
+
+impl Model for Told {
+    ghost use Rattle.workers.specs.Seats.{ToldView};
+
+    ghost Value = { ToldView };
+
+    ghost view = { λ t. record { place = t.place; waits = t.waits } };
+}
+
 impl Waiting {
-    /// Frames of each network may wait.
+    /// Nobody's frames wait.
     pub(crate) fn new() -> Waiting {
         Waiting {
-            bits: AtomicU64::new(u64::MAX),
+            bits: AtomicU64::new(0),
         }
+    }
+
+    /// Tells of a place for the first time: its frames may wait.
+    pub(crate) fn begin(&mut self, place: usize) -> Told
+        ensures { result ≡ record { place = place; waits = true } }
+    {
+        self.bits.fetch_or(bit_of(place), Ordering::SeqCst);
+        Told { place, waits: true }
     }
 
     /// Whether frames of the network at a place wait, as it was told last.
@@ -24,17 +50,17 @@ impl Waiting {
         self.bits.load(Ordering::SeqCst) & bit_of(place) != 0
     }
 
-    /// Tells whether frames of the network at a place wait, unless that was told last. Answers what is told now.
-    pub(crate) fn tell(&self, place: usize, told: bool, waits: bool) -> bool
-        ensures { result ≡ waits }
+    /// Tells whether frames of a network wait, unless that was told last.
+    pub(crate) fn tell(&self, told: &mut Told, waits: bool)
+        ensures { told.new ≡ record { place = told.old.place; waits = waits } }
     {
-        if waits && !told {
-            self.bits.fetch_or(bit_of(place), Ordering::SeqCst);
+        if waits && !told.waits {
+            self.bits.fetch_or(bit_of(told.place), Ordering::SeqCst);
         }
-        if told && !waits {
-            self.bits.fetch_and(!bit_of(place), Ordering::SeqCst);
+        if told.waits && !waits {
+            self.bits.fetch_and(!bit_of(told.place), Ordering::SeqCst);
         }
-        waits
+        told.waits = waits;
     }
 }
 
