@@ -5,3 +5,4 @@ pub mod ClocksKept
 pub mod RosterChanges
 pub mod Aging
 pub mod UnitsLeft
+pub mod SoonestClock

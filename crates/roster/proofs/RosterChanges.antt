@@ -15,15 +15,16 @@ use Rattle.roster.proofs.ClocksKept.{clocks-unkept, clocks-renumbered_not}
 use Rattle.roster.proofs.UnitsKept.{some-for}
 use Rattle.roster.proofs.WaitedFor.{Numbers, AreShown, waited-parted, waited-one, waited-renumbered_not, forgotten-changed}
 
-pub roster-renumbered_not : StaySound → OthersStay → ModesAlone → {A E : Type 0} (result : Result A E) (numbers : Numbers) (complete : Bool) (clocks : List AgingClock) (aids : List ℕ) (r : RosterState) (change : Change) (s : StationTable) → renumbered change ≡ None → IsAllowed r.stations.most change r.stations.table → IsRoster numbers complete clocks aids r
-    → OnOk result (s ≡ with_table r.stations (changed change r.stations.table)) → OnErr result (s ≡ r.stations) → IsRoster numbers complete clocks aids (record { stations = s; kept = r.kept })
-roster-renumbered_not stays others modes (Ok value) numbers complete clocks aids r change s not_renumbered allowed h is refused = rw is (record {
+pub roster-renumbered_not : StaySound → OthersStay → ModesAlone → {A E : Type 0} (result : Result A E) (numbers : Numbers) (complete : Bool) (clocks : List AgingClock) (aids : List ℕ) (soonest : ℕ) (r : RosterState) (change : Change) (s : StationTable) → renumbered change ≡ None → IsAllowed r.stations.most change r.stations.table → IsRoster numbers complete clocks aids soonest r
+    → OnOk result (s ≡ with_table r.stations (changed change r.stations.table)) → OnErr result (s ≡ r.stations) → IsRoster numbers complete clocks aids soonest (record { stations = s; kept = r.kept })
+roster-renumbered_not stays others modes (Ok value) numbers complete clocks aids soonest r change s not_renumbered allowed h is refused = rw is (record {
   limit = h.limit;
   sound = stays r.stations.most change r.stations.table h.limit allowed h.sound;
   traffic = λ n aid. h.traffic n aid ∙ sym (waited-renumbered_not change r.stations.table r.kept.entries n not_renumbered);
   aging = λ all. clocks-renumbered_not others modes clocks aids change r.stations.table r.kept.entries not_renumbered (h.aging all);
+  young = h.young;
 })
-roster-renumbered_not stays others modes (Err fault) numbers complete clocks aids r change s not_renumbered allowed h is refused = rw refused (record { limit = h.limit; sound = h.sound; traffic = h.traffic; aging = h.aging })
+roster-renumbered_not stays others modes (Err fault) numbers complete clocks aids soonest r change s not_renumbered allowed h is refused = rw refused (record { limit = h.limit; sound = h.sound; traffic = h.traffic; aging = h.aging; young = h.young })
 
 -- one that no units are kept for isn't waited for, whatever its identifier becomes
 waited-unkept : OthersStay → (change : Change) (addr : List ℕ) (t : Table) (kept : List Entry) (n : ℕ) → renumbered change ≡ Some addr → AreApart t → has_unit addr kept ≡ false
@@ -35,22 +36,23 @@ waited-unkept others change addr t kept n is apart none =
     ∙ ap (λ b. (b && is_number (aid_of addr t) n) || is_waited_for (forget addr t) kept n) (sym none)
     ∙ sym (waited-parted addr t kept n)
 
-pub roster-unkept : StaySound → OthersStay → {A E : Type 0} (result : Result A E) (numbers : Numbers) (complete : Bool) (clocks : List AgingClock) (aids : List ℕ) (r : RosterState) (change : Change) (addr : List ℕ) (s : StationTable) → renumbered change ≡ Some addr → IsAllowed r.stations.most change r.stations.table → IsRoster numbers complete clocks aids r
+pub roster-unkept : StaySound → OthersStay → {A E : Type 0} (result : Result A E) (numbers : Numbers) (complete : Bool) (clocks : List AgingClock) (aids : List ℕ) (soonest : ℕ) (r : RosterState) (change : Change) (addr : List ℕ) (s : StationTable) → renumbered change ≡ Some addr → IsAllowed r.stations.most change r.stations.table → IsRoster numbers complete clocks aids soonest r
     → false ≡ nat_lt 0 (length (units_for (One addr) r.kept.entries)) → OnOk result (s ≡ with_table r.stations (changed change r.stations.table)) → OnErr result (s ≡ r.stations)
-    → IsRoster numbers complete clocks aids (record { stations = s; kept = r.kept })
-roster-unkept stays others (Ok value) numbers complete clocks aids r change addr s renumbers allowed h none is refused = rw is (record {
+    → IsRoster numbers complete clocks aids soonest (record { stations = s; kept = r.kept })
+roster-unkept stays others (Ok value) numbers complete clocks aids soonest r change addr s renumbers allowed h none is refused = rw is (record {
   limit = h.limit;
   sound = stays r.stations.most change r.stations.table h.limit allowed h.sound;
   traffic =
       λ n aid. h.traffic n aid ∙ sym (waited-unkept others change addr r.stations.table r.kept.entries n renumbers h.sound.addresses (some-for (One addr) r.kept.entries ∙ sym none));
   aging = λ all. clocks-unkept others clocks aids change addr r.stations.table r.kept.entries renumbers (some-for (One addr) r.kept.entries ∙ sym none) (h.aging all);
+  young = h.young;
 })
-roster-unkept stays others (Err fault) numbers complete clocks aids r change addr s renumbers allowed h none is refused = rw refused (record { limit = h.limit; sound = h.sound; traffic = h.traffic; aging = h.aging })
+roster-unkept stays others (Err fault) numbers complete clocks aids soonest r change addr s renumbers allowed h none is refused = rw refused (record { limit = h.limit; sound = h.sound; traffic = h.traffic; aging = h.aging; young = h.young })
 
-pub roster-renumbered : StaySound → OthersStay → IdentifiersDiffer → (numbers new : Numbers) (was complete : Bool) (old clocks : List AgingClock) (old_aids aids : List ℕ) (r : RosterState) (change : Change) (addr : List ℕ) (s : StationTable) (before after : Option ℕ) (waits : Bool) → renumbered change ≡ Some addr → IsAllowed r.stations.most change r.stations.table → IsRoster numbers was old old_aids r → complete ≡ false
+pub roster-renumbered : StaySound → OthersStay → IdentifiersDiffer → (numbers new : Numbers) (was complete : Bool) (old clocks : List AgingClock) (old_aids aids : List ℕ) (old_soonest soonest : ℕ) (r : RosterState) (change : Change) (addr : List ℕ) (s : StationTable) (before after : Option ℕ) (waits : Bool) → renumbered change ≡ Some addr → IsAllowed r.stations.most change r.stations.table → IsRoster numbers was old old_aids old_soonest r → complete ≡ false
     → s ≡ with_table r.stations (changed change r.stations.table) → before ≡ aid_of addr r.stations.table → after ≡ aid_of addr s.table → waits ≡ nat_lt 0 (length (units_for (One addr) r.kept.entries))
-    → AreShown before after waits numbers new → IsRoster new complete clocks aids (record { stations = s; kept = r.kept })
-roster-renumbered stays others differ numbers new was complete old clocks old_aids aids r change addr s before after waits is allowed h lost same had has some now =
+    → AreShown before after waits numbers new → IsRoster new complete clocks aids soonest (record { stations = s; kept = r.kept })
+roster-renumbered stays others differ numbers new was complete old clocks old_aids aids old_soonest soonest r change addr s before after waits is allowed h lost same had has some now =
     let t : Table = r.stations.table in
     let u : Table = changed change t in
     let has_after : after ≡ aid_of addr u = has ∙ ap (λ (k : StationTable). aid_of addr k.table) same in
@@ -62,4 +64,5 @@ roster-renumbered stays others differ numbers new was complete old clocks old_ai
           waited-one differ addr t u r.kept.entries r.kept.entries numbers new waits h.sound.aids
           (λ n. ap (λ (v : Table). is_waited_for v r.kept.entries n) (forgotten-changed others change addr t is h.sound.addresses)) some shown h.traffic;
       aging = λ all. absurd (both_ways complete lost all);
+      young = λ all. absurd (both_ways complete lost all);
     })

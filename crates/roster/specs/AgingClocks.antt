@@ -1,6 +1,6 @@
 -- Up to which clock no unit for a station is too old (profile), told for each association identifier (IEEE Std
 -- 802.11-2016, 9.4.1.8), so that a beacon looks up those stations alone that may have one.
-use Rattle.std.specs.Prelude.{ℕ, ◌+◌, ◌<◌, ◌≤◌, ◌≡◌, nat_lt, Bool, true, false, List, [], ◌∷◌, ◌++◌, length, set}
+use Rattle.std.specs.Prelude.{ℕ, ◌+◌, ◌<◌, ◌≤◌, ◌≡◌, ◌≢◌, nat_lt, Bool, true, false, List, [], ◌∷◌, ◌++◌, length, set}
 use Rattle.std.specs.Prelude.{Option, Some, None, if◌then◌else◌, slice_get}
 use Rattle.std.specs.List.{AllByRecursion}
 use Rattle.std.specs.Option.{IsSomeAnd}
@@ -28,6 +28,15 @@ HasClock clocks aids table Group at = Unit {0}
 abbrev pub HaveClocks : List AgingClock → (aids : List ℕ) → Table → List Entry → Type 0
 HaveClocks clocks aids table entries = AllByRecursion (λ entry. HasClock clocks aids table entry.0 entry.1.at) entries
 
+-- one that isn't due up to this clock
+abbrev pub IsNoSooner : (soonest : ℕ) → AgingClock → Type 0
+IsNoSooner soonest c = soonest ≤ c.at + c.listen
+
+-- each identifier that is listed has a clock, and none of these is due up to this one
+abbrev pub AreNoSooner : (soonest : ℕ) → List AgingClock → (aids : List ℕ) → Type 0
+AreNoSooner soonest clocks aids =
+    (n : ℕ) → is_among aids n ≡ true → IsSomeAnd (slice_get clocks n) (IsNoSooner soonest)
+
 -- ---- how it changes
 
 -- the clocks, one for each identifier, and the identifiers that are listed
@@ -48,6 +57,12 @@ IsEntered aid c old new =
 abbrev pub IsNoted : (aid at : ℕ) → (old new : List AgingClock) → Type 0
 IsNoted aid at old new = IsSomeAnd (slice_get old aid) (λ c.
     (early : ℕ) × (early ≤ at) × (early ≤ c.at) × (new ≡ set old aid (record c { at = early })))
+
+-- the clock of an identifier, if it has one, isn't due up to this one; the others stay
+abbrev pub IsSetAt : (aid until : ℕ) → (old new : List AgingClock) → Type 0
+IsSetAt aid until old new =
+    ((n : ℕ) → n ≢ aid → slice_get new n ≡ slice_get old n)
+    × ((c : AgingClock) → slice_get old aid ≡ Some c → IsSomeAnd (slice_get new aid) (IsNoSooner until))
 
 -- each clock stands where it stood
 abbrev pub StayAt : (old new : List AgingClock) → Type 0

@@ -12,7 +12,7 @@ use Rattle.powersave.specs.declared.unit.Whom.{Whom}
 use Rattle.powersave.specs.declared.unit.Whom.TheVariants.{One, Group}
 use Rattle.powersave.specs.declared.unit.Unit.{Unit as DataUnit}
 use Rattle.tim.specs.Tim.{SameNumbers}
-use Rattle.roster.specs.AgingClocks.{HaveClocks}
+use Rattle.roster.specs.AgingClocks.{HaveClocks, AreNoSooner}
 use Rattle.roster.specs.declared.aging_clocks.AgingClock.{AgingClock}
 use Rattle.stations.specs.Sound.{AreSound}
 use Rattle.stations.specs.Stations.{Table, StationTable, state_of, listen_with}
@@ -38,12 +38,13 @@ AreWaitedFor numbers table kept = SameNumbers (set.contains numbers) (is_waited_
 
 -- what is kept of the identifiers, and of the clocks where they are complete, beside the stations and the units
 pub record IsRoster (numbers : set.FinSet nat_cmp) (complete : Bool) (clocks : List AgingClock) (aids : List ℕ)
-    (r : RosterState) : Type 0 where
+    (soonest : ℕ) (r : RosterState) : Type 0 where
   -- association identifiers (IEEE Std 802.11-2016, 9.4.1.8)
   pub limit : r.stations.most ≤ 2007
   pub sound : AreSound r.stations.most r.stations.table
   pub traffic : AreWaitedFor numbers r.stations.table r.kept.entries
   pub aging : complete ≡ true → HaveClocks clocks aids r.stations.table r.kept.entries
+  pub young : complete ≡ true → AreNoSooner soonest clocks aids
 
 -- a number is this one, if there is one
 abbrev pub is_number : Option ℕ → ℕ → Bool

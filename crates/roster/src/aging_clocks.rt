@@ -1,22 +1,23 @@
 //! Up to which clock no unit for a station is too old (*profile*), so that a beacon looks up those stations alone that
 //! may have one.
 //!
-//! A clock stands at each association identifier that units wait for. A unit that comes sets it without a look-up, and
-//! the beacon that finds it due looks its station up and sets it anew.
+//! A clock stands at each association identifier that units wait for. A unit that comes sets it, and the beacon that
+//! finds it due looks its station up and sets it anew. Up to the soonest of the clocks no beacon looks at any.
 
-ghost use Rattle.std.specs.Prelude.{◌≡◌, ◌<◌, ◌++◌, ◌∷◌, [], ℕ, List, true, false, IsTrue, IfOk, OnOk, IfSome};
-ghost use Rattle.std.specs.Prelude.{filter, length};
+ghost use Rattle.std.specs.Prelude.{◌≡◌, ◌≢◌, ◌<◌, ◌/◌, ◌&&◌, ◌++◌, ◌∷◌, [], ℕ, List, true, false, IsTrue, IfOk, OnOk, IfSome};
+ghost use Rattle.std.specs.Prelude.{filter, leb, length, nat_lt, slice_get, Some};
 ghost use Rattle.std.specs.FinSet as set;
 ghost use Rattle.aid_pool.specs.LeastFree.{is_among};
 ghost use Rattle.powersave.specs.Keep.{Entry, units_for, first_clock, AreOldest, AreToldOnce};
 ghost use Rattle.powersave.specs.declared.unit.Whom.TheVariants.{One};
 ghost use Rattle.tim.specs.Tim.{IsAid, is_shown};
 ghost use Rattle.roster.specs.AgingClocks.{HasClock, HaveClocks, IsEntered, IsNoted, IsListed, StayAt, listing, is_due, due_at};
+ghost use Rattle.roster.specs.AgingClocks.{IsNoSooner, AreNoSooner, IsSetAt};
 ghost use Rattle.roster.specs.Keeping.{aid_for};
 ghost use Rattle.roster.specs.Roster.{AreWaitedFor};
 ghost use Rattle.stations.specs.Sound.{AreSound};
 ghost use Rattle.roster.specs.KeptUnits.{CameBy};
-ghost use Rattle.stations.specs.Stations.{Table, state_of, listen_with};
+ghost use Rattle.stations.specs.Stations.{state_of, listen_with};
 
 use mac_frame::{MAX_AID, MacAddr, NoMemory};
 use powersave::{Keep, Oldest, Whom};
@@ -52,6 +53,8 @@ pub(crate) struct AgingClocks {
     aids: Vec<u16>,
     // whether each that units are kept for has a clock
     complete: bool,
+    // up to this clock none of those that are listed is due, where they are complete
+    soonest: u32,
 }
 
 impl AgingClocks {
@@ -64,6 +67,7 @@ impl AgingClocks {
             clocks: Vec::new(alloc),
             aids: Vec::new(alloc),
             complete: false,
+            soonest: 0,
         }
     }
 
@@ -81,14 +85,42 @@ impl AgingClocks {
         self.complete = false;
     }
 
+    /// Whether, by the soonest clock, none is due at this one.
+    pub(crate) fn none_is_due(&self, clock: u32) -> bool
+        ensures { result ≡ (self.now.complete && leb clock self.now.soonest) }
+    {
+        self.complete && clock <= self.soonest
+    }
+
+    /// Whether so few units are kept that most of the list can be of stations that none is kept for.
+    pub(crate) fn are_mostly_gone(&self, units: usize) -> bool
+        ensures { result ≡ nat_lt units (length self.now.aids.items / 8) }
+    {
+        units < self.aids.len() / 8
+    }
+
     /// Sets the clock of whom a unit comes for at a clock, whose bit in the traffic isn't set for it yet.
-    pub(crate) fn arrive(&mut self, traffic: &Bitmap, whom: &Whom, aid: Option<u16>, at: u32)
+    pub(crate) fn arrive(
+        &mut self,
+        stations: &Stations,
+        traffic: &Bitmap,
+        whom: &Whom,
+        aid: Option<u16>,
+        at: u32,
+    )
         requires { IfSome aid IsAid }
-        ensures { (most : ℕ) (table : Table) (kept : List Entry) → AreSound most table → aid ≡ aid_for whom.now table
-            → AreWaitedFor traffic.now table kept
-            → (self.old.complete ≡ true → HaveClocks self.old.clocks.items self.old.aids.items table kept)
-            → self.new.complete ≡ true → HaveClocks self.new.clocks.items self.new.aids.items table kept
-            × HasClock self.new.clocks.items self.new.aids.items table whom.now at }
+        ensures clocks { (most : ℕ) (kept : List Entry) → AreSound most stations.now.table
+            → aid ≡ aid_for whom.now stations.now.table
+            → AreWaitedFor traffic.now stations.now.table kept
+            → (self.old.complete ≡ true
+            → HaveClocks self.old.clocks.items self.old.aids.items stations.now.table kept)
+            → self.new.complete ≡ true
+            → HaveClocks self.new.clocks.items self.new.aids.items stations.now.table kept
+            × HasClock self.new.clocks.items self.new.aids.items stations.now.table whom.now at }
+        ensures soonest { (self.old.complete ≡ true
+            → AreNoSooner self.old.soonest self.old.clocks.items self.old.aids.items)
+            → self.new.complete ≡ true
+            → AreNoSooner self.new.soonest self.new.clocks.items self.new.aids.items }
     {
         // no other station has the identifier
         identifiers_differ();
@@ -101,7 +133,7 @@ impl AgingClocks {
                 self.complete = if traffic.has(aid) {
                     self.note(aid, at)
                 } else {
-                    self.enter(aid, *addr, at, 0)
+                    self.enter(aid, *addr, at, listen_with(stations.state_of(*addr)))
                 };
             }
             (Whom::One(_), None) => self.complete = false,
@@ -111,13 +143,16 @@ impl AgingClocks {
     /// Lists those for whom units are kept anew, each with its clock. Where one isn't associated, or there is no room,
     /// they aren't complete.
     pub(crate) fn list(&mut self, stations: &Stations, oldest: &[Oldest])
-        ensures { (most clock : ℕ) (kept : List Entry) → AreSound most stations.now.table → AreOldest oldest.now kept
-            → AreToldOnce oldest.now → CameBy clock kept
+        ensures clocks { (most clock : ℕ) (kept : List Entry) → AreSound most stations.now.table
+            → AreOldest oldest.now kept → AreToldOnce oldest.now → CameBy clock kept
             → self.new.complete ≡ true
             → HaveClocks self.new.clocks.items self.new.aids.items stations.now.table kept }
+        ensures soonest { self.new.complete ≡ true
+            → AreNoSooner self.new.soonest self.new.clocks.items self.new.aids.items }
     {
         self.aids.clear();
         self.complete = false;
+        self.soonest = u32::MAX;
         for one in oldest {
             if !self.list_one(stations, one) {
                 return;
@@ -132,6 +167,8 @@ impl AgingClocks {
         ensures listed { IsTrue result → IsListed stations.now.table one.now
             (listing self.old.clocks.items self.old.aids.items)
             (listing self.new.clocks.items self.new.aids.items) }
+        ensures soonest { AreNoSooner self.old.soonest self.old.clocks.items self.old.aids.items → IsTrue result
+            → AreNoSooner self.new.soonest self.new.clocks.items self.new.aids.items }
     {
         // no other station has the identifier
         identifiers_differ();
@@ -150,6 +187,7 @@ impl AgingClocks {
     fn make_room(&mut self, aid: u16)
         ensures complete { self.new.complete ≡ self.old.complete }
         ensures aids { self.new.aids.items ≡ self.old.aids.items }
+        ensures soonest { self.new.soonest ≡ self.old.soonest }
         ensures clocks { StayAt self.old.clocks.items self.new.clocks.items }
     {
         let room = usize::from(aid) + 1;
@@ -180,6 +218,8 @@ impl AgingClocks {
             (record { addr = addr; place = place; at = at; listen = listen })
             (listing self.old.clocks.items self.old.aids.items)
             (listing self.new.clocks.items self.new.aids.items) }
+        ensures soonest { AreNoSooner self.old.soonest self.old.clocks.items self.old.aids.items → IsTrue result
+            → AreNoSooner self.new.soonest self.new.clocks.items self.new.aids.items }
     {
         let index = usize::from(aid);
         if index >= self.clocks.len() {
@@ -188,12 +228,14 @@ impl AgingClocks {
         let Some(place) = place_of(&mut self.aids, aid, self.clocks[index].place) else {
             return false;
         };
-        self.clocks[index] = AgingClock {
+        let one = AgingClock {
             addr,
             place,
             at,
             listen,
         };
+        self.soonest = self.soonest.min(one.young_until());
+        self.clocks[index] = one;
         true
     }
 
@@ -202,6 +244,8 @@ impl AgingClocks {
     fn note(&mut self, aid: u16, at: u32) -> bool
         ensures aids { self.new.aids.items ≡ self.old.aids.items }
         ensures clocks { IsTrue result → IsNoted aid at self.old.clocks.items self.new.clocks.items }
+        ensures soonest { AreNoSooner self.old.soonest self.old.clocks.items self.old.aids.items
+            → AreNoSooner self.new.soonest self.new.clocks.items self.old.aids.items }
     {
         let index = usize::from(aid);
         if index >= self.clocks.len() {
@@ -209,6 +253,7 @@ impl AgingClocks {
         }
         if at < self.clocks[index].at {
             self.clocks[index].at = at;
+            self.soonest = self.soonest.min(at);
         }
         true
     }
@@ -227,13 +272,18 @@ impl AgingClocks {
             → AreWaitedFor traffic.now stations.now.table kept.now.entries
             → HaveClocks self.old.clocks.items self.old.aids.items stations.now.table kept.now.entries
             → HaveClocks self.new.clocks.items self.new.aids.items stations.now.table kept.now.entries }
+        ensures soonest { AreNoSooner self.old.soonest self.old.clocks.items self.old.aids.items
+            → AreNoSooner self.new.soonest self.new.clocks.items self.new.aids.items }
     {
         // no other station has the identifier
         identifiers_differ();
         self.drop_gone(traffic);
+        let mut soonest = u32::MAX;
         for place in 0..self.aids.len() {
-            self.look_up(stations, kept, place, clock);
+            let young_until = self.look_up(stations, kept, place, clock);
+            soonest = soonest.min(young_until);
         }
+        self.soonest = soonest;
     }
 
     /// Takes those out of the list for whom no unit is kept.
@@ -245,18 +295,21 @@ impl AgingClocks {
         self.aids.retain(|aid| has_bit(traffic, *aid));
     }
 
-    /// Looks up the one at a place of the list, where a unit for it may be too old at this clock.
-    fn look_up(&mut self, stations: &Stations, kept: &Keep, place: usize, clock: u32)
+    /// Looks up the one at a place of the list, where a unit for it may be too old at this clock. Answers up to which
+    /// clock it isn't due then.
+    fn look_up(&mut self, stations: &Stations, kept: &Keep, place: usize, clock: u32) -> u32
         requires { place < length self.old.aids.items }
         ensures complete { self.new.complete ≡ self.old.complete }
         ensures aids { self.new.aids.items ≡ self.old.aids.items }
         ensures clocks { (most last : ℕ) → AreSound most stations.now.table → CameBy last kept.now.entries
             → HaveClocks self.old.clocks.items self.old.aids.items stations.now.table kept.now.entries
             → HaveClocks self.new.clocks.items self.old.aids.items stations.now.table kept.now.entries }
+        ensures set { (aid : ℕ) → slice_get self.old.aids.items place ≡ Some aid
+            → IsSetAt aid result self.old.clocks.items self.new.clocks.items }
     {
         let index = usize::from(self.aids[place]);
         if index >= self.clocks.len() {
-            return;
+            return u32::MAX;
         }
         let mut one = self.clocks[index];
         one.place = place.min(usize::from(MAX_AID)) as u16;
@@ -264,14 +317,19 @@ impl AgingClocks {
             one.look_up(stations, kept);
         }
         self.clocks[index] = one;
+        one.young_until()
     }
 
     /// The stations of those that are listed for which a unit may be too old at this clock. `NoMemory` where memory ran
     /// out.
     pub(crate) fn due(&self, clock: u32) -> Result<Vec<Oldest>, NoMemory>
+        requires { AreNoSooner self.now.soonest self.now.clocks.items self.now.aids.items }
         ensures { IfOk result (λ due. due.items ≡ due_at clock self.now.clocks.items self.now.aids.items) }
     {
         let mut due = Vec::new(self.alloc);
+        if clock <= self.soonest {
+            return Ok(due);
+        }
         for aid in self.aids.as_slice() {
             if let Some(one) = self.clocks.get(usize::from(*aid)) {
                 if one.is_due(clock) {
@@ -284,6 +342,13 @@ impl AgingClocks {
 }
 
 impl AgingClock {
+    /// A clock up to which no unit for the station is too old.
+    fn young_until(&self) -> u32
+        ensures { IsNoSooner result self.now }
+    {
+        self.at.saturating_add(u32::from(self.listen))
+    }
+
     /// Whether a unit for the station may be too old at this clock.
     fn is_due(&self, clock: u32) -> bool
         ensures { result ≡ is_due clock self.now }
@@ -330,7 +395,8 @@ fn has_bit(traffic: &Bitmap, aid: u16) -> bool
 /// The place of an identifier in a list: this one, or else it goes last. `None` where there is no room.
 fn place_of(aids: &mut Vec<u16>, aid: u16, place: u16) -> Option<u16>
     ensures { IfSome result (λ _. (is_among aids.new.items aid ≡ true)
-        × ((n : ℕ) → is_among aids.old.items n ≡ true → is_among aids.new.items n ≡ true)) }
+        × ((n : ℕ) → is_among aids.old.items n ≡ true → is_among aids.new.items n ≡ true)
+        × ((n : ℕ) → n ≢ aid → is_among aids.new.items n ≡ true → is_among aids.old.items n ≡ true)) }
 {
     if let Some(listed) = aids.get(usize::from(place)) {
         if *listed == aid {

@@ -45,7 +45,7 @@ impl Model for Roster {
     ghost view = { λ r. record { stations = r.stations; kept = r.kept } };
 
     ghost invariant = { λ r. IsRoster r.traffic r.clocks.complete r.clocks.clocks.items r.clocks.aids.items
-        (record { stations = r.stations; kept = r.kept }) };
+        r.clocks.soonest (record { stations = r.stations; kept = r.kept }) };
 }
 
 impl Roster {
@@ -291,7 +291,8 @@ impl Roster {
         let Arriving { whom, aid, unit } = arriving;
         let at = unit.at;
         self.kept.put(whom, unit)?;
-        self.clocks.arrive(&self.traffic, &whom, aid, at);
+        self.clocks
+            .arrive(&self.stations, &self.traffic, &whom, aid, at);
         set_bit(&mut self.traffic, aid);
         Ok(())
     }

@@ -20,10 +20,10 @@ impl Roster {
         requires { CameBy clock self.old.kept.entries }
         ensures { self.new ≡ self.old }
     {
-        if self.kept.is_empty() {
+        if self.kept.is_empty() || self.clocks.none_is_due(clock) {
             return;
         }
-        if self.clocks.are_complete() {
+        if self.clocks.are_complete() && !self.clocks.are_mostly_gone(self.kept.len()) {
             self.clocks
                 .look_up_due(&self.stations, &self.kept, &self.traffic, clock);
             return;

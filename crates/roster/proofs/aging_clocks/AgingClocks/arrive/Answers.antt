@@ -1,6 +1,7 @@
 use Rattle.std.proofs.Common.{◌≡◌, ◌∙◌, ℕ, Bool, true, IsTrue, rules, List, refl, sym, ap, arith}
 use Rattle.powersave.specs.declared.unit.Whom.{Whom}
 use Rattle.roster.specs.Keeping.{aid_for}
+use Rattle.stations.specs.Stations.{Table, listen_with}
 use Rattle.roster.proofs.ClocksKept.{noted, entered}
 use Rattle.roster.proofs.aging_clocks.AgingClocks.arrive.Goals as goal
 use Rattle.roster.proofs.aging_clocks.AgingClocks.arrive.Goals.{then-has, else-has}
@@ -8,8 +9,9 @@ use Rattle.roster.proofs.aging_clocks.AgingClocks.arrive.Goals.{then-has, else-h
 noted-so : {a b : Bool} → a ≡ b → a ≡ true → IsTrue b
 noted-so {a} {b} same is = search rules
 
-pub returns-after-has : goal.returns-after-has
-returns-after-has c most table kept sound aid told before complete =
+pub returns-after-has-clause-clocks : goal.returns-after-has-clause-clocks
+returns-after-has-clause-clocks c most kept sound aid told before complete =
+    let table : Table = c.args.stations.now.table in
     let addr : List ℕ = c.in-One-Some.addr in
     let n : ℕ = c.in-One-Some.aid in
     let all = c.if-not-self.false in
@@ -20,6 +22,14 @@ returns-after-has c most table kept sound aid told before complete =
           rw (w.self-is, w.note-self.ensures.aids, c.in-One-Some.is-0) done
       | else-has w ↦
           let step = w.enter-self.ensures.entered (noted-so w.self2-is complete) in
-          let done = entered c.identifiers_differ.ensures most table kept c.args.traffic.now c.args.self.now.clocks.items w.enter-self.new.self.clocks.items c.args.self.now.aids.items w.enter-self.new.self.aids.items addr c.args.at n _ sound own told (sym c.has.ensures ∙ w.if-has.false) (refl, omega arith, omega arith) step.1 (before all) in
+          let done = entered c.identifiers_differ.ensures most table kept c.args.traffic.now c.args.self.now.clocks.items w.enter-self.new.self.clocks.items c.args.self.now.aids.items w.enter-self.new.self.aids.items addr c.args.at n _ sound own told (sym c.has.ensures ∙ w.if-has.false) (refl, omega arith, omega (arith, w.listen_with.ensures, ap listen_with w.state_of.ensures)) step.1 (before all) in
           rw (w.self-is, c.in-One-Some.is-0) done
+    ]
+
+pub returns-after-has-clause-soonest : goal.returns-after-has-clause-soonest
+returns-after-has-clause-soonest c before complete =
+    let all = c.if-not-self.false in
+    elim c.if-has.branch [
+      | then-has w ↦ rw (w.self-is, w.note-self.ensures.aids) (w.note-self.ensures.soonest (before all))
+      | else-has w ↦ rw w.self-is (w.enter-self.ensures.soonest (before all) (noted-so w.self2-is complete))
     ]

@@ -5,6 +5,7 @@ use Rattle.powersave.specs.declared.unit.Oldest.{Oldest}
 use Rattle.powersave.specs.declared.unit.Whom.TheVariants.{One}
 use Rattle.roster.specs.AgingClocks.{is_due, due_with, due_at}
 use Rattle.roster.specs.declared.aging_clocks.AgingClock.{AgingClock}
+use Rattle.roster.proofs.SoonestClock.{none-due}
 use Rattle.roster.proofs.aging_clocks.AgingClocks.due.Goals as goal
 use Rattle.roster.proofs.aging_clocks.AgingClocks.due.Goals.{in-Some+then-is_due+in_ok-add_due, in-Some+else-is_due, in_default}
 
@@ -48,3 +49,6 @@ loop-aid-preserved c =
           let found : slice_get clocks (get_or aids i 0) ≡ None = none_at c.deref.result.now clocks c.from.result (get_or aids i 0) c.deref.ensures.value n (search rules) in
           step clock i clocks aids c.loop-aid.due.items c.match-get.due.items _ None within found (ap (λ v. v.items) w.due-is ∙ sym (append-nil c.loop-aid.due.items)) c.loop-aid.invariant
     ]
+
+pub returns-then-clock-self : goal.returns-then-clock-self
+returns-then-clock-self c = c.new-due.ensures.items ∙ sym (none-due c.args.clock c.args.self.now.soonest c.args.self.now.clocks.items c.args.self.now.aids.items c.if-clock-self.true c.requires)

@@ -2,17 +2,20 @@ use Rattle.std.proofs.Common.{◌≡◌, ◌∙◌, ◌+◌, ◌∷◌, List, dr
 use Rattle.std.proofs.lemmas.List.{drop_more, drop_all}
 use Rattle.powersave.specs.declared.unit.Oldest.{Oldest}
 use Rattle.roster.proofs.ClocksKept.{AreListing, listing-begins, listing-goes-on, listing-ends}
+use Rattle.roster.proofs.SoonestClock.{soonest-none}
 use Rattle.roster.proofs.aging_clocks.AgingClocks.list.Goals as goal
 
 pub loop-one-init : goal.loop-one-init
 loop-one-init c = record {
   complete = refl;
+  soonest = soonest-none _ _ _ c.clear.ensures.items;
   listing = λ most clock kept sound told once came. listing-begins clock c.args.stations.now.table c.args.oldest.now _ _ kept told once came;
 }
 
 pub loop-one-preserved : goal.loop-one-preserved
 loop-one-preserved c = record {
   complete = c.list_one.ensures.complete ∙ c.loop-one.invariant.complete;
+  soonest = c.list_one.ensures.soonest c.loop-one.invariant.soonest (search rules);
   listing =
       λ most clock kept sound told once came.
       let t = c.args.stations.now.table in
@@ -23,8 +26,11 @@ loop-one-preserved c = record {
       (c.list_one.ensures.listed (search rules));
 }
 
-pub returns : goal.returns
-returns c most clock kept sound told once came complete =
+pub returns-clause-soonest : goal.returns-clause-soonest
+returns-clause-soonest c complete = c.loop-one.invariant.soonest
+
+pub returns-clause-clocks : goal.returns-clause-clocks
+returns-clause-clocks c most clock kept sound told once came complete =
     let t = c.args.stations.now.table in
     let rest = drop_all c.loop-one.one-index c.args.oldest.now c.loop-one-test.false in
     listing-ends t c.loop-one.self.clocks.items c.loop-one.self.aids.items kept

@@ -3,6 +3,7 @@ use Rattle.std.specs.Option.{IsSomeAnd}
 use Rattle.std.proofs.lemmas.List.{set-get_or}
 use Rattle.std.proofs.lemmas.Option.{slice_get-get_or}
 use Rattle.roster.specs.declared.aging_clocks.AgingClock.{AgingClock}
+use Rattle.roster.proofs.SoonestClock.{soonest-set}
 use Rattle.roster.proofs.aging_clocks.AgingClocks.note.Goals as goal
 
 -- where the clock is no later, it stays
@@ -18,3 +19,8 @@ returns-else-at-index-clause-clocks c is =
     same c.args.self.now.clocks.items c.args.aid c.args.at c.index.result.now
     (omega (arith, c.from-index.ensures, c.if-index-len.false, c.len.ensures, c.args.self.now.clocks.ok))
     (c.index.ensures ∙ ap (λ (n : ℕ). get_or c.args.self.now.clocks.items n c.index.result.now) c.from-index.ensures) c.if-at-index.false
+
+pub returns-then-at-index-clause-soonest : goal.returns-then-at-index-clause-soonest
+returns-then-at-index-clause-soonest c h =
+    soonest-set c.args.self.now.clocks.items c.args.self.now.aids.items c.args.self.now.aids.items c.args.self.now.soonest c.min-self.result c.from-index.result _
+    (omega (arith, c.if-index-len.false, c.len.ensures)) (omega (arith, c.min-self.ensures)) (omega (arith, c.min-self.ensures)) (λ m other among. among) h

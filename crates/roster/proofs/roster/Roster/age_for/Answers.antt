@@ -20,6 +20,7 @@ invariant_of-self c =
       sound = c.self.invariant.sound;
       traffic = c.follow.ensures c.self.invariant.sound es after (λ other apart. c.parts_stay.ensures.others_older whom other limit es apart) none c.self.invariant.traffic;
       aging = λ all. each-filtered (λ e. HasClock c.self.inside.clocks.clocks.items c.self.inside.clocks.aids.items c.self.inside.stations.table e.0 e.1.at) (λ entry. not (is_older whom limit entry)) es (c.self.invariant.aging all);
+      young = c.self.invariant.young;
     })
 
 pub invariant_of-self-else-count_for-eq0 : goal.invariant_of-self-else-count_for-eq0
@@ -36,4 +37,5 @@ invariant_of-self-else-count_for-eq0 c =
           still-shown whom c.self.inside.stations.table es after c.self.inside.traffic (λ other apart. c.parts_stay.ensures.others_older whom other limit es apart)
           (some-before limit (units_for whom es) (units_for whom after) (c.parts_stay.ensures.older whom limit es)) some c.self.invariant.traffic;
       aging = λ all. each-filtered (λ e. HasClock c.self.inside.clocks.clocks.items c.self.inside.clocks.aids.items c.self.inside.stations.table e.0 e.1.at) (λ entry. not (is_older whom limit entry)) es (c.self.invariant.aging all);
+      young = c.self.invariant.young;
     })

@@ -16,6 +16,7 @@ invariant_of-self c =
           c.follow.ensures c.self.invariant.sound es (without_all c.args.whom.now es) (λ other apart. c.parts_stay.ensures.others_dropped c.args.whom.now other es apart)
           (sym (ap (λ us. nat_lt 0 (length us)) (c.parts_stay.ensures.dropped c.args.whom.now es))) c.self.invariant.traffic;
       aging = λ all. each-filtered (λ e. HasClock c.self.inside.clocks.clocks.items c.self.inside.clocks.aids.items c.self.inside.stations.table e.0 e.1.at) (λ entry. not (is_for c.args.whom.now entry)) es (c.self.invariant.aging all);
+      young = c.self.invariant.young;
     })
 
 pub invariant_of-self-else-len-before : goal.invariant_of-self-else-len-before
@@ -32,4 +33,5 @@ invariant_of-self-else-len-before c =
       sound = c.self.invariant.sound;
       traffic = c.self.invariant.traffic;
       aging = c.self.invariant.aging;
+      young = c.self.invariant.young;
     })

@@ -12,6 +12,9 @@ told : {V E : Type 0} (items : V → List Oldest) (r : Result V E) (os : List Ol
 told items (Ok v) os P is known = subst P (sym is) known
 told items (Err e) os P is known = tt
 
+pub due-requires : goal.due-requires
+due-requires c = c.self.invariant.young (sym c.are_complete.ensures ∙ c.if-are_complete.true)
+
 pub returns-then-not-is_empty : goal.returns-then-not-is_empty
 returns-then-not-is_empty c =
     let inside = c.self.inside in

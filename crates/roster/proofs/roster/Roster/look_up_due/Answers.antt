@@ -14,6 +14,7 @@ invariant_of-self c =
       sound = h.sound;
       traffic = h.traffic;
       aging = λ all. c.look_up_due.ensures.clocks c.self.inside.stations.most c.args.clock h.sound came h.traffic (h.aging (sym c.look_up_due.ensures.complete ∙ all));
+      young = λ all. c.look_up_due.ensures.soonest (h.young (sym c.look_up_due.ensures.complete ∙ all));
     }
 
 pub invariant_of-self-in-Ok : goal.invariant_of-self-in-Ok
@@ -27,5 +28,6 @@ invariant_of-self-in-Ok c =
       sound = h.sound;
       traffic = h.traffic;
       aging =
-          λ all. c.list.ensures c.self.inside.stations.most c.args.clock es h.sound (subst (λ (os : List Oldest). AreOldest os es) read c.in-Ok.ensures.each) (subst AreToldOnce read c.in-Ok.ensures.once) came all;
+          λ all. c.list.ensures.clocks c.self.inside.stations.most c.args.clock es h.sound (subst (λ (os : List Oldest). AreOldest os es) read c.in-Ok.ensures.each) (subst AreToldOnce read c.in-Ok.ensures.once) came all;
+      young = c.list.ensures.soonest;
     }

@@ -46,6 +46,7 @@ invariant_of-self-2 c =
           told c.set_bit.ensures c.self.invariant.traffic;
       aging =
           λ all.
-          let both = c.arrive.ensures c.self.inside.stations.most table es c.self.invariant.sound told c.self.invariant.traffic c.self.invariant.aging all in
+          let both = c.arrive.ensures.clocks c.self.inside.stations.most es c.self.invariant.sound told c.self.invariant.traffic c.self.invariant.aging all in
           each-push (λ e. HasClock c.arrive.new.self.clocks.items c.arrive.new.self.aids.items table e.0 e.1.at) (whom, unit) es both.0 both.1;
+      young = c.arrive.ensures.soonest c.self.invariant.young;
     })

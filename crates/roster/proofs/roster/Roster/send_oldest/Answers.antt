@@ -28,6 +28,7 @@ invariant_of-self-in_default c = record {
   sound = c.self.invariant.sound;
   traffic = subst (AreWaitedFor c.self.inside.traffic c.self.inside.stations.table) (sym (c.in_ok-sent.ensures.none c.in_default.is)) c.self.invariant.traffic;
   aging = λ all. subst (HaveClocks c.self.inside.clocks.clocks.items c.self.inside.clocks.aids.items c.self.inside.stations.table) (sym (c.in_ok-sent.ensures.none c.in_default.is)) (c.self.invariant.aging all);
+  young = c.self.invariant.young;
 }
 
 pub invariant_of-self-2 : goal.invariant_of-self-2
@@ -42,4 +43,5 @@ invariant_of-self-2 c =
           c.follow.ensures c.self.invariant.sound es (without_oldest whom es) (λ other apart. c.parts_stay.ensures.others_oldest whom other es apart)
           (ap told first ∙ left_of c.args.bss c.args.seq (units_for whom es) ∙ sym (ap (λ us. nat_lt 0 (length us)) (c.parts_stay.ensures.oldest whom es))) c.self.invariant.traffic;
       aging = λ all. each-without_first (λ e. HasClock c.self.inside.clocks.clocks.items c.self.inside.clocks.aids.items c.self.inside.stations.table e.0 e.1.at) (is_for whom) es (c.self.invariant.aging all);
+      young = c.self.invariant.young;
     })
