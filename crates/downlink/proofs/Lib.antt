@@ -10,6 +10,7 @@ pub mod Asleep
 pub mod ReceiverRows
 pub mod Bounds
 pub mod Waits
+pub mod Bits
 pub mod Turns
 pub mod Parts
 pub mod NetworkSteps

@@ -7,10 +7,34 @@ use Rattle.downlink.specs.declared.answer.Answer.{Answer}
 use Rattle.downlink.specs.Receiver.{Queue}
 use Rattle.downlink.specs.Calls.{Call, Turn, step, answer, after, answers}
 use Rattle.downlink.specs.Parts.{put_at, after_one, answer_of_one, own_answers}
-use Rattle.downlink.specs.Networks.{Network, TurnOfOne, turn_of, goes_to, from_after, network_step, network_answer, receiver_answer}
+use Rattle.downlink.specs.Networks.{Network, To, TurnOfOne, turn_of, goes_to, from_after, network_step, network_answer, receiver_answer}
 use Rattle.downlink.specs.Networks.{network_answers, calls_to}
 use Rattle.downlink.specs.NetworkLaws.{IsReceiverAlone}
 use Rattle.downlink.proofs.Parts.{own_step, own_answers-append}
+
+-- ---- a call of a receiver by its place
+
+pub named_step : (n : Network) (receiver : ℕ) (call : Call) (q q' : Queue) → receiver < length n.receivers
+    → q ≡ get_or n.receivers receiver q → q' ≡ step q call
+    → record { receivers = set n.receivers receiver q'; from = n.from } ≡ network_step n (To receiver call)
+named_step n receiver call q q' within read s =
+    let there : slice_get n.receivers receiver ≡ Some q = slice_get_read n.receivers (length n.receivers) receiver q refl within read in
+    let whole : List Queue → Network = λ receivers. record { receivers = receivers; from = n.from } in
+    ap whole (ap (set n.receivers receiver) s ∙ ap (put_at (λ x. step x call) receiver n.receivers) (sym there))
+
+same_told : (receiver : ℕ) (told : Option Answer)
+    → option_map (λ a. receiver_answer (receiver, a)) told ≡ option_map receiver_answer (option_map (λ a. (receiver, a)) told)
+same_told receiver None = refl
+same_told receiver (Some told) = refl
+
+pub named_answer : (n : Network) (receiver : ℕ) (call : Call) (q : Queue) (told : Option Answer) → receiver < length n.receivers
+    → q ≡ get_or n.receivers receiver q → told ≡ answer q call
+    → option_map (λ a. receiver_answer (receiver, a)) told ≡ option_map receiver_answer (network_answer n (To receiver call))
+named_answer n receiver call q told within read e =
+    let there : slice_get n.receivers receiver ≡ Some q = slice_get_read n.receivers (length n.receivers) receiver q refl within read in
+    same_told receiver told
+    ∙ ap (λ o. option_map receiver_answer (option_map (λ a. (receiver, a)) o)) e
+    ∙ ap (λ found. option_map receiver_answer (option_map (λ a. (receiver, a)) (option_and_then (λ x. answer x call) found))) (sym there)
 
 -- ---- a turn
 
@@ -37,12 +61,9 @@ turned n receiver now q q' next e within r s a =
     ap (λ (x : Queue). let it : Network = record { receivers = set n.receivers receiver x; from = from_after n.from (option_map (λ y. (receiver, y)) next) } in it) s
     ∙ ap (λ (x : Option Answer). let it : Network = record { receivers = set n.receivers receiver (step q (Turn now)); from = from_after n.from (option_map (λ y. (receiver, y)) x) } in it) a in
     let second : mid ≡ after_turn_of now n (Some receiver) =
-    ap (λ (x : Option Queue). let it : Network = record { receivers = put_at (λ y. step y (Turn now)) receiver n.receivers x; from = from_after n.from (said x) } in it) (sym there) in
-    let what : (told : Option Answer) → option_map (λ x. receiver_answer (receiver, x)) told ≡ option_map receiver_answer (option_map (λ x. (receiver, x)) told) =
-    λ told. elim told as (λ o. option_map (λ x. receiver_answer (receiver, x)) o ≡ option_map receiver_answer (option_map (λ x. (receiver, x)) o))
-    [ None ↦ refl | Some x ↦ refl ] in (
+    ap (λ (x : Option Queue). let it : Network = record { receivers = put_at (λ y. step y (Turn now)) receiver n.receivers x; from = from_after n.from (said x) } in it) (sym there) in (
       first ∙ second ∙ ap (after_turn_of now n) e,
-      what next ∙ ap (λ o. option_map receiver_answer (option_map (λ x. (receiver, x)) o)) a
+      same_told receiver next ∙ ap (λ o. option_map receiver_answer (option_map (λ x. (receiver, x)) o)) a
           ∙ ap (λ o. option_map receiver_answer (said o)) (sym there)
           ∙ ap (λ t. option_map receiver_answer (answer_of_one answer (option_map (λ x. (x, Turn now)) t) n.receivers)) e,
     )

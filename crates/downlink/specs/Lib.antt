@@ -3,6 +3,7 @@ pub mod Places
 pub mod Calls
 pub mod Laws
 pub mod Parts
+pub mod Ready
 pub mod Networks
 pub mod NetworkLaws
 pub mod Radios

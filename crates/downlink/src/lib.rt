@@ -32,6 +32,7 @@ mod network_laws;
 mod network_queue;
 mod radio_laws;
 mod radio_queue;
+mod ready;
 mod receiver;
 mod station_change;
 mod station_mode;

@@ -3,10 +3,11 @@
 ghost use Rattle.std.specs.Prelude.{◌≡◌, ◌↔◌, ◌+◌, ◌^◌, ◌<◌, ◌≤◌, length, IfSome, IfOk, OnOk, OnErr, IsErrOf, IsTrue};
 ghost use Rattle.std.specs.Option.{option_map};
 ghost use Rattle.downlink.specs.Calls.{Comes, Told, Returns, call_of};
-ghost use Rattle.downlink.specs.Networks.{new_network, first_from, from_after, turn_of, has_next};
+ghost use Rattle.downlink.specs.Networks.{new_network, from_after, turn_of, has_next};
 ghost use Rattle.downlink.specs.Networks.{To, TurnOfOne, network_step, network_answer, receiver_answer};
 
 use crate::answer::Answer;
+use crate::ready::ReadySet;
 use crate::receiver::ReceiverQueue;
 use crate::station_change::StationChange;
 use std::alloc::{AllocError, AllocFailed, Global};
@@ -47,14 +48,19 @@ pub struct ReceiverAnswer {
 pub struct NetworkQueue {
     receivers: Vec<ReceiverQueue>,
     from: usize,
+    // told of each receiver that a call may have changed
+    ready: ReadySet,
 }
 
 impl Model for NetworkQueue {
     ghost use Rattle.downlink.specs.Networks.{Network};
+    ghost use Rattle.downlink.specs.Ready.{IsReady};
 
     ghost Value = { Network };
 
     ghost view = { λ n. record { receivers = n.receivers.items; from = n.from } };
+
+    ghost invariant = { λ n. IsReady n.ready.words.items n.receivers.items };
 }
 
 impl NetworkQueue {
@@ -63,11 +69,16 @@ impl NetworkQueue {
     pub fn new(alloc: Global, mosts: &[usize]) -> Result<NetworkQueue, AllocError>
         ensures { IfOk result (λ network. network ≡ new_network mosts.now) }
     {
+        let ready = ReadySet::new(alloc, mosts.len())?;
         let mut receivers = Vec::with_capacity(alloc, mosts.len())?;
         for most in mosts {
             receivers.push(ReceiverQueue::new(alloc, *most))?;
         }
-        Ok(NetworkQueue { receivers, from: 0 })
+        Ok(NetworkQueue {
+            receivers,
+            from: 0,
+            ready,
+        })
     }
 
     /// How many receivers there are.
@@ -81,7 +92,7 @@ impl NetworkQueue {
     pub fn has_next(&self) -> bool
         ensures { result ≡ has_next self.now }
     {
-        self.next_receiver().is_some()
+        self.ready.first_from(0).is_some()
     }
 
     /// A frame comes for a receiver, and waits behind the others of that. It `is_unit` if it is an MSDU. The last time
@@ -107,6 +118,7 @@ impl NetworkQueue {
         }
         let queue = &mut self.receivers[receiver];
         let dropped = queue.comes(ticket, is_unit, until, now)?;
+        self.ready.set(receiver, queue.may_go());
         Ok(told_of(receiver, dropped))
     }
 
@@ -123,6 +135,7 @@ impl NetworkQueue {
         };
         let queue = &mut self.receivers[receiver];
         let next = queue.turn(now)?;
+        self.ready.set(receiver, queue.may_go());
         self.from = from_after(self.from, receiver, next);
         Ok(told_of(receiver, next))
     }
@@ -144,6 +157,7 @@ impl NetworkQueue {
         }
         let queue = &mut self.receivers[receiver];
         let answer = queue.told(ticket, is_acknowledged);
+        self.ready.set(receiver, queue.may_go());
         told_of(receiver, answer)
     }
 
@@ -158,6 +172,7 @@ impl NetworkQueue {
         }
         let queue = &mut self.receivers[receiver];
         let answer = queue.returns();
+        self.ready.set(receiver, queue.may_go());
         told_of(receiver, answer)
     }
 
@@ -171,6 +186,7 @@ impl NetworkQueue {
         }
         let queue = &mut self.receivers[receiver];
         queue.change(change);
+        self.ready.set(receiver, queue.may_go());
         true
     }
 
@@ -179,24 +195,11 @@ impl NetworkQueue {
         ensures turn { result ≡ turn_of self.now }
         ensures there { IfSome result (λ receiver. receiver < length self.now.receivers) }
     {
-        first_from(self.receivers.as_slice(), self.from).or(first_from(
-            self.receivers.as_slice(),
-            0,
-        ))
-    }
-}
-
-/// From a place on the first of these receivers of which a frame may go.
-fn first_from(receivers: &[ReceiverQueue], from: usize) -> Option<usize>
-    ensures first { result ≡ first_from from receivers.now }
-    ensures there { IfSome result (λ place. place < length receivers.now) }
-{
-    for place in from..receivers.len() {
-        if receivers[place].may_go() {
-            return Some(place);
+        match self.ready.first_from(self.from) {
+            Some(receiver) => Some(receiver),
+            None => self.ready.first_from(0),
         }
     }
-    None
 }
 
 /// From where on the next turn is looked for, after this became of a frame of a receiver: behind it, if the frame went.
