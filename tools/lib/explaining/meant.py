@@ -229,7 +229,7 @@ def of_destination(looked: Looked, frame: Frame, relay: Relay) -> Reason | None:
                       f"over the wire alone, and {address_text(others[0])} doesn't get it", THIRD,
                       relay.advice())
     if station is not None and station.aid is not None:
-        return None if relay.is_on else Reason(
+        return None if relay.is_on or is_reflected(looked) else Reason(
             f"{there}, a station of {looked.section.name}, which doesn't relay (`relay = false`): the unit goes over "
             "the wire alone", THIRD, relay.advice())
     home = home_of(looked.step, looked.bssid, to)
@@ -238,6 +238,12 @@ def of_destination(looked: Looked, frame: Frame, relay: Relay) -> Reason | None:
         return near_station(looked, frame)
     return Reason(f"{there}, a station of {looked.step.before[home].name}, and networks are kept apart: the unit goes "
                   f"over the wire of {looked.section.name}", THIRD, "what joins the two wires would bring it there")
+
+
+def is_reflected(looked: Looked) -> bool:
+    """Whether what the network puts on its wire for a line comes back over that wire."""
+    return any(sent.is_wired and looked.past.reflected.comes_back(looked.bssid, sent.octets)
+               for sent in looked.step.sent)
 
 
 def near_station(looked: Looked, frame: Frame) -> Reason | None:

@@ -4,6 +4,7 @@ from collections.abc import Callable, Iterable
 
 from explaining.line_by_line import Step
 from explaining.reason import Lack
+from explaining.reflected import Reflected
 from explaining.refused import NOTICES, refusal_of
 from frames import (ASSOCIATION_REQUEST, AUTHENTICATION, DATA, DEAUTHENTICATION, DISASSOCIATION, MANAGEMENT, NULL,
                     REASSOCIATION_REQUEST, Frame, address_text)
@@ -53,6 +54,7 @@ class Past:
                        for number, frame in frames if frame.is_management(ASSOCIATION_REQUEST)}
         self.hosts = {line.octets[6:12] for line in lines if line.kind == "W"}
         self.wired = {line.bssid for line in lines if line.kind == "W"}
+        self.reflected = Reflected(lines)
         self.told: dict[tuple[bytes, bytes], str] = {}
         self.answered: dict[tuple[bytes, bytes], str] = {}
         self.refusals: dict[tuple[bytes, bytes], tuple[int, str]] = {}
@@ -137,6 +139,9 @@ class Past:
     def note(self, step: Step) -> None:
         """Looks at what a line brought its sender, and whose units left."""
         self.note_modes(step)
+        for sent in step.sent:
+            if sent.is_wired:
+                self.reflected.note(sent.octets)
         if step.line.kind != "A" or len(step.line.octets) < LEAST_LENGTH:
             return
         station = Frame(step.line.octets).transmitter

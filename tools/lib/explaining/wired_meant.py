@@ -18,6 +18,8 @@ def of_source(looked: Looked, to: bytes, source: bytes) -> Reason | None:
         what = f"the network {owner.name} itself" if owner else "its destination too"
         return Reason(f"its source is {address_text(source)}, {what}: a frame comes from a host on the wire", (6, 12),
                       "on a wire the destination comes first, then the source")
+    if source in looked.associated() and looked.past.reflected.went_out(looked.step.line.octets):
+        return None
     if source in looked.associated():
         return Reason(f"its source {address_text(source)} is a station of {looked.section.name}, whose frames come "
                       "by the air",
