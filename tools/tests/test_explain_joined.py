@@ -2,13 +2,19 @@
 import unittest
 
 from common import PROGRAM, ToolTest, needs_program, tool
-from explaining.joined import second_frame
+from explaining.lines_in_one import cuts
 from mistakes import CONFIG
+from texts import Line
 
 PROBE = "4000 0000 ffffffffffff 02aa00000001 ffffffffffff 0000 0000 010402040b16"
 AUTHENTICATION = "b000 0000 020000000001 02aa00000001 020000000001 0000 0000 0100 0000"
 ASSOCIATION = "0000 0000 020000000001 02aa00000001 020000000001 0000 0100 0a00 00036c6162 010402040b16"
 BSSID = bytes.fromhex("020000000001")
+
+
+def within(octets):
+    """Where further frames begin in a line `A` of these octets, in digits."""
+    return cuts(Line(1, "A", None, octets), [BSSID])
 
 
 class Joined(ToolTest):
@@ -23,6 +29,30 @@ class Joined(ToolTest):
         self.assertRegex(said, r"(?m)^standard input:\d+:\d+: two frames of one sender stand in this line, and the second "
                                r"is read as a part of the first; so in 1 more lines$")
         self.assertIn("  write `A 00000000020000000001", said)
+
+    def explained(self, *lines):
+        """What is said of a trace with these lines."""
+        status, said, _ = tool("explain", "--program", PROGRAM, program_input=f"{CONFIG}---\n" + "\n".join(lines) + "\n")
+        self.assertEqual(status, 0, said)
+        return said
+
+    @needs_program
+    def test_lines_whose_words_are_read_as_digits_are_told_apart(self):
+        """Two words make an octet, so that no fault is told."""
+        null = "4811 0000 020000000001 02aa00000001 020000000001 0000"
+        stranger = AUTHENTICATION.replace("02aa00000001", "02aa00000002")
+        for first in (f"A {AUTHENTICATION} A {ASSOCIATION} A {null}", f"A {AUTHENTICATION}A{ASSOCIATION}A{null}",
+                      f"W 02:00:00:00:00:01 02aa00000001 02bb00000001 0800 01 A {ASSOCIATION} A {null}"):
+            said = self.explained(first, "T")
+            self.assertRegex(said, r"(?m)^standard input:\d+:\d+: three lines stand in this one, and all is read as one "
+                                   r"frame")
+            self.assertIn(f"  write `A {ASSOCIATION.replace(' ', '')}`, `A {null.replace(' ', '')}` in lines of their "
+                          "own", said)
+        said = self.explained(f"A {AUTHENTICATION} A {stranger} A {PROBE}", "T")
+        self.assertIn(f"write `A {stranger.replace(' ', '')}`, `A {PROBE.replace(' ', '')}` in lines", said)
+        said = self.explained(f"A {AUTHENTICATION} A {null} A {null} A {null} A {PROBE}", "T")
+        self.assertIn("five lines stand in this one", said)
+        self.assertEqual(said.count(f"`A {null.replace(' ', '')}`"), 3)
 
     @needs_program
     def test_a_tag_on_a_wire_is_named(self):
@@ -43,13 +73,21 @@ class Joined(ToolTest):
         """A frame alone has none, nor has one that carries frames of others or its own sender's address."""
         frames = [bytes.fromhex(text.replace(" ", "")) for text in (PROBE, AUTHENTICATION, ASSOCIATION)]
         for one in frames:
-            self.assertIsNone(second_frame(one, [BSSID]))
+            self.assertEqual(within(one), [])
             for other in frames:
-                self.assertEqual(second_frame(one + other, [BSSID]), len(one))
+                self.assertEqual(within(one + other), [2 * len(one)])
             stranger = frames[1].replace(bytes.fromhex("02aa00000001"), bytes.fromhex("02aa00000002"))
-            self.assertIsNone(second_frame(one + stranger, [BSSID]))
+            self.assertEqual(within(one + stranger), [])
             elsewhere = frames[1].replace(BSSID, bytes.fromhex("020000000009"))
-            self.assertIsNone(second_frame(one + elsewhere, [BSSID]))
+            self.assertEqual(within(one + elsewhere), [])
+
+    def test_frames_on_a_wire_that_hold_frames_of_the_air_are_those_of_one_line(self):
+        """A tunnel carries frames from octet to octet, and none with a word before it."""
+        header = bytes.fromhex("02aa0000000102bb000000010800")
+        frame = bytes.fromhex(AUTHENTICATION.replace(" ", ""))
+        self.assertEqual(cuts(Line(1, "W", BSSID, header + frame + frame), [BSSID]), [])
+        self.assertEqual(cuts(Line(1, "W", BSSID, b""), [BSSID]), [])
+
 
 
 if __name__ == "__main__":

@@ -1,13 +1,8 @@
 """Lines of a trace that hold more than one, or stand as a table's: two frames in a line, values that are separated by
 commas, and a number of beacon intervals at once."""
 import re
-from collections.abc import Iterable
 
-from explaining.likeness import BEGINNINGS
 from explaining.source import Finding, Place, Source, in_full, quoted
-from explaining.spans import place_of_octets
-from frames import BROADCAST
-from texts import Line
 
 SEPARATORS = (",", ";", "\t", "|")
 HEXADECIMAL = re.compile(r"(?:0x)?(?:[0-9A-Fa-f]{2}[ :]?){10,}")
@@ -15,7 +10,7 @@ ADDRESS = re.compile(r"[0-9A-Fa-f]{2}(?::[0-9A-Fa-f]{2}){5}")
 SEVERAL = re.compile(r"T ?[*x\u00d7=:+]? ?(\d+)|(\d+) ?[*x\u00d7]? ?T")
 WORD_WITHIN = re.compile(r"(?<=[0-9A-Fa-f])[ ;,|/]*[ ;,|/]([AW] +[0-9A-Fa-f]|T *$)")
 REMARK = re.compile(r"(?://|--|/\*|[;!%]) *(?=.*[^0-9A-Fa-f\s.:;,|/!%*-])")
-LEAST_FRAME, LEAST_FIELDS = 16, 2
+LEAST_FIELDS = 2
 
 
 def of_table(source: Source, number: int, line: str) -> Finding | None:
@@ -107,26 +102,3 @@ def of_remark(source: Source, number: int, line: str, at: int) -> Finding | None
         return None
     return Finding("a remark has a line of its own, which begins with `#`, and here one stands behind a frame",
                    source.place(number, at + 1, len(line) - at), "move it to a line before this one")
-
-
-def second_frame(octets: bytes, bssids: Iterable[bytes]) -> int | None:
-    """Where another frame of the same sender to one of these networks, or to all, begins within a frame."""
-    receivers = {*bssids, BROADCAST}
-    sender = octets[10:16]
-    return next((at for at in range(LEAST_FRAME, len(octets) - LEAST_FRAME + 1)
-                 if octets[at:at + 2] in BEGINNINGS and octets[at + 10:at + 16] == sender
-                 and octets[at + 4:at + 10] in receivers), None)
-
-
-def of_joined_frames(lines: Iterable[Line], bssids: Iterable[bytes], traces: list[Source]) -> list[Finding]:
-    """Lines `A` that hold two frames, the first few of them."""
-    bssids = list(bssids)
-    found = [(line, at) for line in lines if line.kind == "A" and (at := second_frame(line.octets, bssids)) is not None]
-    if not found:
-        return []
-    line, at = found[0]
-    place = place_of_octets(traces[0], line, (at, len(line.octets))) if len(traces) == 1 else None
-    others = f"; so in {len(found) - 1} more lines" if len(found) > 1 else ""
-    return [Finding(f"two frames of one sender stand in this line, and the second is read as a part of the "
-                    f"first{others}",
-                    place, f"write {in_full('A ' + line.octets[at:].hex())} in the next line")]

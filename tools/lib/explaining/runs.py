@@ -8,10 +8,10 @@ from explaining import odd_config
 from explaining.check_sequences import FCS_LEN, LEAST_LEN, ends_with_fcs, octets_too_many
 from explaining.configuration import Keys, networks_of
 from explaining.hearing import Hearing
-from explaining.joined import of_joined_frames
 from explaining.intervals import of_each_network
 from explaining.kept import GroupUnits, of_kept
 from explaining.line_by_line import steps
+from explaining.lines_in_one import of_joined_frames
 from explaining.nothing import line_in
 from explaining.outcomes import Outcomes, What, is_told_in_sum
 from explaining.reason import Reason
