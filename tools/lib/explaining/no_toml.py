@@ -9,6 +9,7 @@ from explaining.in_remarks import header_in_remark, of_header
 from explaining.keys import HOSTAPD, NETWORK_KEYS, SAMPLES
 from explaining.no_key import FOR_YAML, REMARK, is_yaml, of_key, remark_mark, remark_of
 from explaining.no_value import QUOTES, in_form, of_value
+from explaining.of_access_point import of_access_point
 from explaining.other_programs import of_other_program, without_keys
 from explaining.pasted import entity, foreign
 from explaining.same_again import with_others
@@ -98,7 +99,8 @@ def of_line(source: Source, fault: NoToml, wants_trace: bool) -> Finding:
     """Why the text stops being TOML in this line."""
     place = source.at(fault.begin, fault.end)
     line = source.line(place.line)
-    finding = foreign(source, place.line) or of_entity(place, line) or of_other_program(source, place.line) or \
+    finding = foreign(source, place.line) or of_entity(place, line) or \
+        of_access_point(source, place.line, False) or of_other_program(source, place.line) or \
         of_trace(source, place, line, wants_trace) or of_joined(source, place, line, wants_trace) or \
         of_template(source, place.line)
     if finding:

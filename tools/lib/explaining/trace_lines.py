@@ -9,6 +9,7 @@ from explaining.digits_meant import is_like, octets_from, of_digits, with_return
 from explaining.joined import of_fields, of_several_intervals, of_table, of_two_words
 from explaining.no_key import INCLUDE, REMARK, remark_of
 from explaining.notations import behind_words, over_lines, shown_frame, whole_frame
+from explaining.of_access_point import of_access_point
 from explaining.other_programs import of_other_program, without_words
 from explaining.pasted import copied_from_page, foreign, foreign_to_trace, unfilled
 from explaining.report_lines import kind_of, of_report
@@ -44,8 +45,8 @@ def explain(source: Source, fault: Fault, names: dict[str, str], is_live: bool =
     line = (line.removesuffix("\r") if number < len(source.lines) else line).rstrip(" ")
     begin = octets_from(line) if fault.code == "L2" else 0
     shown = shown_frame(source, number, begin, names) if fault.code in ("L1", "L2") else None
-    strange = foreign(source, number) or shown or of_other_program(source, number) or \
-        (foreign_to_trace(source, number, names) if fault.code == "L1" else None)
+    strange = foreign(source, number) or of_access_point(source, number, True) or shown or \
+        of_other_program(source, number) or (foreign_to_trace(source, number, names) if fault.code == "L1" else None)
     if strange:
         return [strange]
     odd = odd_blank(source, number)
