@@ -41,7 +41,7 @@ impl<N: ApName> Model for Seat<N> {
 }
 
 impl<N: ApName> Seat<N> {
-    /// The seat of a network that took no event, of which was told that its frames may wait.
+    /// The seat of a network that took no event, with what was told of it: that its frames may wait.
     pub(crate) fn new(bss: Bss, pass: NetPass, told: Told) -> Seat<N>
         requires seated { IsSeated N.config N.queue bss pass }
         requires fresh { bss.history ≡ [] }

@@ -4,8 +4,8 @@
 //! such that both come to the same:
 //!
 //! 1. The receiver of a network whose turn it is isn't compared: the model says whose it is, and all others are held.
-//! 2. What became of a frame is told before the next one goes, so the bridge holds no receiver. What a frame took is
-//!    told by `used`: its first try as it goes, and once it is told of, what all its tries took beyond that.
+//! 2. What became of a frame is told before the next one goes, so the bridge holds no receiver. As a frame goes,
+//!    `used` tells of its first try. Once it is told of, `used` tells what all its tries took beyond that.
 //! 3. Time nearly stands still, or goes on by half a second: units are in time, or late in any case (`lateness`).
 //! 4. A unit comes for a station that dozes only as an answer to a poll.
 //! 5. What became of a unit is told before its station's doze is settled, and before it wakes or leaves. Units go back
