@@ -17,6 +17,7 @@ from explaining.outcomes import Outcomes, What, is_told_in_sum
 from explaining.reason import Reason
 from explaining.repairs import TWO_HIGH_BITS
 from explaining.repeated import repeated
+from explaining.roaming import of_roaming
 from explaining.several import of_intervals, of_order
 from explaining.source import Finding, Source, in_order
 from explaining.spans import also_in, place_of, place_of_octets
@@ -73,7 +74,8 @@ def odd(config: Source, traces: list[Source], output: str, has_separator: bool,
         if outcomes:
             findings += of_each_network(traces[0], lines, outcomes.idle, [hearing.section for hearing in hearings])
         findings += of_order(traces, by_trace, [hearing.section.bssid for hearing in hearings])
-        findings = [*odd_config.odd(config, asked), *findings, *of_roaming(hearings)]
+        findings = [*odd_config.odd(config, asked), *findings,
+                    *of_roaming(hearings, traces, lines, outcomes.past if outcomes else None)]
         return in_order([*findings, *of_no_interval(lines, hearings, not findings)], config)
 
 
@@ -351,15 +353,3 @@ def of_reasons(hearing: Hearing, homes: dict[int, Source]) -> list[Finding]:
         rest = sum(map(len, list(groups.values())[MOST_NAMED:]))
         findings += [Finding(f"{hearing.name}: events unread ({kind}) for other reasons: {rest}")] * (rest > 0)
     return findings
-
-
-def of_roaming(hearings: list[Hearing]) -> list[Finding]:
-    """Stations that are associated in several networks."""
-    places: dict[bytes, list[str]] = {}
-    for hearing in hearings:
-        for station in hearing.section.stations:
-            if station.aid is not None:
-                places.setdefault(station.address, []).append(hearing.section.name)
-    return [Finding(f"the station {address_text(address)} is associated in several networks: {', '.join(names)}", None,
-                    f"no network knows of another: it left none of them ({called.document('README.md', 'examples')})")
-            for address, names in places.items() if len(names) > 1][:MOST_NAMED]
