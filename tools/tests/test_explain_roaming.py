@@ -13,7 +13,7 @@ class Roaming(ToolTest):
     @needs_program
     def test_where_it_went_over_is_told(self):
         said = people.People.explained(self, [*JOINED, auth(STATION, CELLAR), GONE_OVER, wire()])
-        for text in ("my.trace:6:66: the station 02:aa:00:00:00:01 is associated in several networks: attic, cellar",
+        for text in ("my.trace:6:67: the station 02:aa:00:00:00:01 is associated in several networks: attic, cellar",
                      "didn't leave attic, which it joined in line 2; Current AP Address isn't looked at",
                      "attic still serves it in line 7", f"write `{LEAVING}` before"):
             self.assertIn(text, said)

@@ -1,5 +1,5 @@
-"""What a running access point tells people and scripts, given as a trace or as a configuration: its log, its events, its
-status and its metrics. None of them has a frame; its record has all that the program was given."""
+"""What a running access point tells people and scripts, given as a trace or as a configuration: its log, its events,
+its status and its metrics. None of them has a frame; its record has all that the program was given."""
 import re
 
 import called

@@ -25,7 +25,8 @@ class Joined:
     number: int
 
 
-def of_roaming(hearings: list[Hearing], traces: list[Source], lines: Iterable[Line], past: Past | None) -> list[Finding]:
+def of_roaming(hearings: list[Hearing], traces: list[Source], lines: Iterable[Line],
+               past: Past | None) -> list[Finding]:
     """What is said of each of these stations, the first few of them."""
     places: dict[bytes, list[Joined]] = {}
     for hearing in hearings:
