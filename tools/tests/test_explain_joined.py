@@ -26,13 +26,14 @@ class Joined(ToolTest):
         text = f"{CONFIG}---\nA {PROBE}\nA {AUTHENTICATION}{ASSOCIATION}\nT\nA {PROBE}{AUTHENTICATION}\n"
         status, said, _ = tool("explain", "--program", PROGRAM, program_input=text)
         self.assertEqual(status, 0, said)
-        self.assertRegex(said, r"(?m)^standard input:\d+:\d+: two frames of one sender stand in this line, and the second "
-                               r"is read as a part of the first; so in 1 more lines$")
+        self.assertRegex(said, r"(?m)^standard input:\d+:\d+: two frames of one sender stand in this line, and the "
+                               r"second is read as a part of the first; so in 1 more lines$")
         self.assertIn("  write `A 00000000020000000001", said)
 
     def explained(self, *lines):
         """What is said of a trace with these lines."""
-        status, said, _ = tool("explain", "--program", PROGRAM, program_input=f"{CONFIG}---\n" + "\n".join(lines) + "\n")
+        text = "\n".join([f"{CONFIG}---", *lines, ""])
+        status, said, _ = tool("explain", "--program", PROGRAM, program_input=text)
         self.assertEqual(status, 0, said)
         return said
 
@@ -44,8 +45,8 @@ class Joined(ToolTest):
         for first in (f"A {AUTHENTICATION} A {ASSOCIATION} A {null}", f"A {AUTHENTICATION}A{ASSOCIATION}A{null}",
                       f"W 02:00:00:00:00:01 02aa00000001 02bb00000001 0800 01 A {ASSOCIATION} A {null}"):
             said = self.explained(first, "T")
-            self.assertRegex(said, r"(?m)^standard input:\d+:\d+: three lines stand in this one, and all is read as one "
-                                   r"frame")
+            self.assertRegex(said, r"(?m)^standard input:\d+:\d+: three lines stand in this one, and all is read as "
+                                   r"one frame")
             self.assertIn(f"  write `A {ASSOCIATION.replace(' ', '')}`, `A {null.replace(' ', '')}` in lines of their "
                           "own", said)
         said = self.explained(f"A {AUTHENTICATION} A {stranger} A {PROBE}", "T")
@@ -67,7 +68,8 @@ class Joined(ToolTest):
         for words in (["x.input", "--program", "x"], ["run", "x.toml", "--lines"], ["x.input", "--said=fault C1"]):
             status, _, told = tool("explain", *words)
             self.assertEqual(status, 2)
-            self.assertRegex(told, r"--(program|lines|said=fault C1) stands before the files, and before the program's words")
+            self.assertRegex(told, r"--(program|lines|said=fault C1) stands before the files, and before the "
+                                   r"program's words")
 
     def test_only_another_frame_is_one(self):
         """A frame alone has none, nor has one that carries frames of others or its own sender's address."""

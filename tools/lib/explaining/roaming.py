@@ -1,4 +1,4 @@
-"""Stations that are associated in several networks: where each joined the one after the other, and what the earlier ones
+"""Stations that are associated in several networks: where each joined one after the other, and what the earlier ones
 send to it from then on. No network knows of another, and none looks at the Current AP Address of a reassociation."""
 from collections.abc import Iterable
 from dataclasses import dataclass
@@ -52,8 +52,8 @@ def of_station(joined: list[Joined], traces: list[Source], lines: list[Line]) ->
                        f"({called.document('README.md', 'examples')})")
     is_again = Frame(line.octets).is_management(REASSOCIATION_REQUEST)
     current = "; Current AP Address isn't looked at" * is_again
-    return Finding(f"{said}. It joined {last.section.name} here, and didn't leave {before.section.name}, which it joined "
-                   f"in line {before.number}{current}{still_to(before, traces[0], lines, last.number)}",
+    return Finding(f"{said}. It joined {last.section.name} here, and didn't leave {before.section.name}, which it "
+                   f"joined in line {before.number}{current}{still_to(before, traces[0], lines, last.number)}",
                    place_of_octets(traces[0], line, CURRENT if is_again else (4, 10)),
                    f"no network knows of another: where it goes over, write `{leaving(before)}` before")
 
