@@ -48,7 +48,7 @@ pub struct ReceiverAnswer {
 pub struct NetworkQueue {
     receivers: Vec<ReceiverQueue>,
     from: usize,
-    // told of each receiver that a call may have changed
+    // a call tells it of the receiver that it may have changed
     ready: ReadySet,
 }
 
