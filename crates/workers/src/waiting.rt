@@ -7,7 +7,8 @@ ghost use Rattle.workers.specs.Seats.{ToldView};
 use std::marker::Model;
 use std::sync::atomic::{AtomicU64, Ordering};
 
-/// Whose frames may wait, by a bit for each place. Whoever has what was [`Told`] of a place tells it. Anybody may read it.
+/// Whose frames may wait, by a bit for each place. Whoever has what was [`Told`] of a place tells it. Anybody may read
+/// it.
 #[derive(Drop)]
 pub(crate) struct Waiting {
     bits: AtomicU64,
