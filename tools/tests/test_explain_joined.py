@@ -91,6 +91,5 @@ class Joined(ToolTest):
         self.assertEqual(cuts(Line(1, "W", BSSID, b""), [BSSID]), [])
 
 
-
 if __name__ == "__main__":
     unittest.main()

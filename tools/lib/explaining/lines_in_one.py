@@ -78,4 +78,3 @@ def of_joined_frames(lines: Iterable[Line], bssids: Iterable[bytes], traces: lis
     lines_meant = ", ".join(in_full(f"A {part}") for part in parts)
     where = "in the next line" if count == 2 else "in lines of their own"
     return [Finding(f"{what}{others}", place, f"write {lines_meant} {where}")]
-
