@@ -309,5 +309,18 @@ JOINED = [
            "\t0x0000:  4000 0000 ffff ffff ffff 02aa 0000 0001\n\t0x0010:  ffff ffff ffff 0000 0003 6c61 6201 0402\n",
            "what tcpdump prints of a frame", "write `A 40000000ffff", "for the lines 1 to 3", "tcpdump -w"),
 ]
+# A value that is another's, a name that is hidden or in digits, and a trace of another configuration.
+OF_OTHERS = [
+    changed("fault C9 network 0", 'ssid = "lab"', "ssid = 6775657374", 'write `ssid = "guest"`', "in hexadecimal"),
+    changed("fault C9 network 0", 'ssid = "lab"', "ssid = 12345678", 'write `ssid = "12345678"`'),
+    changed("fault C9 network 0", 'ssid = "lab"', 'ssid = ""', "no network here can hide its name"),
+    changed("fault C12 network 0", "max_stations = 8\nmax_known = 16", "max_stations = 16\nmax_known = 8",
+            "where the two changed places write `max_stations = 8` and `max_known = 16`"),
+    traced("fault L4 line 4", f"{PROBE}\nA b000 0000 020000000777 {STATION} 020000000777 0000 000001000000\n"
+           f"A 0000 0000 020000000777 {STATION} 020000000777 0000 01000a0000036c6162010402040b16\n"
+           f"W 02:00:00:00:07:77 {STATION} {HOST} 0800 45\n", "to which 2 lines on the air are", "don't belong together"),
+    traced("fault L4 line 2", f"A b000 0000 020000000001 {STATION} 020000000001 0000 000001000000\n"
+           f"W 02:00:00:00:00:10 {STATION} {HOST} 0800 45\n", "write 02:00:00:00:00:01, or a network with"),
+]
 TEXTS = [*ELSEWHERE, *VALUES, *UNSEEN, *TEXTS_OF_CONFIGS, *WORDS_OF_TRACES, *DIGITS_OF_TRACES, *OTHER_TABLES, *CUT,
-         *WRONG_DIGITS, *IN_REMARKS, *JOINED]
+         *WRONG_DIGITS, *IN_REMARKS, *JOINED, *OF_OTHERS]

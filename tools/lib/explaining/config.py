@@ -300,15 +300,19 @@ def ssid_findings(config: Config, network: NetworkTable) -> list[Finding]:
     entry = network.entries.get("ssid")
     if entry and entry.value.kind in ("integer", "truth", "number"):
         written = config.source.text[entry.value.begin:entry.value.end]
-        return [wrong_kind(config, entry, "ssid", "a text, which stands in quotes",
-                           f'"{values.letters_of(written) or written}"')]
+        finding = wrong_kind(config, entry, "ssid", "a text, which stands in quotes",
+                             f'"{values.letters_of(written) or values.letters_in(written) or written}"')
+        if values.letters_in(written):
+            finding = replace(finding, advice=f"{finding.advice}: a report has an SSID in hexadecimal, as `{written}`")
+        return [finding]
     found = text_of(config, network, "ssid")
     if isinstance(found, Finding):
         return [found]
     value, name = found
     length = len(name.encode())
     if not length:
-        return [Finding("an SSID has 1 to 32 octets, and this is empty", config.place(value), 'write `ssid = "lab"`')]
+        return [Finding("an SSID has 1 to 32 octets, and this is empty: no network here can hide its name, and each "
+                        "beacon has it", config.place(value), 'write the name that stations ask for, as `ssid = "lab"`')]
     if length <= values.MOST_NAME:
         return []
     letters = f" ({len(name)} characters, some of several octets)" if len(name) < length else ""
@@ -349,7 +353,9 @@ def known_findings(config: Config, network: NetworkTable) -> list[Finding]:
     if entry is None or known is None or stations is None or known >= stations:
         return []
     return [Finding(f"`max_known` is {known} and `max_stations` {stations}: each station that is associated is known "
-                    "too", config.place(entry.value), f"write `max_known = {stations}` or more")]
+                    "too", config.place(entry.value),
+                    f"write `max_known = {stations}` or more; where the two changed places write `max_stations = "
+                    f"{known}` and `max_known = {stations}`")]
 
 
 def option_findings(config: Config, network: NetworkTable) -> list[Finding]:

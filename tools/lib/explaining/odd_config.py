@@ -47,15 +47,21 @@ def of_radio(config: Config) -> list[Finding]:
     findings += [of_dtim(config, interval, network, dtim) for network, dtim in long[:1] if interval is not None]
     if interval is not None and not LEAST_INTERVAL <= interval <= MOST_INTERVAL:
         why = "beacons fill the air" if interval < LEAST_INTERVAL else "stations that look for networks wait less"
-        findings.append(Finding(f"a beacon each {interval * TIME_UNIT / 1000:,.4g} ms: {why}",
+        findings.append(Finding(f"a beacon each {milliseconds(interval)} ms: {why}",
                                 config.place(config.top["interval"].value), "the usual one is `interval = 100`, 102.4 "
                                 "ms"))
     return findings
 
 
+def milliseconds(interval: int) -> str:
+    """A beacon interval in milliseconds, to four digits."""
+    length = interval * TIME_UNIT / 1000
+    return f"{length:,.0f}" if length >= 1000 else f"{length:.4g}"
+
+
 def of_exchanged(config: Config, interval: int, network: NetworkTable, dtim: int) -> Finding:
     """A beacon interval that is as short as a DTIM period, and a DTIM period as long as an interval."""
-    return Finding(f"a beacon each {interval * TIME_UNIT / 1000:,.4g} ms, of which each {dtim}th is a DTIM: "
+    return Finding(f"a beacon each {milliseconds(interval)} ms, of which each {dtim}th is a DTIM: "
                    f"`interval` and `dtim` may have each other's value", config.place(config.top["interval"].value),
                    f"write `interval = {dtim}`, and in the networks `dtim = {interval}`")
 
@@ -103,7 +109,7 @@ def of_strange_names(config: Config, asked: Collection[bytes]) -> list[Finding]:
 
 def strange_name(name: str) -> tuple[str, str] | None:
     """What is strange in a name, and what to write where it isn't meant; None where nothing is."""
-    plain, letters = html.unescape(name), letters_in(name)
+    plain, letters = html.unescape(name), values.letters_in(name)
     odd = next((letter for letter in name if letter in LOOK_ALIKES), None)
     if values.UNFILLED.fullmatch(name.strip()):
         return f"is {quoted(name)} as it stands: nothing puts a value in its place", 'write the name, as `ssid = "lab"`'
@@ -123,15 +129,6 @@ def strange_name(name: str) -> tuple[str, str] | None:
         return f"has {quoted(odd)} (U+{ord(odd):04X}), which looks like {quoted(LOOK_ALIKES[odd])} and is another " \
             "letter", f'where it isn\'t meant write `ssid = "{plain_text(name)}"`'
     return None
-
-
-def letters_in(name: str) -> str | None:
-    """The letters whose hexadecimal digits a name is; None where it is none's."""
-    digits = name.removeprefix("0x")
-    if not re.fullmatch("(?:[0-9A-Fa-f]{2}){3,}", digits):
-        return None
-    text = bytes.fromhex(digits).decode("utf-8", "replace")
-    return text if text.isprintable() and re.fullmatch(r"[\w .-]*[A-Za-z]{2}[\w .-]*", text) else None
 
 
 def of_strange_rates(config: Config) -> list[Finding]:
@@ -158,8 +155,9 @@ def meant_rates(digits: str) -> str | None:
     numbers = re.findall("..", digits)
     if all(rate & ~values.BASIC in STATIONS_HAVE for rate in bytes.fromhex(digits)):
         return None
-    megabits = [float(number) for number in numbers] if all(map(str.isdecimal, numbers)) else []
-    is_listed = megabits and all(rate in values.MEGABITS for rate in megabits)
+    # Two digits have no room for 5.5.
+    megabits = [5.5 if number == "05" else float(number) for number in numbers if number.isdecimal()]
+    is_listed = len(megabits) == len(numbers) and all(rate in values.MEGABITS for rate in megabits)
     return without_header(digits) or (values.rates_of_megabits(megabits) if is_listed else None)
 
 

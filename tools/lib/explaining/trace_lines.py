@@ -322,8 +322,19 @@ def of_network(source: Source, number: int, line: str, bssids: list[str]) -> Fin
                        f"write `W {bssids[0]}`; {having(bssids)}")
     close = [bssid for bssid in listed if is_slip(word, bssid)] or difflib.get_close_matches(word, listed, 1, 0.8)
     has = having(bssids)
+    named = addressed_networks(source)
+    if not any(bssid in named for bssid in listed) and named.count(word) > 1:
+        return Finding(f"no network of the configuration has the address {match[1]}, to which {named.count(word)} lines "
+                       "on the air are, and none is to a network of the configuration: they don't belong together",
+                       place, f"take the configuration of this trace, or give a network this address; {has}")
     return Finding(f"no network of the configuration has the address {match[1]}", place,
                    f"write {close[0]}, or a network with this address; {has}" if close else has)
+
+
+def addressed_networks(source: Source) -> list[str]:
+    """The address that each line on the air has first, of one receiver."""
+    frames = (line[1:].replace(" ", "").lower()[8:20] for line in source.lines[:MOST_LOOKED] if line.startswith("A "))
+    return [":".join(re.findall("..", address)) for address in frames if address != "f" * 12]
 
 
 def line_of_sender(source: Source, address: str) -> int | None:

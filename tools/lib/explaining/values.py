@@ -140,6 +140,15 @@ def letters_of(number: str) -> str | None:
     return octets.decode() if octets.isascii() and octets.decode().isprintable() and b'"' not in octets else None
 
 
+def letters_in(name: str) -> str | None:
+    """The letters whose hexadecimal digits a name is; None where it is none's."""
+    digits = name.removeprefix("0x")
+    if not re.fullmatch("(?:[0-9A-Fa-f]{2}){3,}", digits):
+        return None
+    text = bytes.fromhex(digits).decode("utf-8", "replace")
+    return text if text.isprintable() and re.fullmatch(r"[\w .-]*[A-Za-z]{2}[\w .-]*", text) else None
+
+
 def single_address(text: str) -> str:
     """A group address with the group's bit off."""
     return f"{int(text[:2], 16) & 0xFE:02x}{text[2:].lower()}"
