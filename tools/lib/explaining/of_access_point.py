@@ -3,6 +3,7 @@ its status and its metrics. None of them has a frame; its record has all that th
 import re
 
 import called
+from explaining.own_json import REPORT, own_json
 from explaining.report_lines import GOOD
 from explaining.source import Finding, Source
 
@@ -13,25 +14,19 @@ TELLS = ((re.compile(rf"(?:{SYSTEM}waltigon[\w@.-]*(?:\[\d+\])?: .*|(?:{SYSTEM}\
                      r"\d{4}-\d\d-\d\dT\d\d:\d\d:\d\dZ live: .*|live: .*)"), f"the log of {LIVE}"),
          (re.compile(r"\{.*\"(?:SYSLOG_IDENTIFIER|_SYSTEMD_UNIT)\" ?: ?\"waltigon.*"),
           f"the log of {LIVE}, as `journalctl -o json` prints it"),
-         (re.compile(r"\{(?=.*\"time\" ?:).*\"event\" ?: ?\"[a-z-]+\".*\}"), f"what `{LIVE} events` prints"),
          (re.compile(r"(?:# (?:HELP|TYPE) )?waltigon_\w+(?:\{.*\})? .*"), "the metrics of the status page"),
          (re.compile(r"phy\d+, channel \d+.*, for \d+:\d\d:\d\d, of .*"), f"what `{LIVE} status` prints"))
-STATUS_KEY = re.compile(r"\s*\"(?:phy|beacons|networks|late_ms_worst)\" ?:", re.M)
-LEAST_KEYS = 2
 
 
 def of_access_point(source: Source, number: int, is_trace: bool) -> Finding | None:
     """What an access point tells, where this line, or the text that begins with it, is that."""
     line = source.line(number).rstrip()
-    what = next((what for pattern, what in TELLS if pattern.fullmatch(line)), None)
-    if what is None and line.startswith("{") and (
-            '"beacons"' in line and '"networks"' in line or
-            line == "{" and len(set(STATUS_KEY.findall(source.text))) >= LEAST_KEYS):
-        what = f"the status of an access point, as `{LIVE} status --json` prints it"
+    what = next((what for pattern, what in TELLS if pattern.fullmatch(line)), None) or own_json(source, number)
     if what is None:
         return None
     is_among = is_trace and any(GOOD.fullmatch(other) for other in source.lines)
+    whence = "a report is what the program answers, and a trace what came to its networks" if what == REPORT else \
+        f"the trace of an access point is the file of `{LIVE} --record FILE`"
     return Finding(f"this is {what}, and no {'trace' if is_trace else 'configuration'}",
-                   source.place(number, 1, len(line)), "leave such lines out" if is_among else
-                   f"the trace of an access point is the file of `{LIVE} --record FILE`" if is_trace else
+                   source.place(number, 1, len(line)), "leave such lines out" if is_among else whence if is_trace else
                    f"{called.document('FORMATS.md')} has a configuration to copy")
