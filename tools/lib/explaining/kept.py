@@ -1,7 +1,9 @@
 """Units that a network keeps where the trace ends, though a beacon has told of them."""
 from dataclasses import dataclass
 
+from explaining.past import Past
 from explaining.source import Finding, Place
+from explaining.trace_remarks import unmask
 from frames import BEACON, BEACON_FIXED_LEN, TIM, Frame, address_text, elements, first_of
 from texts import Line, Section
 
@@ -9,9 +11,9 @@ MOST_NAMED, LEAST_TIM = 3, 4
 
 
 def of_kept(name: str, section: Section, heard: list[Line], dtim: int | None,
-            dozing: dict[tuple[bytes, bytes], str], units: "GroupUnits | None" = None) -> list[Finding]:
+            past: Past | None, units: "GroupUnits | None" = None) -> list[Finding]:
     """Units for stations that sent nothing since the last beacon interval began, and units for the group that wait for
-    a DTIM that doesn't come. `dozing` tells of stations in networks since when they doze."""
+    a DTIM that doesn't come."""
     units = units or GroupUnits()
     last = last_frames(heard)
     tick = max((place for place, line in enumerate(heard) if line.kind == "T"), default=-1)
@@ -19,13 +21,14 @@ def of_kept(name: str, section: Section, heard: list[Line], dtim: int | None,
     findings = []
     if waiting:
         named = ", ".join(f"{address_text(station.address)} ({station.kept})" for station in waiting[:MOST_NAMED])
-        since = dozing.get((section.bssid, waiting[0].address)) if len(waiting) == 1 else None
+        since = past.dozing.get((section.bssid, waiting[0].address)) if past and len(waiting) == 1 else None
+        remark = past.remarks.poll(section.bssid, waiting[0].address) if past and len(waiting) == 1 else ""
         more = f" and {len(waiting) - MOST_NAMED} more stations" * (len(waiting) > MOST_NAMED)
         which = f", which {since}" if since else ""
         findings.append(Finding(f"{name}: units are kept at the end for {named}{more}{which}: a beacon told of them, "
-                                "and nobody asked for them",
-                                None, "a PS-Poll (`a400`) brings one, and a frame that says "
-                                "that the station is awake (`4801`) brings all"))
+                                f"and nobody asked for them{remark}",
+                                None, unmask(remark) if remark else "a PS-Poll (`a400`) brings one, and a frame that "
+                                "says that the station is awake (`4801`) brings all"))
     group = section.kept - sum(station.kept for station in section.stations)
     if group and tick >= 0:
         which = f"a DTIM's beacon, one of {dtim}" if dtim and dtim > 1 else "the next beacon"

@@ -8,7 +8,7 @@ from explaining.past import home_of, station_in
 from explaining.reason import Lack, Reason
 from explaining.odd_config import STATIONS_HAVE
 from explaining.rates_lacking import DECIMAL_ID, OF_RATES
-from explaining.stations_meant import of_disassociation, of_mode, of_waking
+from explaining.stations_meant import of_departure, of_disassociation, of_mode, of_waking
 from explaining.unheard import nearest
 from explaining.units_meant import is_packet, is_test, of_unit
 from explaining.values import BASIC, UNITS
@@ -66,8 +66,8 @@ def doubtful(looked: Looked, relay: Relay) -> Reason | None:
     dropped = of_dropped(looked, frame)
     if frame.type == MANAGEMENT and frame.subtype in WITH_FIELDS:
         return exchanged_fields(frame) or turned_field(frame) or decimal_element(frame) or second_name(frame) or \
-            of_encryption(frame) or strange_rates(frame) or dropped or of_association(looked, frame) or \
-            of_mode(frame) or of_disassociation(looked, frame)
+            of_encryption(frame) or strange_rates(frame) or of_departure(looked, frame) or dropped or \
+            of_association(looked, frame) or of_mode(frame) or of_disassociation(looked, frame)
     if frame.type == MANAGEMENT:
         return of_status(frame) or of_authentication(looked, frame) or second_name(frame) or dropped or \
             strange_rates(frame) or of_mode(frame)

@@ -7,6 +7,7 @@ from explaining.line_by_line import Step
 from explaining.names import name_reason
 from explaining.past import Past, home_of, station_in, whereabouts
 from explaining.reason import Lack, Reason
+from explaining.trace_remarks import unmask
 from explaining.unheard import is_slip, nearest
 from frames import (ASSOCIATION_REQUEST, AUTHENTICATION, BROADCAST, DATA, DEAUTHENTICATION, DISASSOCIATION, MANAGEMENT,
                     NULL, PLAIN_DATA, PROBE_REQUEST, REASSOCIATION_REQUEST, Frame, address_text, number)
@@ -124,8 +125,12 @@ def from_wire(looked: Looked, octets: bytes) -> Reason:
         return Reason(f"{said}; its source {address_text(source)} is one: a frame on the wire begins with its "
                       "destination",
                       (0, 12), f"write `{source.hex()} {to.hex()}` for `{to.hex()} {source.hex()}`")
+    remark = looked.past.remark_of(looked.bssid, to, JOINING)
     if looked.station(to) is not None:
-        return Reason(f"{said}: {looked.why_not_there(to, 'authenticated')}", (0, 6))
+        return Reason(f"{said}: {looked.why_not_there(to, 'authenticated')}", (0, 6),
+                      unmask(remark) if remark else None)
+    if remark:
+        return Reason(f"{said}{remark}", (0, 6), unmask(remark))
     told = whereabouts(looked.step, looked.bssid, to, looked.past)
     is_own = told is not None or looked.past.is_own(looked.bssid, to)
     like = None if is_own else nearest(to, looked.associated())
@@ -187,8 +192,9 @@ def poll(looked: Looked, frame: Frame) -> Reason | None:
     if not station.doze:
         is_data = "Data frame" in (overlooked or woken)
         vain = past.in_vain.get((looked.bssid, station.address), "")
-        return Reason(f"the station is awake{overlooked or woken or vain}, and a poll brings a unit to one that dozes",
-                      (0, 2),
+        remark = past.remarks.dozing(looked.bssid, station.address, looked.step.line.number)
+        return Reason(f"the station is awake{overlooked or woken or vain}, and a poll brings a unit to one that dozes"
+                      f"{remark}", (0, 2), unmask(remark) if remark else
                       "where it goes on dozing that frame begins with `0811`" if is_data else
                       "a Null that begins with `4811` says before that it dozes")
     of_group = looked.section.kept - sum(row.kept for row in looked.section.stations)
@@ -214,9 +220,11 @@ def of_empty(looked: Looked, station: Station, emptied: str, missed: str, group:
         f"comes after this poll, in line {coming}"
     strayed = "" if emptied or missed or later else past.unit_elsewhere(looked.bssid, station.address,
                                                                         looked.step.line.number)
-    advice = f"write line {dozing}, by which the station dozes, before line {unit}" if is_late else \
+    remark = past.remarks.unit(looked.bssid, station.address, looked.step.line.number)
+    advice = unmask(remark) if remark else \
+        f"write line {dozing}, by which the station dozes, before line {unit}" if is_late else \
         f"write the poll behind line {coming}" if later else None
-    return Reason(f"no unit is kept for the station{emptied or missed}{later}{strayed}{group}", (2, 4), advice)
+    return Reason(f"no unit is kept for the station{emptied or missed}{later}{strayed}{group}{remark}", (2, 4), advice)
 
 
 def mode(looked: Looked, frame: Frame) -> Reason | None:

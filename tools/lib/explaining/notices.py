@@ -6,6 +6,7 @@ from explaining.nothing import IDENTIFIER, JOINING, Looked, owner_of
 from explaining.past import home_of, whereabouts
 from explaining.reason import Lack, Reason
 from explaining.refused import Refusal
+from explaining.trace_remarks import unmask
 from explaining.unheard import nearest
 from frames import (ASSOCIATION_REQUEST, DATA, DEAUTHENTICATION, MANAGEMENT, REASSOCIATION_REQUEST, Frame, address_text,
                     number)
@@ -13,10 +14,10 @@ from in_words import kind_text, name_in
 from reading import is_poll
 
 ASSOCIATIONS = (ASSOCIATION_REQUEST, REASSOCIATION_REQUEST)
-UNMASK = "take the `#` of that line away"
 # What the past tells of a request that failed.
 IN_VAIN = re.compile(r"(?P<what>an authentication|an? (?:re)?association request) of it, in line (?P<line>\d+), "
                      r"(?P<how>was refused|can't be read).*")
+LEFT = re.compile(r"it left in line (?P<line>\d+), by a (?P<how>\w+)")
 RECEIVER, SENDER = (4, 10), (10, 16)
 
 
@@ -31,7 +32,8 @@ def notice(refusal: Refusal, looked: Looked, station: bytes) -> Reason:
     remark = looked.past.remark_of(looked.bssid, station, JOINING[1:] if is_known else JOINING)
     if is_known:
         return Reason(f"{said}: {looked.why_not_there(station, 'authenticated')}", SENDER,
-                      UNMASK if remark else why_in_vain(looked, station) or "it has to associate before",
+                      unmask(remark) if remark else why_in_vain(looked, station) or
+                      after_leaving(looked, station) or "it has to associate before",
                       Lack(looked.bssid, station, True))
     owner = owner_of(looked, number(frame.octets[2:4]) & IDENTIFIER) if is_poll(frame) else ""
     home = home_of(looked.step, looked.bssid, station)
@@ -40,7 +42,7 @@ def notice(refusal: Refusal, looked: Looked, station: bytes) -> Reason:
     told = whereabouts(looked.step, looked.bssid, station, looked.past)
     whose = f"; the identifier that it names is{owner.removeprefix(',')}" if owner else ""
     return Reason(f"{said}: {why_unknown(looked, frame)}{whose}", span,
-                  UNMASK if remark else what_first(looked, frame, home),
+                  unmask(remark) if remark else what_first(looked, frame, home),
                   None if told else Lack(looked.bssid, station, frame.type == DATA))
 
 
@@ -79,11 +81,18 @@ def why_in_vain(looked: Looked, station: bytes) -> str | None:
     return f"line {found['line']} asks for it, and was refused since {why}" if number == int(found["line"]) else None
 
 
+def after_leaving(looked: Looked, station: bytes) -> str | None:
+    """What to do of a station that sends on behind the line by which it left; None where it didn't leave."""
+    found = LEFT.match(looked.past.of(looked.bssid, station) or "")
+    again = "authenticate and associate" if found and found["how"] == "deauthentication" else "associate"
+    return f"leave line {found['line']} out, or have it {again} again behind it" if found else None
+
+
 def what_first(looked: Looked, frame: Frame, home: bytes | None) -> str:
     """What would have been served: the same of the station of nearly this address, or to the network where the station
     is, or what comes before it here."""
     station, bssid, like = frame.transmitter.hex(), looked.bssid.hex(), alike(looked, frame)
-    vain = why_in_vain(looked, frame.transmitter)
+    vain = why_in_vain(looked, frame.transmitter) or after_leaving(looked, frame.transmitter)
     if vain:
         return vain
     other = looked.step.before[home] if home else None

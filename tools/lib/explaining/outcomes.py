@@ -22,6 +22,7 @@ from explaining.refused import refusal_of, refused
 from explaining.shifted import shifted
 from explaining.source import Finding, Place, Source
 from explaining.spans import place_of_octets
+from explaining.trace_remarks import Remarks, unmask
 from explaining.unheard import unheard
 from explaining.unread import unread, wired_unread
 from explaining.written import Known, misfit, preamble
@@ -30,7 +31,7 @@ from reading import unread_kind, wired_unread_kind
 from texts import Line
 
 MOST_GROUPS, MOST_ALSO = 6, 5
-IN_REMARK = re.compile(r"[#\s]*#\s*A +((?:[0-9A-Fa-f] *){32,})")
+FULL = (1, 17)  # statuses of a network that knows, or has associated, as many stations as it may
 DOUBT = "it may not say what is meant"
 
 
@@ -71,7 +72,7 @@ class Outcomes:
                  has_sums: bool = True, config: Source | None = None) -> None:
         """`has_sums` where some kinds of lines are told of in sum beside these, `config` the text of the tables."""
         self.trace, self.tables, self.has_sums, self.config = trace, tables, has_sums, config
-        self.past = Past(lambda number: trace.first + number - 1, lines, frames_in_remarks(trace))
+        self.past = Past(lambda number: trace.first + number - 1, lines, Remarks(trace))
         self.groups: dict[tuple[What, str, str], Group] = {}
         self.left_out: list[Line] = []
         self.idle: set[int] = set()
@@ -160,6 +161,10 @@ class Outcomes:
                 if reason and refusal.is_status:
                     self.past.refusals[looked.bssid, station] = (
                         self.past.line_number(step.line.number), re.split("[:;] ", reason.text)[0])
+                if reason and refusal.is_status and refusal.code in FULL:
+                    remark = self.past.remarks.leaving(looked.bssid, step.line.number)
+                    reason = replace(reason, text=reason.text + remark,
+                                     advice=unmask(remark) if remark else reason.advice)
                 if reason:
                     yield Said(What.REFUSED, f"{network_text(looked)}: {refusal.what()}, of {address_text(station)}",
                                reason)
@@ -212,15 +217,6 @@ class Outcomes:
         more = len(numbers) - MOST_ALSO
         text = ", ".join(numbers[:MOST_ALSO]) + (f" and {more} more" if more > 0 else "")
         return f"line{'s' * (len(numbers) > 1)} {text}"
-
-
-def frames_in_remarks(trace: Source) -> Iterator[tuple[int, Frame]]:
-    """The frames on the air that stand in remarks, as lines that were taken out so, with the numbers of their lines."""
-    for number, line in enumerate(trace.lines, 1):
-        found = IN_REMARK.fullmatch(line.rstrip())
-        digits = found[1].replace(" ", "") if found else ""
-        if digits and len(digits) % 2 == 0:
-            yield number, Frame(bytes.fromhex(digits))
 
 
 def is_told_in_sum(bssid: bytes, octets: bytes, rule: str | None) -> bool:

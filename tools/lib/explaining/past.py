@@ -6,9 +6,9 @@ from explaining.line_by_line import Step
 from explaining.reason import Lack
 from explaining.reflected import Reflected
 from explaining.refused import NOTICES, refusal_of
+from explaining.trace_remarks import Remarks
 from frames import (ASSOCIATION_REQUEST, AUTHENTICATION, DATA, DEAUTHENTICATION, DISASSOCIATION, MANAGEMENT, NULL,
                     REASSOCIATION_REQUEST, Frame, address_text)
-from fields import MANAGEMENT_NAMES
 from in_words import kind_text, status_text
 from reading import unread_kind
 from texts import Line, Section, Station
@@ -26,8 +26,8 @@ class Past:
     or that asks a network later, isn't a slip of another one."""
 
     def __init__(self, line_number: Callable[[int], int], lines: Iterable[Line] = (),
-                 remarks: Iterable[tuple[int, Frame]] = ()) -> None:
-        """`lines` are all of the trace, `remarks` the frames that stand in remarks, with the numbers of their lines."""
+                 remarks: Remarks | None = None) -> None:
+        """`lines` are all of the trace, `remarks` those that stand in its remarks."""
         self.line_number = line_number
         lines = list(lines)
         frames = [(line.number, Frame(line.octets)) for line in lines
@@ -40,15 +40,8 @@ class Past:
         self.last_to = {frame.octets[4:10]: number for number, frame in frames}
         self.last_dozing = {frame.octets[4:16]: number for number, frame in frames
                             if frame.type == DATA and frame.power_management}
-        self.units: dict[bytes, list[int]] = {}
-        for line in lines:
-            if line.kind == "W":
-                self.units.setdefault((line.bssid or b"") + line.octets[:6], []).append(line.number)
-            elif line.kind == "A" and len(line.octets) >= LEAST_LENGTH and Frame(line.octets).type == DATA:
-                unit = Frame(line.octets)
-                self.units.setdefault(unit.receiver + unit.third, []).append(line.number)
-        self.remarks = {(frame.octets[4:10], frame.transmitter, frame.subtype): number for number, frame in remarks
-                        if frame.type == MANAGEMENT}
+        self.units = units_in(lines)
+        self.remarks = remarks or Remarks()
         self.before: dict[bytes, int] = {}
         self.coming = {Lack(frame.octets[4:10], frame.transmitter, True): line_number(number)
                        for number, frame in frames if frame.is_management(ASSOCIATION_REQUEST)}
@@ -124,10 +117,7 @@ class Past:
 
     def remark_of(self, bssid: bytes, station: bytes, subtypes: Iterable[int]) -> str:
         """That a remark holds a request of a station to a network; nothing where none does."""
-        found = next(((subtype, self.remarks[bssid, station, subtype]) for subtype in subtypes
-                      if (bssid, station, subtype) in self.remarks), None)
-        return "" if found is None else f"; its {MANAGEMENT_NAMES[found[0]]} stands in line " \
-            f"{self.line_number(found[1])}, which is a remark, since it begins with `#`"
+        return self.remarks.request(bssid, station, subtypes)
 
     def joins_next(self, bssid: bytes, station: bytes, number: int) -> bool:
         """Whether the next frame of a station to a network, behind this line, asks to associate or is another
@@ -294,6 +284,18 @@ class Past:
         if step.after[bssid].unread > step.before[bssid].unread and rule and Frame(octets).type == 0:
             return f"{kind_text(octets)} of it, in line {number}, can't be read ({rule})"
         return None
+
+
+def units_in(lines: Iterable[Line]) -> dict[bytes, list[int]]:
+    """The numbers of the lines that have a unit, by the addresses of the network and of the destination."""
+    units: dict[bytes, list[int]] = {}
+    for line in lines:
+        if line.kind == "W":
+            units.setdefault((line.bssid or b"") + line.octets[:6], []).append(line.number)
+        elif line.kind == "A" and len(line.octets) >= LEAST_LENGTH and Frame(line.octets).type == DATA:
+            unit = Frame(line.octets)
+            units.setdefault(unit.receiver + unit.third, []).append(line.number)
+    return units
 
 
 def group_kept(section: Section) -> int:

@@ -8,6 +8,7 @@ from explaining import odd_config
 from explaining.check_sequences import FCS_LEN, LEAST_LEN, ends_with_fcs, octets_too_many
 from explaining.configuration import Keys, networks_of
 from explaining.hearing import Hearing
+from explaining.in_remarks import names_cut, networks_in_remarks
 from explaining.intervals import of_each_network
 from explaining.kept import GroupUnits, of_kept
 from explaining.line_by_line import steps
@@ -22,6 +23,7 @@ from explaining.several import of_intervals, of_order
 from explaining.source import Finding, Source, in_order
 from explaining.spans import also_in, place_of, place_of_octets
 from explaining.statuses import name_asked_for, of_full_table, of_statuses
+from explaining.trace_remarks import Remarks, unmask
 from explaining.unread import unread, wired_unread
 from explaining.wired_types import TYPES, of_wired_types
 from frames import BROADCAST, DATA, Frame, address_text, is_group, number
@@ -74,9 +76,19 @@ def odd(config: Source, traces: list[Source], output: str, has_separator: bool,
         if outcomes:
             findings += of_each_network(traces[0], lines, outcomes.idle, [hearing.section for hearing in hearings])
         findings += of_order(traces, by_trace, [hearing.section.bssid for hearing in hearings])
-        findings = [*odd_config.odd(config, asked), *findings,
+        findings = [*odd_config.odd(config, asked), *in_remarks(config, lines, hearings, asked), *findings,
                     *of_roaming(hearings, traces, lines, outcomes.past if outcomes else None)]
-        return in_order([*findings, *of_no_interval(lines, hearings, not findings)], config)
+        remark = Remarks(traces[0]).interval() if len(traces) == 1 else ""
+        return in_order([*findings, *of_no_interval(lines, hearings, not findings, remark)], config)
+
+
+def in_remarks(config: Source, lines: list[Line], hearings: list[Hearing], asked: set[bytes]) -> list[Finding]:
+    """What stands in the configuration's remarks, and frames of a trace are to."""
+    receivers = {address_text(line.octets[4:10]) for line in lines
+                 if line.kind == "A" and len(line.octets) >= LEAST_LEN}
+    receivers -= {address_text(hearing.section.bssid) for hearing in hearings}
+    names = [name.decode("utf-8", "replace") for name in asked]
+    return [*networks_in_remarks(config, receivers, names), *names_cut(config, names)]
 
 
 def outcomes_of(config: Source, trace: Source, lines: list[Line], hearings: list[Hearing], program: str) -> Outcomes:
@@ -121,16 +133,18 @@ def of_trace(lines: list[Line], hearings: list[Hearing], has_separator: bool, tr
     return findings
 
 
-def of_no_interval(lines: list[Line], hearings: list[Hearing], is_all: bool) -> list[Finding]:
-    """A trace without beacon intervals, where something is kept that one tells of, or where nothing else is odd."""
+def of_no_interval(lines: list[Line], hearings: list[Hearing], is_all: bool, remark: str) -> list[Finding]:
+    """A trace without beacon intervals, where something is kept that one tells of, or where nothing else is odd, or
+    where this is told of lines in remarks."""
     is_kept = any(hearing.section.kept for hearing in hearings)
-    if not lines or any(line.kind == "T" for line in lines) or not is_kept and not is_all:
+    if not lines or any(line.kind == "T" for line in lines) or not is_kept and not is_all and not remark:
         return []
     waiting = [f"{address_text(station.address)} ({station.kept})" for hearing in hearings
                for station in hearing.section.stations if station.kept]
     told = f", so no station is told that units wait for it: {', '.join(waiting[:MOST_NAMED])}" if waiting else \
         ", and units for the group that are kept stay so" * is_kept
-    return [Finding(f"no line `T` begins a beacon interval: no beacon is sent{told}", None,
+    return [Finding(f"no line `T` begins a beacon interval: no beacon is sent{told}{remark}", None,
+                    unmask(remark) if remark else
                     "write a line `T` where a beacon interval begins" if is_kept else None)]
 
 
@@ -268,8 +282,8 @@ def of_network(hearing: Hearing, traces: list[Source], outcomes: Outcomes | None
                                 f"number that came before: they are taken a second time){also_in(again, traces)}",
                                 place_of(traces, again[0], (1, 2)),
                                 f"{MAKES_TRACES} leaves them out"))
-    dozing = outcomes.past.dozing if outcomes else {}
-    return findings + of_kept(hearing.name, section, hearing.heard, hearing.limit("dtim"), dozing,
+    return findings + of_kept(hearing.name, section, hearing.heard, hearing.limit("dtim"),
+                              outcomes.past if outcomes else None,
                               group_units(hearing, traces, outcomes, config))
 
 

@@ -1,10 +1,11 @@
 """What a frame may not be meant to say of its station: that it is awake, that it dozes where that isn't read, or that
 it leaves and stays known."""
 from explaining.nothing import Looked
-from explaining.past import station_in
-from explaining.reason import Reason
-from frames import (ASSOCIATION_REQUEST, AUTHENTICATION, DISASSOCIATION, PROBE_REQUEST, REASSOCIATION_REQUEST, Frame,
-                    address_text)
+from explaining.past import home_of, station_in
+from explaining.reason import Lack, Reason
+from frames import (ASSOCIATION_REQUEST, AUTHENTICATION, DATA, DEAUTHENTICATION, DISASSOCIATION, PROBE_REQUEST,
+                    REASSOCIATION_REQUEST, Frame, address_text)
+from in_words import kind_text
 from reading import is_poll
 
 POWER_MANAGEMENT, LEAVING = 0x10, bytes([8, 0])  # the reason of a station that disassociates since it leaves (9.4.1.7)
@@ -52,3 +53,28 @@ def of_disassociation(looked: Looked, frame: Frame) -> Reason | None:
         return None
     return Reason(f"by a disassociation {address_text(frame.transmitter)} stays known, as authenticated only", (0, 2),
                   f"where it is to be forgotten write `c0{frame.octets[1]:02x}`, a deauthentication")
+
+
+def of_departure(looked: Looked, frame: Frame) -> Reason | None:
+    """A station that leaves a network, and goes on to send to it as one that is associated; or that leaves the network
+    to which it went over last, and is still in the one before."""
+    station, past, number = looked.station(frame.transmitter), looked.past, looked.step.line.number
+    if frame.subtype not in (DISASSOCIATION, DEAUTHENTICATION) or station is None or station.aid is None:
+        return None
+    following = past.next_frame(looked.bssid, station.address, number)
+    talks = following is not None and (following[1].type == DATA or is_poll(following[1]))
+    home = home_of(looked.step, looked.bssid, station.address)
+    unit = past.next_unit(looked.bssid, station.address, number)
+    since, earlier = (past.arrivals.get(Lack(bssid or b"", station.address, True), 0) for bssid in (looked.bssid, home))
+    is_last = home is not None and since > earlier > 0 and past.next_frame(home, station.address, number) is None
+    if not talks and not (is_last and unit):
+        return None
+    what = f"{kind_text(following[1].octets)} of it in line {following[0]} is" if following and talks else \
+        f"a unit for it in line {unit} comes"
+    said = f"by this line {address_text(station.address)} leaves {looked.section.name}, which it joined in line " \
+        f"{since}, and {what} to {looked.section.name} still"
+    if home is None or not is_last:
+        return Reason(said, (0, 2), "leave the line out, or write it behind the last line of that station")
+    other = looked.step.before[home]
+    return Reason(f"{said}; it is a station of {other.name} too, since line {earlier}", (4, 10),
+                  f"where it leaves {other.name} write `{home.hex()}` as Address 1 and as Address 3")

@@ -6,7 +6,7 @@ import shlex
 from dataclasses import dataclass, field
 
 import called
-from explaining import (as_they_come, config, configuration, no_key, no_toml, octet_records, odd_config,
+from explaining import (as_they_come, config, configuration, in_remarks, no_key, no_toml, octet_records, odd_config,
                         other_lines, other_programs, runs, trace_lines, words)
 from explaining.answers import Answer, Fault, read_fault, said_already
 from explaining.line_by_line import Unanswered
@@ -130,8 +130,10 @@ def findings_of(texts: Texts, fault: Fault) -> list[Finding]:
         trace = texts.traces[place] if place < len(texts.traces) else None
         is_live = texts.words[:1] == ["live"]
         whole = of_whole_trace(texts, trace) if trace and fault.code == "L1" else None
-        if whole:
-            return [whole]
+        hidden = of_hidden_network(texts.config, trace, fault.line or 0) if trace and fault.code == "L4" else None
+        first = whole or hidden
+        if first:
+            return [first]
         return trace_lines.explain(trace, fault, names_of(texts), is_live) if trace else []
     return words.explain(fault, texts.words)
 
@@ -148,6 +150,12 @@ def of_whole_trace(texts: Texts, trace: Source) -> Finding | None:
         return None
     return Finding(f"{trace.name} stands twice, as the configuration and as the trace, and it is a configuration", None,
                    "write the name of the trace in the second place")
+
+
+def of_hidden_network(config: Source | None, trace: Source, number: int) -> Finding | None:
+    """A network behind `W` that stands in the configuration's remarks alone."""
+    bssid = trace.line(number).split(" ", 2)[1:2]
+    return next(in_remarks.networks_in_remarks(config, bssid, ()), None) if config else None
 
 
 def of_another_program(source: Source) -> Finding | None:
@@ -198,6 +206,7 @@ def of_joined_order(config: Source, trace: Source) -> Finding | None:
 def config_beside(name: str) -> str | None:
     """The one configuration in the folder of a file; None where there is none, or are several."""
     found = glob.glob(os.path.join(glob.escape(os.path.dirname(name)), "*.toml"))
+    found = [other for other in found if other != name]
     return found[0] if len(found) == 1 else None
 
 
