@@ -275,6 +275,8 @@ class People(ToolTest):
     def test_a_quota_of_nothing(self):
         found = self.explained([*JOINED, null(), wire()], CONFIG.replace("quota = 2", "quota = 0"))
         self.assertIn("with `quota = 0` no unit is kept", found)
+        self.assertIn("0 says that none may wait, and not that any number may", found)
+        self.assertIn("write how many units may wait, as `quota = 64`", found)
 
     @needs_program
     def test_stations_that_disassociated_are_known(self):

@@ -22,8 +22,9 @@ def losses(looked: Looked, relays: bool, keys: Keys) -> list[Reason]:
     found = [of_form(unit, line.octets)] if is_for_wire and wired_form(unit) is None else []
     if lost > len(found):
         whom = address_text(unit.destination) if is_here else "the group"
-        found.append(Reason(f"with `quota = 0` no unit is kept, and this is one for {whom}: 0 isn't no bound", None,
-                            f"write how many may wait, as `quota = 64`{keys.where('quota')}") if quota == 0 else
+        found.append(Reason(f"with `quota = 0` no unit is kept, and this one for {whom} would have to wait: 0 says "
+                            "that none may wait, and not that any number may", None,
+                            f"write how many units may wait, as `quota = 64`{keys.where('quota')}") if quota == 0 else
                      Reason(f"the unit for {whom} is above the quota: `quota = {quota}` units are kept already, of all "
                             "stations and the group", None, f"a larger `quota`{keys.where('quota', ',')} keeps more"))
     return found
