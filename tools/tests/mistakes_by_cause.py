@@ -114,7 +114,56 @@ AMONG_LINES = [
     traced("fault L2 line 1", f"{PROBE[:-1]}\n{PROBE}\ncurl: (6) Could not resolve host: x\n",
            "an odd number of digits"),
 ]
-TEXTS = [*SEVERAL_LINES, *TABLES_AND_KEYS, *SEPARATORS, *REPORTS, *AMONG_LINES]
+PACKED = bytes.fromhex(PROBE[2:].replace(" ", ""))
+# Texts of others, and what listings, pages, pagers and editors put around a text.
+TEXTS_OF_OTHERS = [
+    of_config("fault C1", f"[\n {{\n  \"ssid\": \"lab\"\n }}\n]\n", "my.toml:1:1", "this is JSON"),
+    of_config("fault C1", "ssid=lab\nchannel=6\nbeacon_int=100\ndtim_period=2\n", "a configuration of hostapd"),
+    of_config("fault C2", '[package]\nname = "x"\nversion = "0.1.0"\n', "none of its keys stands in it"),
+    of_config("fault C1", "package wireless\n\nconfig wifi-device 'radio0'\n\toption channel '6'\n",
+              "a configuration of OpenWrt"),
+    of_config("fault C1", "bssid,ssid,rates\n02:00:00:00:00:01,lab,82840b16\n", "a table, with `,` between its values"),
+    of_config("fault C1", "| key | value |\n|---|---|\n| channel | 6 |\n", "a table, with `|` between its values"),
+    of_config("fault C1", f"# A lab\n\nThis is it:\n\n```toml\n{CONFIG}```\n", "my.toml:3:1", "a page in Markdown",
+              "between the lines 5 and 34 alone"),
+    of_config("fault C1", "%YAML 1.2\n---\nchannel: 6\n", "this is YAML"),
+    of_config("fault C1", CONFIG.replace("\n", "$\n"), "my.toml:1:12", "as `cat -A` shows it", "so in lines 2, 3, 4"),
+    of_config("fault C1", f"{CONFIG}~\n~\n", "my.toml:29:1", "a mark of a pager or an editor", "so in line 30"),
+    of_config("fault C1", f"{CONFIG}(END)\n", "`(END)` is a mark of a pager"),
+    of_config("fault C1", "".join(f"my.toml:{line}\n" for line in CONFIG.split("\n")), "`my.toml:` stands before",
+              "a file's name", "write `version = 2`"),
+    traced("fault L1 line 1", "0.0\t02:aa:00:00:00:01\t02:00:00:00:00:01\t0x000b\n", "values separated by TABs",
+           "none of them is a frame's octets"),
+    traced("fault L1 line 1", "const char pkt1[] = {\n0x40, 0x00, 0x00, 0x00, /* @... */\n" +
+           ", ".join(f"0x{octet:02x}" for octet in PACKED[4:]) + "\n};\n", f"write `A {PACKED.hex()}` for the lines 1 to"),
+    traced("fault L1 line 1", f"Here it is:\n```\n{PROBE}\n```\n", "a page in Markdown", "the lines 2 and 4 alone"),
+    traced("fault L1 line 1", f"<pre>{PROBE}</pre>\n", "the source of a page (HTML)", f"write `{PROBE}`"),
+    traced("fault L1 line 2", f"A 0000 {PACKED[:16].hex(' ')}\n  0010 {PACKED[16:].hex(' ')}\nT\n",
+           "are places of a hex dump", f"write `A {PACKED.hex()}` for the lines 1 to 2"),
+]
+# A key that is missing, a value, a header, and what stands before or behind a frame.
+NEAR = [
+    changed("fault C1", "max_known = 16", "max_stations = 16", "`max_known` is missing, and may be meant",
+            "write `max_known = 16`"),
+    of_config("fault C3", CONFIG.replace("[[network]]\n", "", 1), "my.toml:6:1", "the line `[[network]]` is missing",
+              "in a line before `bssid`"),
+    changed("fault C1", "[[network]]", "--- network ---", "`--- network ---` begins no network", "write `[[network]]`"),
+    changed("fault C1", "channel = 6", "channel = {6}", "braces stand around the value", "write `channel = 6`"),
+    changed("fault C1", 'ssid = "lab"', 'ssid = # "lab"', "the value stands in it", 'write `ssid = "lab"`'),
+    changed("fault C1", 'rates = "82840b16"', 'rates = "8284 # 1', "missing before the remark",
+            'write `rates = "8284" # 1`'),
+    changed("fault C13 network 0", "aging = false", 'aging = "10s"', "write `aging = true`"),
+    changed("fault C10 network 0", "82840b16", "1(B), 2(B), 5.5, 11, [Mbit/sec]", "rates in Mb/s", '"82840b16"'),
+    changed("fault C10 network 0", "82840b16", "8284Ob16", "`O` is no hexadecimal digit", '`rates = "82840b16"`'),
+    *(traced("fault L2 line 1", f"A {before} {PROBE[2:]}\n", f"`{before}` stands before the digits",
+             f"write `{PROBE}`") for before in ("-40", "-40.5", "6", "30 bytes", "2437 MHz")),
+    traced("fault L2 line 1", f"{PROBE}  @....................\n", "the letters of its octets", "leave them out"),
+    traced("fault L2 line 1", f"{PROBE}\t\n", "a TAB among the digits", "leave it out"),
+    traced("fault L2 line 1", f"A {PROBE}\n", "the word `A` stands twice", f"write `{PROBE}`"),
+    traced("fault L1 line 1", f"`{PROBE}`\nT\n", "a backquote stands around the line"),
+    traced("fault L1 line 2", f"{PROBE}\nT$\n", "nothing follows `T`"),
+]
+TEXTS = [*SEVERAL_LINES, *TABLES_AND_KEYS, *SEPARATORS, *REPORTS, *AMONG_LINES, *TEXTS_OF_OTHERS, *NEAR]
 # Words of the program, as in the table of test_explain.py.
 WORDS = [
     (["run", "my.toml", "<", "my.trace"], "fault words", ["`<` is a sign of a shell", "and not standard input",

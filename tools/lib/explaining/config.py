@@ -366,7 +366,8 @@ def option_findings(config: Config, network: NetworkTable) -> list[Finding]:
         if entry is None:
             findings.append(missing(config, network.entries, key, in_network(config, network), config.place(network)))
         elif entry.value.kind != "truth":
-            seconds = key == "aging" and (entry.value.integer or 0) > 1
+            is_time = re.fullmatch(r"\d+ ?[a-zA-Z]+", str(entry.value.worth))
+            seconds = key == "aging" and ((entry.value.integer or 0) > 1 or is_time is not None)
             write = "true" if seconds else values.truth_of(str(entry.value.worth)) or SAMPLES[key]
             finding = wrong_kind(config, entry, key, "`true` or `false`, without quotes", write)
             findings.append(replace(finding, advice=f"{finding.advice}: a unit is kept as long as its station's listen "

@@ -12,6 +12,7 @@ from explaining.source import Finding, Place, Source, in_full, plain_letter, quo
 from frames import BROADCAST
 
 LEAST_GROUP, MOST_LOOKED = 7, 10_000  # digits of a group that is looked for in other lines, and how many of these
+LEAST_LETTERS = 4  # of a dump, at the right
 BETWEEN_DIGITS, MOST_AROUND, MOST_MARKS = ":-,.;|_", 20, 6
 NO_QUOTES = str.maketrans("", "", "\"'`")
 BEFORE_FRAME = re.compile("A +([0-9A-Fa-f]{2}(?::[0-9A-Fa-f]{2}){5}) +(?=[0-9A-Fa-f])")
@@ -24,7 +25,8 @@ REPEATED = re.compile(r"([0-9A-Fa-f]{2}|[0-9A-Fa-f])\s*(?:[*x\u00d7]\s*(\d+)|\{(
 NAMED_FIELDS = re.compile(r"(?<![\w.])(?=\w*(?:[g-zG-Z]|=))[A-Za-z]\w*[=:] *(?=[0-9A-Fa-f]{2})")
 ADDRESSES_AT = (8, 20, 32)  # digits before Address 1, 2 and 3
 WITH_LETTERS = re.compile(r"[\"']?([A-Za-z0-9_.!? -]*[g-zG-Z][A-Za-z0-9_.!? -]*)[\"']?$")
-TIME_BEFORE = re.compile(r"(\[?\d+[.:]\d[\d.:]*\]?) +(?=[0-9A-Fa-f]{4})")
+TIME_BEFORE = re.compile(r"(\[?\d+[.:]\d[\d.:]*\]?|[-+]\d+(?:\.\d+)? ?(?:dBm)?|"
+                         r"\d+ ?(?:dBm|MHz|ms|us|bytes|octets)|\d(?:\d\d)?) +(?=[0-9A-Fa-f]{4})")
 
 
 def octets_from(line: str) -> int:
@@ -47,6 +49,7 @@ def of_digits(source: Source, number: int, line: str, names: dict[str, str]) -> 
     parts: tuple[Callable[[], Finding | None], ...] = (
         lambda: copied_from_page(source, number, line), lambda: of_word(source, number, line, at),
         lambda: unfilled(source, number, line, at), lambda: of_time(source, number, line, begin, bssids),
+        lambda: of_letters_of_dump(source, number, line, at, bssids),
         lambda: behind_words(source, number, begin, bssids), lambda: of_letters(source, number, line, at, names),
         lambda: of_beginning(source, number, line, at), lambda: of_repeated(source, number, line, at),
         lambda: of_named_fields(source, number, line, begin, bssids), lambda: of_remark(source, number, line, at),
@@ -66,7 +69,7 @@ def of_word(source: Source, number: int, line: str, at: int) -> Finding | None:
 
 
 def of_time(source: Source, number: int, line: str, begin: int, bssids: list[str]) -> Finding | None:
-    """A time before the digits of a frame."""
+    """A time, a strength or another number before the digits of a frame."""
     found = TIME_BEFORE.match(line, begin)
     rest = re.sub("[^0-9A-Fa-f]", "", line[found.end():]) if found else ""
     if not found or values.address_fault(found[1]) is None or len(rest) % 2 or not is_like(rest, bssids):
@@ -75,6 +78,18 @@ def of_time(source: Source, number: int, line: str, begin: int, bssids: list[str
                    f"word",
                    source.place(number, begin + 1, len(found[1])),
                    f"write {in_full(line[:begin] + line[found.end():])}")
+
+
+def of_letters_of_dump(source: Source, number: int, line: str, at: int, bssids: list[str]) -> Finding | None:
+    """The letters that a dump shows at the right of a frame, one for each octet or some of them."""
+    begin = line.rfind("  ", 0, at + 1)
+    digits, letters = line[octets_from(line):begin].replace(" ", ""), line[begin:].strip() if begin >= 0 else ""
+    if len(letters) < LEAST_LETTERS or len(letters) > len(digits) // 2 or re.search("[^0-9A-Fa-f]", digits) or \
+            letters.count(".") * 2 < len(letters) or not is_like(digits, bssids):
+        return None
+    return Finding(f"{quoted(letters)} are the letters of its octets, as a hex dump shows them behind these, and a "
+                   "line ends with its digits", source.place(number, begin + 3, len(line) - begin - 2),
+                   "leave them out")
 
 
 def is_like(digits: str, bssids: list[str]) -> bool:
@@ -116,7 +131,7 @@ def of_beginning(source: Source, number: int, line: str, at: int) -> Finding | N
         return Finding("an address alone stands here, and a frame has more: Frame Control and Duration stand before it",
                        source.place(number, begin + 1, len(digits.strip())),
                        f"{called.document('FIRST_TRACE.md')} has lines to copy")
-    if line.startswith(("...", "\u2026"), at):
+    if line.startswith(("...", "\u2026"), at) and not line.startswith("....", at):
         dots = "..." if line[at] == "." else line[at]
         return Finding(f"`{dots}` stands for octets that were left out, and a line has all octets of its frame",
                        source.place(number, at + 1, len(dots)), "write them there")
@@ -171,6 +186,9 @@ def of_stray(source: Source, number: int, line: str, at: int) -> Finding | None:
         return Finding(f"digits stand without `{letter}` behind them", place, f"leave each `{letter}` out")
     if letter in "\"'`" and not re.search("[g-zG-Z]", line[at:]):
         return Finding("digits stand without quotes", place, f"write {in_full(line.translate(NO_QUOTES))}")
+    if letter == "#" and re.fullmatch("[0-9A-Fa-f ]{4,}", behind) and len(behind.replace(" ", "")) % 2 == 0:
+        return Finding("`#` stands among the digits of a frame, and what follows are digits of it too", place,
+                       f"write {in_full(f'{before.rstrip()} {behind.strip()}')}")
     if letter == "#":
         return Finding("a remark has a line of its own, and here one stands behind a frame", source.place(
             number, at + 1, len(line) - at), "move it to a line before this one")
@@ -184,7 +202,8 @@ def of_stray(source: Source, number: int, line: str, at: int) -> Finding | None:
     if letter in BETWEEN_DIGITS:
         return of_mark_between(line, at, place)
     if letter == "\t":
-        return Finding("a TAB among the digits; spaces alone may stand there", place, "write a space")
+        return Finding("a TAB among the digits; spaces alone may stand there", place,
+                       "write a space" if behind.strip() else "leave it out")
     if letter == "\r":
         return of_return(source, number, line, place)
     if letter == "\\" and behind.strip() == "":
@@ -272,6 +291,9 @@ def of_odd_digits(source: Source, number: int, line: str, begin: int, bssids: li
     count = len(line[begin:].replace(" ", ""))
     if count % 2 == 0:
         return None
+    before = of_time(source, number, line, begin, bssids)
+    if before:
+        return before
     second = glued_line(line, begin, bssids)
     if second is not None:
         return Finding("a second line begins here, with its word `A`, without a line end before it",

@@ -80,6 +80,9 @@ def of_second_line(source: Source, number: int, line: str) -> Finding | None:
     if not found:
         return None
     rest = line[found.start(1):]
+    if not line[1:found.start(1)].strip():
+        return Finding(f"the word `{rest[0]}` stands twice", source.place(number, found.start(1) + 1),
+                       f"write {in_full(rest)}")
     return Finding(f"a second line begins here, with its word `{rest[0]}`: each frame has a line of its own",
                    source.place(number, found.start(1) + 1, len(rest)), f"write {in_full(rest)} in the "
                                                                         f"next line")

@@ -36,7 +36,8 @@ HIDING = ("hidden", "hide_ssid", "ssid_hidden", "hide", "broadcast_ssid")
 ENCRYPTION = ("wpa", "psk", "pass", "key_mgmt", "rsn", "encrypt", "wep", "sae", "ieee80211w", "auth_algs", "security")
 HOSTAPD = ("interface", "driver", "bridge", "hw_mode", "ctrl_interface", "wmm_enabled", "country_code", "ht_capab",
            "ieee80211n", "ieee80211ac", "ieee80211d", "logger_syslog", "macaddr_acl", "ignore_broadcast_ssid",
-           "wpa_passphrase", "auth_algs", "wpa_key_mgmt")
+           "wpa_passphrase", "auth_algs", "wpa_key_mgmt", "beacon_int", "dtim_period", "max_num_sta",
+           "supported_rates", "basic_rates", "ap_isolate")
 
 
 def plain_key(key: str) -> str:

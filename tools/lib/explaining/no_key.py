@@ -22,7 +22,8 @@ WORD_BEFORE_KEY = re.compile(r"(export|set|let|var|local|const|uci "
                              r"([\w-]+)(?:\s*=\s*|\s+)(.+)")
 TYPED = re.compile(rf"\s*(:?\s*{TYPES})\s*=\s*", re.I)
 # What stands before each line of a listing, and before each line of a letter that is quoted.
-BEFORE_LINE = re.compile(r"\s*(\d+ *[:.)|]?|[|>*\u2022\u00b7\u25cf]+|-(?= ))\s*(?=[\w\"'\[#])")
+BEFORE_LINE = re.compile(r"\s*([\w/.-]*[A-Za-z][\w/.-]*:(?:\d+:)?(?=[\w\[\"'#])|"
+                         r"\d+ *[:.)|]?|[|>*\u2022\u00b7\u25cf]+|-(?= ))\s*(?=[\w\"'\[#])")
 ENTRY = re.compile(r"[\"']?([A-Za-z][\w-]*)[\"']?\s*[=:]|\[\[? *(\w+)")
 HEADERS = re.compile(r"\W*(\w+)\W*(?:[\"']?[\w .-]*[\"']?)\W*")
 
@@ -44,7 +45,7 @@ def of_number_before(source: Source, place: Place, text: str) -> Finding | None:
     if not found or not entry or not is_known(entry[1] or entry[2]):
         return None
     mark = found[1].strip()
-    what = "the number of the line" if mark[0].isdigit() else "a mark"
+    what = "the number of the line" if mark[0].isdigit() else "a file's name" if mark[0].isalpha() else "a mark"
     return Finding(f"{quoted(mark)} stands before this line, {what} as a listing or a quoted text has it",
                    source.place(place.line, found.start(1) + 1, len(mark)),
                    f"write `{line[found.end():].strip()}`, and take it off the other lines too")
@@ -68,7 +69,7 @@ def remark_mark(text: str) -> str:
 
 def of_remark(source: Source, place: Place, text: str) -> Finding | None:
     """A remark of another language."""
-    if not REMARK.match(text):
+    if not REMARK.match(text) or text.startswith("---") and is_network(text) or text.startswith("%YAML"):
         return None
     option = OPTION.fullmatch(text)
     if option and option[1].replace("-", "_") in LISTED:
@@ -101,7 +102,7 @@ def of_other_language(source: Source, place: Place, text: str) -> Finding | None
     if OPENWRT.fullmatch(text):
         return Finding(f"`{text.split()[0]}` begins a line of OpenWrt's configuration, and here a line is a key, `=` "
                        "and a value", place, "leave the line out, or write the program's own key")
-    if is_yaml(source, place.line):
+    if is_yaml(source, place.line) or text.startswith("%YAML"):
         return Finding("this is YAML, and a configuration is TOML", place, FOR_YAML)
     if text.startswith("<") and not is_network(text):
         return Finding("this is XML or HTML, and a configuration is TOML", place,
@@ -166,6 +167,10 @@ def of_bare_key(source: Source, place: Place, text: str) -> Finding | None:
     rest = text[words.end():].strip()
     if not rest:
         return Finding(f"`{words[0]}` has no value", place, f"write `{words[0]} = {SAMPLES.get(words[0], '..')}`")
+    braced = re.fullmatch(r"= *\{ *([^{}=]*?) *\}", rest)
+    if braced:
+        return Finding("braces stand around the value, and the value alone stands there", place.part(rest[1:].strip()),
+                       f"write `{words[0]} = {braced[1]}`")
     return Finding(f"`=` is missing after the key `{words[0]}`", place.part(text[words.end():len(text) - len(rest)]),
                    f"write `{words[0]} = {rest}`")
 

@@ -26,7 +26,7 @@ BRACED_SIGN = re.compile(r"(?<=[\w\"'])\s*:\s*(?=[\"'\d\[{tf])(?![0-9A-Fa-f]{2}[
 HUGE = re.compile(r"^[ \t]*[\w-]+[ \t]*=[ \t]*([+-]?[0-9][0-9_.]*[eE][+]?[0-9]{3,})", re.MULTILINE)
 NETWORK_OF_NAME = re.compile(r"^[ \t]*(\[\[? *network *\.[^\]\n]*\]\]?)", re.MULTILINE)
 NAMED_HEADER = re.compile(r"\s*\[+ *network[ :=\"'-]+(\w[\w .-]*?)[\"']? *\]*\s*")
-LEAST_KEYS = 3  # of a network, by which it is told from a key that was written twice
+LEAST_KEYS = 2  # of a network, by which it is told from a key that was written twice
 # A key with its value, and right behind it the beginning of what should be the next line.
 JOINED = re.compile(r"(\s*[\w-]+\s*=\s*(?:true|false|[0-9]+(?!T)|\"[^\"]*\"|'[^']*'))\s*"
                     r"(\[\[? *network *\]\]?|-{3,}|[AW] +[0-9A-Fa-f: ]{4,}|T)\s*")
@@ -72,7 +72,10 @@ def other_text(source: Source) -> Finding | None:
         return Finding("braces stand around the keys, as Nix, libconfig and other languages have them, and TOML has "
                        "none there", source.place(first), "write `channel = 6`, without braces and `;`, a line for "
                        "each key")
-    if line.startswith("{"):
+    told = of_access_point(source, first, False) if line.startswith(("{", "[")) else None
+    if told:
+        return told
+    if line.startswith("{") or re.match(r"\[\s*\{\s*[\"}]", source.text.strip()):
         return Finding("this is JSON, and a configuration is TOML", source.place(first),
                        "write `channel = 6`, without braces, a line for each key")
     keys = [line.split("=")[0].strip() for line in source.lines if "=" in line and not line.startswith("#")]
@@ -194,6 +197,10 @@ def of_closing(place: Place, line: str, expected: str, source: Source) -> Findin
                        f"write `{line.strip()} {following.strip()}`, or `\\n` where the line end is a part of it")
     found = re.match(r"\s*([\w-]+)\s*=\s*[\"']([^\"'#]*)([\"']?)\s*$", line)
     other = f", and {found[3]} stands there" if found and found[3] else ""
+    before = re.match(r"\s*([\w-]+)\s*=\s*[\"']([^\"'#]*[^\"'#\s])\s*(#.*)$", line)
+    if before and len(mark) == 1:
+        return Finding(f"{expected} is missing before the remark, which is a part of the text so", place,
+                       f"write `{before[1]} = \"{before[2]}\" {before[3].rstrip()}`")
     print_quote = QUOTES.search(found[2]) if found else None
     other = f", and {quoted(print_quote[0])} stands there, a quote of print" if print_quote else other
     return Finding(f"{expected} is missing{other}", place, f"a text begins and ends with {mark}" +
@@ -337,10 +344,16 @@ def of_key_twice(place: Place, line: str, fault: NoToml, source: Source) -> Find
         number = source.text.count("\n", 0, earlier.end()) + source.first
         line_text = f"; the first is in line {number}"
     rest = re.split(r"^\s*\[", source.text[fault.begin:], maxsplit=1, flags=re.MULTILINE)[0]
-    listed = {key for key in re.findall(r"^\s*([\w-]+)\s*=", rest, re.MULTILINE) if key in NETWORK_KEYS}
+    before = source.text[max(table_begin, 0):fault.begin]
+    keys = [re.findall(r"^\s*([\w-]+)\s*=", part, re.MULTILINE) for part in (before, rest)]
+    listed = {key for key in keys[1] if key in NETWORK_KEYS and key in keys[0]}
     if fault.key in NETWORK_KEYS and len(listed) >= LEAST_KEYS:
         return Finding(f"the keys of a second network begin here, and its line `[[network]]` is missing: `{fault.key}` "
                        f"stands a second time{line_text}", place, "write `[[network]]` in a line before this one")
+    lacks = [key for key in NETWORK_KEYS if key not in keys[0] + keys[1]]
+    if fault.key in NETWORK_KEYS and len(lacks) == 1 and source.text.startswith("[[network", table_begin):
+        return Finding(f"the key `{fault.key}` stands here a second time{line_text}; `{lacks[0]}` is missing, and may "
+                       "be meant", place, f"write `{lacks[0]} = {SAMPLES[lacks[0]]}`, or leave one out")
     return Finding(f"the key `{fault.key}` stands here a second time{line_text}", place,
                    "leave one out; the keys of another network stand below a `[[network]]` of its own")
 

@@ -4,6 +4,7 @@ import re
 from dataclasses import replace
 
 from explaining import values
+from explaining.in_remarks import is_value
 from explaining.keys import LISTED, NETWORK_LIMITS, OPTIONS, RADIO_LIMITS, SAMPLES, TEXT_KEYS, meant
 from explaining.no_key import remark_of
 from explaining.numbers_meant import number_finding
@@ -51,6 +52,9 @@ def of_value_of(place: Place, text: str, key: str) -> Finding:
                        f"`{key}` is `true` or `false`")
     if not text:
         return Finding(f"`{name}` has no value", place, f"write `{key} = {SAMPLES[key]}`" if key in SAMPLES else None)
+    if text.startswith("#") and is_value(text.lstrip("# ") or "#"):
+        return Finding(f"`{name}` has no value: `#` begins a remark, and the value stands in it", place,
+                       f"write `{name} = {text.lstrip('# ')}`")
     if text.startswith("#"):
         return Finding(f"`{name}` has no value: `#` begins a remark", place,
                        f'write `{name} = "{text}"` where it is the value' if key == "ssid" else

@@ -232,6 +232,7 @@ def of_run(text: str, notation: Notation, is_first: bool, place: re.Match[str] |
 
 def goes_on(text: str) -> bool:
     """Whether a row says that another one follows."""
+    text = re.sub(r"\s*(?:/\*.*\*/|//.*)\s*$", "", text)
     return bool(re.search(r"(?:[,\\\"'({\[]|\.\.\.)\s*$", text)) and not re.search(r"[\])}]\s*[,;]?\s*$", text)
 
 

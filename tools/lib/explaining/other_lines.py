@@ -33,7 +33,7 @@ def with_others(findings: list[Finding], faults: list[Fault], first: Fault,
     fault."""
     others = [fault for fault in faults if fault.line and first.line and fault.line > first.line]
     if len(findings) != 1 or findings[0].place is None or not others or \
-            SAID_ALREADY.search(findings[0].text + (findings[0].advice or "")):
+            SAID_ALREADY.search(findings[0].text + (findings[0].advice or "")) or is_opened(findings[0]):
         return findings
     finding, source = findings[0], findings[0].place.source
     same = [fault for fault in others[:MOST_LOOKED] if is_same(finding, explain_fault(fault))]
@@ -42,6 +42,11 @@ def with_others(findings: list[Finding], faults: list[Fault], first: Fault,
         finding = replace(finding, text=f"{finding.text}; so in {numbers(source, same)}")
     more = [Finding(f"{numbers(source, rest)} {'has' if len(rest) == 1 else 'have'} another fault")] if rest else []
     return [finding, *more]
+
+
+def is_opened(finding: Finding) -> bool:
+    """Whether a line opens JSON alone, so that the lines behind it belong to it."""
+    return finding.place is not None and finding.place.source.line(finding.place.line).strip() in ("{", "[", "[{")
 
 
 def numbers(source: Source, faults: list[Fault]) -> str:

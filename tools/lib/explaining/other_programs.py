@@ -7,9 +7,9 @@ from typing import NamedTuple
 import called
 from explaining.configuration import Config
 from explaining.keys import NETWORK_KEYS, OPTIONS, RADIO_KEYS, called_elsewhere, meant
-from explaining.source import Finding, Source
+from explaining.source import Finding, Source, quoted
 
-OPENWRT = re.compile(r"\s*(?:config\s+[\w-]+(?:\s+'[^']*'|\s+[\w-]+)?|option\s+\w+\s+.*|list\s+\w+\s+.*)")
+OPENWRT = re.compile(r"\s*(?:package\s+\w+|config\s+[\w-]+(?:\s+'[^']*'|\s+[\w-]+)?|option\s+\w+\s+.*|list\s+\w+\s+.*)")
 # A number, perhaps a time, and two addresses; or a heading of such a list.
 LISTED = re.compile(r"\"?\s*\d+\"?[\s,]+\"?\d+[.:]\d[\d.:]*\"?[\s,]+\"?\S.*(?:802\.11|"
                     r"\u2192|->)|\"?No\.\"?[\s,]+\"?Time\b")
@@ -17,7 +17,9 @@ MARKUP = re.compile(r"<[?!/]?[A-Za-z][\w:-]*(?: +[\w:-]+=[\"'][^>]*| */?)>|<[?!]
 COMMAND = re.compile(r"(?:tools/|waltigon-)?frame +(?:probe|auth|(?:re)?join|disassoc|deauth|data|null|poll|wired)\b")
 DUMP_HEAD = re.compile(r"(?:\d{4}-\d\d-\d\d )?\d\d:\d\d:\d\d\.\d{3,9} ")
 ADDRESS = r"[0-9A-Fa-f]{2}(?::[0-9A-Fa-f]{2}){5}"
+OF_ALL = ("version", "name", "address", "format", "type")  # keys that texts of many programs have
 LEAST_LINES, LEAST_KEYS, MOST_BESIDE = 2, 2, 1
+TABLE_MARKS = ("|", ",", ";", "\t")
 # A line of a trace, or one of a configuration with one of its keys.
 OWN = re.compile(r"(?:[AW] +[0-9A-Fa-f][0-9A-Fa-f: ]{9,}|T)|"
                  rf"(?:{'|'.join(RADIO_KEYS + NETWORK_KEYS + OPTIONS)}) = (?:[\"'\d]|true|false).*|\[\[network\]\]")
@@ -156,7 +158,8 @@ def of_capture() -> str:
 
 def of_uci(source: Source, number: int) -> Finding | None:
     """What `uci show` of OpenWrt prints."""
-    line = re.compile(r"(?P<command>(?:uci +(?:-q +)?)?(?:set|add_list) +)?(?:wireless|network)\.[\w@\[\].-]+=.*")
+    line = re.compile(r"(?P<command>(?:uci +(?:-q +)?)?(?:set|add_list) +)?"
+                      rf"(?:wireless\.[\w@\[\].-]+|network\.(?!.*\b(?:{'|'.join(NETWORK_KEYS)}) *=)[\w@\[\].-]+)=.*")
     found = next((match for text in source.lines if (match := line.fullmatch(text.rstrip()))), None)
     if found is None:
         return None
@@ -186,6 +189,10 @@ def without_keys(source: Source, number: int) -> Finding | None:
     lines = [line for line in source.lines if line.strip()]
     if len(lines) < LEAST_LINES or re.search(rf"(?i)\b(?:{keys})\b[\"']?\s*[=:]|\[\[? *network", source.text):
         return None
+    table = next((mark for mark in TABLE_MARKS if sum(mark in line for line in lines) == len(lines)), None)
+    if table and re.search(rf"(?i)\b(?:{keys})\b", source.text):
+        return Finding(f"this is a table, with {quoted(table)} between its values, and a configuration has a line for "
+                       "each key", whole_of(source, number), own_sample())
     if sum(bool(MARKUP.match(line.strip())) for line in lines) >= LEAST_LINES:
         return Finding("this is XML or HTML, and a configuration is TOML", whole_of(source, number), own_sample())
     return of_no_key(source, number)
@@ -196,7 +203,8 @@ def without_listed(config: Config) -> Finding | None:
     of_networks = config.networks or config.single
     inside = [part for table in (config.at_top, *(table.entries for table in config.strange))
               for entry in table for part in entry.key]
-    own = sum(called_elsewhere(part, RADIO_KEYS + NETWORK_KEYS + OPTIONS) is not None for part in inside)
+    own = sum(called_elsewhere(part, RADIO_KEYS + NETWORK_KEYS + OPTIONS) is not None for part in inside
+              if part not in OF_ALL)
     if of_networks or not config.top and not config.strange or any(meant(key, RADIO_KEYS) for key in config.top) or \
             own >= LEAST_KEYS:
         return None
@@ -228,7 +236,7 @@ def of_listing(source: Source, number: int) -> Finding | None:
     if LISTED.match(line):
         return Finding("this is a line of a list of frames, as Wireshark and tshark show it: it has no octets of the "
                        "frame", whole, capture)
-    if MARKUP.match(line):
+    if MARKUP.match(line) and not re.match(r"(?:<[^<>]*>)+(?:[AW] +[0-9A-Fa-f]|T *<)", line):
         return Finding("this is XML or HTML, and a trace has a line of its own for each frame", whole, capture)
     if COMMAND.match(line):
         return Finding("this is a command, and a trace has the line that it writes", whole,

@@ -20,9 +20,14 @@ COMMANDS = r"(?:(?:\.{0,2}|~|[\w.-]+)/[\w./-]+|cat|cd|ls|vi|vim|nano|less|head|t
 HOST = r"(?:[\w.-]+@[\w.-]+:?\S*)?"
 PROMPT = re.compile(rf"{HOST}\$ +[a-z./~][\w./-]*(?: .*)?|{HOST}% +{COMMANDS}(?: .*)?|[\w.-]+@[\w.-]+:[~/]\S*# .*")
 FENCE = re.compile(r"\s*(?:`{3}|~{3}).*")
+# Rows of a hex dump, of which the first one stands behind a word of a trace.
+FIRST_ROW = re.compile(r"([AW](?: +[0-9A-Fa-f:]{17})?) +(0{3,8}):? +((?:[0-9A-Fa-f]{2} *)+)")
+NEXT_ROW = re.compile(r" *([0-9A-Fa-f]{3,8}):? +((?:[0-9A-Fa-f]{2} *)+)")
+LEAST_ROWS = 2
 LEAST_PATCHED, MOST_AROUND = 2, 8
 TAG = re.compile(r"</?(?:br|p|pre|code|span|div|td|tr|th|table|b|i|u|tt|li|ul|ol|a|em|strong|html|body|font|kbd|samp)"
                  r"(?: [^<>]*)?/?>", re.I)
+PAGER = re.compile(r"\(END\)|~|--More--(?:\(\d+%\))?|:|lines \d+-\d+(?:/\d+)?(?: \(END\))?")
 COLOURS = re.compile("\x1b\\[[0-9;]*[A-Za-z]")
 HERE_DOCUMENT = re.compile(r"(?:sudo +)?(?:cat|tee|apctl|build/apctl)\b.*<<-? *[\"']?\w+[\"']?.*|EOF|EOT|HERE")
 ENTITY = re.compile(r"&(?:quot|amp|lt|gt|apos|nbsp|#\d+);")
@@ -51,18 +56,40 @@ def foreign(source: Source, number: int) -> Finding | None:
     mail = of_mail(source, number)
     if mail:
         return mail
-    if PATCH_HEAD.match(line):
+    if PATCH_HEAD.match(line) and (line[:3] != "---" or re.search(r"^(?:\+\+\+ |@@ )", source.text, re.M)):
         return Finding("this is a line of a patch (diff), which git or diff writes", whole,
                        "`patch` applies one to the text that it is of")
     if PATCHED.match(line) and is_patch(source):
         return Finding("a mark of a patch (diff) stands before this line", source.place(number, 1),
                        "`patch` applies one; else take the lines with `-` out, and each `+`")
+    shown = of_listing_marks(source, number)
+    if shown:
+        return shown
     if FENCE.fullmatch(line):
         return around(source, number, "this marks a piece of code in Markdown, and belongs to no configuration and no "
                       "trace", lambda other: bool(FENCE.fullmatch(other)))
     if PROMPT.fullmatch(line.rstrip()) and not line.startswith("#"):
         return around(source, number, "this is a command of a shell with its prompt, copied along with the text",
                       lambda other: bool(PROMPT.fullmatch(other.rstrip())) and not other.startswith("#"))
+    return None
+
+
+def of_listing_marks(source: Source, number: int) -> Finding | None:
+    """A mark that a command, a pager or an editor shows and that belongs to no text; or a line of a page in Markdown
+    around the piece of code that is meant."""
+    line, lines = source.line(number).rstrip(), [line.rstrip() for line in source.lines if line.strip()]
+    whole = source.place(number, 1, len(line) or 1)
+    if line.endswith("$") and len(lines) > 1 and all(line.endswith("$") for line in lines):
+        return Finding("`$` stands at the end of each line, as `cat -A` shows it", source.place(number, len(line)),
+                       "`sed 's/\\$$//'` takes it off")
+    if PAGER.fullmatch(line):
+        return around(source, number, f"{quoted(line)} is a mark of a pager or an editor, as `less` and vi show it, "
+                      "and belongs to no text", lambda other: bool(PAGER.fullmatch(other.rstrip())))
+    fences = [place for place, other in enumerate(source.lines, 1) if FENCE.fullmatch(other)]
+    if len(fences) > 1 and line and not FENCE.fullmatch(line) and not fences[0] < number < fences[-1]:
+        return Finding("this is a page in Markdown, and a part of it alone may be meant, between two marks of code",
+                       whole, f"give what stands between the lines {source.first + fences[0] - 1} and "
+                       f"{source.first + fences[1] - 1} alone")
     return None
 
 
@@ -163,6 +190,9 @@ def continued(source: Source, number: int, bssids: Iterable[str] = ()) -> Findin
         return Finding("a line begins with its word, which is missing here",
                        source.place(number, 1, len(line)).part(line.split()[0]),
                        f"write {in_full('A ' + line.strip())}")
+    dumped = of_places(source, number)
+    if dumped:
+        return dumped
     rows = [line.strip()]
     while re.fullmatch(r" *[0-9A-Fa-f]{2}[0-9A-Fa-f ]*", following := source.line(number + len(rows)).rstrip()):
         rows.append(following.strip())
@@ -172,6 +202,25 @@ def continued(source: Source, number: int, bssids: Iterable[str] = ()) -> Findin
                    f"write {in_full(' '.join([before, *rows]))}{lines}"
                    if len(rows) > 1 or before in "AW" else
                    f"write them behind that line, or {quoted('A ' + line.strip())} where they are a frame")
+
+
+def of_places(source: Source, number: int) -> Finding | None:
+    """Rows of a hex dump of which the first one stands behind a word: each begins with the place of its first octet."""
+    before = FIRST_ROW.fullmatch(source.line(number - 1).rstrip())
+    rows, count = [before[3]] if before else [], 0
+    while before and (row := NEXT_ROW.fullmatch(source.line(number + len(rows) - 1).rstrip())):
+        count += len(rows[-1].replace(" ", "")) // 2
+        if int(row[1], 16) != count:
+            break
+        rows.append(row[2])
+    if before is None or len(rows) < LEAST_ROWS:
+        return None
+    digits = "".join(rows).replace(" ", "")
+    return Finding(f"`{before[2]}` of the line before, and what stands before the digits here, are places of a hex "
+                   "dump, and a frame is one line without them",
+                   source.place(number, 1, len(source.line(number).rstrip())),
+                   f"write {in_full(f'{before[1]} {digits}')} for the lines {source.first + number - 2} to "
+                   f"{source.first + number + len(rows) - 3}")
 
 
 def unfilled(source: Source, number: int, line: str, at: int, advice: str | None = None) -> Finding | None:

@@ -9,6 +9,8 @@ from explaining.values import BASIC, MEGABITS, MOST_RATE, MOST_RATES, UNITS, dig
 # A rate of a list: its number, what marks it as a basic one, and its unit.
 LISTED_RATE = re.compile(r"(?P<before>[%*])?(?<![\d.])(?P<number>[0-9]+(?:\.[0-9]+)?)(?P<unit> ?(?:[MmKk](?:[Bb](?:it)?"
                          r"(?:ps|/s)?)?))?(?P<behind>\([A-Za-z]*\)|[*bB](?![A-Za-z0-9]))?")
+UNIT_BEHIND = re.compile(r"[,;\s]*[\[(][MmKk][Bb](?:it)?(?:ps|/s(?:ec)?)[\])]\s*$")
+LIKE_LETTERS = str.maketrans("OolI", "0011")
 # The rates of the parts of the standard, and words for all rates or a range of them.
 STANDARDS = {"b": "82840b16", "g": "82840b160c1218243048606c", "a": "8c129824b048606c"}
 STANDARD = re.compile(r"(?:ieee ?)?(?:802\.?11)? ?([abgn](?:[ /+,_-]*[abgn])*)(?: ?mode| ?only)?")
@@ -19,7 +21,7 @@ RANGE = re.compile(r"(?:mcs|ht|vht|he) ?\d*|\d+(?:\.\d)? ?(?:-|\.\.|to|\u2013) ?
 def listed_rates(text: str) -> str | None:
     """Digits for a list of rates in Mb/s, in units of 100 kb/s as hostapd has them, in kb/s, or in units of 500 kb/s as
     decimal numbers, where marks may say which are basic; None where a text lists none."""
-    plain = re.sub(r"\b(?:basic|mandatory|supported|optional|rates?|and)\b", " ", text)
+    plain = re.sub(r"\b(?:basic|mandatory|supported|optional|rates?|and)\b", " ", UNIT_BEHIND.sub("", text))
     plain = re.sub(r"[\[\]{}:]|\((?![A-Za-z])|(?<![A-Za-z])\)", " ", plain)
     plain = re.sub(r"(?<=\d),(?=5\b)", ".", plain) if re.search(r"\d,5\b", plain) and " " in text.strip() else plain
     if not re.fullmatch(rf"(?:{LISTED_RATE.pattern}|[,;/ \t|])+", plain):
@@ -90,7 +92,8 @@ def rates_fault(text: str) -> tuple[str, tuple[int, int], str | None] | None:
         digits = re.sub(r"0[xX]|[hH]\b|[^0-9A-Za-z]", "", text)
         is_meant = re.fullmatch("[0-9A-Fa-f]+", digits) and rates_fault(digits) is None and \
             re.search("[a-fA-F89]", digits)
-        mended = (without_header(digits) or digits) if is_meant or without_header(digits) else None
+        mended = (without_header(digits) or digits) if is_meant or without_header(digits) else \
+            rates_of_digits(text.translate(LIKE_LETTERS)) if text.translate(LIKE_LETTERS) != text else None
         return f"{quoted(stray[0])} is no hexadecimal digit", stray.span(), mended
     if not text:
         return "a network has at least one rate", whole, "82840b16"

@@ -10,7 +10,7 @@ from explaining.joined import of_fields, of_several_intervals, of_table, of_two_
 from explaining.no_key import INCLUDE, REMARK, remark_of
 from explaining.notations import behind_words, over_lines, shown_frame, whole_frame
 from explaining.of_access_point import of_access_point
-from explaining.other_programs import of_other_program, without_words
+from explaining.other_programs import of_capture, of_other_program, without_words
 from explaining.pasted import copied_from_page, foreign, foreign_to_trace, unfilled
 from explaining.report_lines import kind_of, of_report
 from explaining.source import Finding, Source, in_full, odd_blank, plain_letter, plain_text, quoted
@@ -76,7 +76,7 @@ def of_word(source: Source, number: int, line: str, bssids: list[str]) -> Findin
     several = of_several_intervals(line, whole)
     if several:
         return several
-    if first.rstrip("\r") == "T" or re.fullmatch(r"T[\r\t].*|T[;,.:!]+", line):
+    if first.rstrip("\r") == "T" or re.fullmatch(r"T[\r\t].*|T[;,.:!$]+", line):
         return of_tick(source, number, line)
     if "\r" in line:
         return with_returns(source, number, line)
@@ -86,6 +86,9 @@ def of_word(source: Source, number: int, line: str, bssids: list[str]) -> Findin
     table = of_fields(source, number, line) or of_table(source, number, line)
     if table:
         return table
+    if "\t" in first and line.count("\t") > 1 and line[:1].upper() not in OTHER_WORDS:
+        return Finding("this is a row of values separated by TABs, as `tshark -T fields` prints them: none of them is "
+                       "a frame's octets", whole, of_capture())
     if "\t" in first:
         return Finding("words are separated by spaces, and this is a TAB", source.place(number, line.index("\t") + 1),
                        "write spaces instead")
@@ -132,7 +135,8 @@ def of_first_word(source: Source, number: int, line: str, bssids: list[str]) -> 
                        "the network whose wire it is", place,
                        f"write {in_full(f'W {bssids[0] if bssids else SAMPLE} {rest}')}; {having(bssids)}")
     if word and first[:1] in QUOTES and line.rstrip()[1:][-1:] in CLOSING:
-        return Finding(f"{quoted(first[0])} stands around the line, and a trace has no quotes",
+        mark = "a backquote" if first[0] == "`" else quoted(first[0])
+        return Finding(f"{mark} stands around the line, and a trace has no quotes",
                        source.place(number, 1, len(line)),
                        f"write {in_full((word + ' ' + rest.strip()).strip() if word != 'T' else 'T')}")
     if word and word != first.upper() and not kind_of(line):

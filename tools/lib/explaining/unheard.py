@@ -8,7 +8,7 @@ from explaining.reason import Reason
 from explaining.repairs import ANSWERS, repaired
 from frames import (ASSOCIATION_REQUEST, AUTHENTICATION, BROADCAST, DATA, MANAGEMENT, PROBE_REQUEST,
                     REASSOCIATION_REQUEST, Frame, address_text, number)
-from in_words import address_word, name_in
+from in_words import address_word, name_in, octets_text
 
 NAMING = (PROBE_REQUEST, ASSOCIATION_REQUEST, REASSOCIATION_REQUEST)
 
@@ -19,7 +19,8 @@ def unheard(octets: bytes, networks: dict[bytes, str]) -> Reason | None:
         return Reason("no frame stands behind `A`: the line ends there", None,
                       f"write its digits, as {called.document('FIRST_TRACE.md')} has them")
     if len(octets) < LEAST_LEN:
-        return Reason(f"it has {len(octets)} octets, and no network takes fewer than {LEAST_LEN}", (0, len(octets)))
+        return Reason(f"it has {octets_text(len(octets))}, and no network takes fewer than {LEAST_LEN}",
+                      (0, len(octets)))
     frame = Frame(octets)
     for bssid in networks:
         reason = repaired(bssid, octets)

@@ -12,6 +12,7 @@ from explaining.toml_scan import Entry, Table
 from explaining.values import channel_of_frequency, truth_of
 from hostapd import NO, YES, Line, line_for
 
+LEAST_OF_NETWORK = 3  # keys of a network at the top, by which its header is missing
 MOST_KEYS_SHOWN, MOST_VALUE, MOST_LINES = 3, 60, 8
 NUMBERED = re.compile(r" \(this is network \d+\)")
 
@@ -35,7 +36,8 @@ def unlisted_findings(config: Config) -> list[Finding]:
     hidden = header_in_remark(config.source, 1, config.source.at(first, first + 1).line) if first is not None else None
     if hidden:
         return [of_header(hidden)]
-    if first is not None and not config.networks and config.single is None:
+    is_whole = len([key for key in config.top if key in NETWORK_KEYS + OPTIONS]) >= LEAST_OF_NETWORK
+    if first is not None and config.single is None and (not config.networks or is_whole):
         return [without_header(config)]
     findings = told_once([finding for _, finding in sorted(found, key=lambda pair: pair[0])])
     more = len(findings) - MOST_KEYS_SHOWN

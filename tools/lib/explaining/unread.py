@@ -59,7 +59,8 @@ def kind(bssid: bytes, octets: bytes) -> Reason:
     frame = Frame(octets)
     said = kind_text(octets)
     if frame.transmitter == bssid:
-        return Reason(f"{said}, which the network sends itself: a trace has what it hears", (0, 2))
+        return Reason(f"{said}, which the network sends itself: a trace has what it hears", (0, 2),
+                      "leave the line out: the program makes its networks' frames itself")
     if frame.type == MANAGEMENT and frame.subtype in FIXED:
         return Reason(f"{said}, which access points send, and none reads", (0, 2))
     if frame.is_qos:
@@ -87,7 +88,8 @@ def directions(_: bytes, octets: bytes) -> Reason:
         return Reason(f"To DS or From DS is 1 in {kind_text(octets)}, which has both 0", (1, 2),
                       f"write `{octets[1] & 0xFC:02x}`")
     if octets[1] & 3 == 3:
-        return Reason("To DS and From DS are 1: a frame with four addresses", (1, 2))
+        return Reason("To DS and From DS are 1: a frame with four addresses", (1, 2),
+                      f"a station's data has three: write `{octets[0]:02x}{octets[1] & 0xFC | 1:02x}`")
     said = "From DS is 1, so an access point sent it" if octets[1] & 2 else "To DS is 0"
     return Reason(f"{said}, and data of a station has To DS 1 and From DS 0", (1, 2),
                   f"write `{octets[0]:02x}{octets[1] & 0xFC | 1:02x}`")
