@@ -163,7 +163,19 @@ NEAR = [
     traced("fault L1 line 1", f"`{PROBE}`\nT\n", "a backquote stands around the line"),
     traced("fault L1 line 2", f"{PROBE}\nT$\n", "nothing follows `T`"),
 ]
-TEXTS = [*SEVERAL_LINES, *TABLES_AND_KEYS, *SEPARATORS, *REPORTS, *AMONG_LINES, *TEXTS_OF_OTHERS, *NEAR]
+SEPARATED = [
+    joined("fault C1", f"{CONFIG}--- the trace\n{PROBE}\n", "standard input:29:1", "words stand behind it",
+           "write `---` alone, and `# the trace` in a line before it"),
+    joined("fault C11 network 1", f"{CONFIG[:CONFIG.rindex('dtim')]}---\n{CONFIG[CONFIG.rindex('dtim'):]}{PROBE}\n",
+           "standard input:22:1", "the line `---` ends the configuration here, and `dtim = 3` behind it",
+           "write it where the trace begins"),
+    joined("fault L1 line 2", f"{CONFIG}---\n{PROBE}\n[[network]]\n", "this is a line of a configuration, and no trace"),
+    traced("fault L1 line 1", "interface=wlan0\nssid=lab\nhw_mode=g\nchannel=6\n", "a configuration of hostapd, and no"),
+    traced("fault L1 line 1", "02:aa:00:00:00:01 a phone\n02:aa:00:00:00:02 a printer # old\n",
+           "a list of names of stations, as `--names` of tools/status"),
+    of_config("fault C1", "02:aa:00:00:00:01 a phone\n", "a list of names of stations"),
+]
+TEXTS = [*SEVERAL_LINES, *TABLES_AND_KEYS, *SEPARATORS, *REPORTS, *AMONG_LINES, *TEXTS_OF_OTHERS, *NEAR, *SEPARATED]
 # Words of the program, as in the table of test_explain.py.
 WORDS = [
     (["run", "my.toml", "<", "my.trace"], "fault words", ["`<` is a sign of a shell", "and not standard input",
@@ -188,6 +200,9 @@ WORDS = [
     (["check", "run", "my.toml"], "fault words", ["two commands stand there, `check` and `run`"]),
     (["run", "my.trace", "my.toml", "my.trace"], "fault words", ["write `play my.toml my.trace my.trace`"]),
     (["r", "my.toml", "my.trace"], "fault words", ["no word `r`", "write `run my.toml my.trace`"]),
+    (["run", "my.toml", "my.trace", "-o", "my.report"], "fault words", [
+        "`-o` is no option of the program: its report goes to standard output", "`run my.toml my.trace > my.report`"]),
+    (["run", "--output=my.report", "my.toml", "my.trace"], "fault words", ["`run my.toml my.trace > my.report`"]),
 ]
 FILES = [
     (["check", "my.conf"], "fault file my.conf", ["`my.toml` is there, and may be meant"]),

@@ -55,7 +55,7 @@ def called_elsewhere(key: str, allowed: tuple[str, ...]) -> str | None:
 def meant(key: str, allowed: tuple[str, ...]) -> str | None:
     """The key among these that this one was meant for, by what it is called elsewhere or by likeness."""
     close = difflib.get_close_matches(plain_key(key), allowed, 1, 0.65)
-    within = next((word for word in re.split(r"[_.]", plain_key(key)) if word in allowed), None)
+    within = next((word for word in reversed(re.split(r"[_.]", plain_key(key))) if word in allowed), None)
     return called_elsewhere(key, allowed) or (close[0] if close else within)
 
 

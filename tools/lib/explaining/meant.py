@@ -27,6 +27,7 @@ TURNED = {"capability": "says no ESS", "beacon intervals": "is {value:,} beacon 
 ESS, PRIVACY, HIGH_BITS = 0x01, 0x10, 0xC000
 RSN, VENDOR, WPA = 48, 221, bytes.fromhex("0050f201")
 THIRD, STATUS, MOST_RATES = (16, 22), (4, 6), 4
+LEAST_ZEROS = 2
 LEAST_SELECTOR = 122  # from here on stand among rates what a station has to be able to do, as HT (9.4.2.3)
 
 
@@ -69,8 +70,8 @@ def doubtful(looked: Looked, relay: Relay) -> Reason | None:
             of_encryption(frame) or strange_rates(frame) or of_departure(looked, frame) or dropped or \
             of_association(looked, frame) or of_mode(frame) or of_disassociation(looked, frame)
     if frame.type == MANAGEMENT:
-        return of_status(frame) or of_authentication(looked, frame) or second_name(frame) or dropped or \
-            strange_rates(frame) or of_mode(frame)
+        return of_status(frame) or early_fields(frame) or of_authentication(looked, frame) or second_name(frame) or \
+            dropped or strange_rates(frame) or of_mode(frame)
     if is_poll(frame):
         return of_identifier(frame)
     if frame.type != DATA or frame.subtype != PLAIN_DATA:
@@ -193,12 +194,29 @@ def second_name(frame: Frame) -> Reason | None:
         at_place += 2 + len(octets)
     first, name = places[0] if places else (0, b"")
     second = next((other for _, other in places[1:] if other and other != name), None)
+    zeros = len(frame.octets) - len(frame.octets.rstrip(b"\0"))
+    if second is None and name and zeros >= LEAST_ZEROS and any(not other for _, other in places[1:]):
+        return Reason(f"{zeros} zeros stand at its end, and are read as empty elements of the ID 0 (SSID), which say "
+                      "nothing", (len(frame.octets) - zeros, len(frame.octets)),
+                      "leave them out: a frame ends with its last element, without a frame check sequence and without "
+                      "padding")
     if second is None:
         return None
     which = ssid_text(name) if name else "an empty one, which names any network"
     more = "; a probe request has no fields before its elements" if frame.subtype == PROBE_REQUEST else ""
     return Reason(f"two SSID elements stand in it, and the first one counts, {which}; the second one has "
                   f"{ssid_text(second)}", (first, first + 2 + len(name)), f"leave one of them out{more}")
+
+
+def early_fields(frame: Frame) -> Reason | None:
+    """The fields of an association request before the elements of a probe request, which has none: they are read as
+    elements without octets."""
+    body = frame.body
+    if not frame.is_management(PROBE_REQUEST) or body[:2] != bytes([ESS, 0]) or body[3:5] != bytes(2):
+        return None
+    return Reason(f"`{body[:4].hex()}`, Capability Information and Listen Interval as in an association request, stand "
+                  "before the elements, and a probe request begins with its elements", (HEADER_LEN, HEADER_LEN + 4),
+                  f"leave `{body[:4].hex()}` out")
 
 
 def of_destination(looked: Looked, frame: Frame, relay: Relay) -> Reason | None:

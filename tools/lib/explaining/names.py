@@ -13,6 +13,7 @@ from reading import FIXED_LEN
 MOST_NAME, LIKE, MOST_NAMED = 32, 0.6, 4
 CURRENT_AT = 28  # where Current AP Address begins in a reassociation request
 QUOTES = (b'"', b"'", b"`")
+NO_MARKS = str.maketrans("", "", ":-. ")
 BLANKS = b" \t\r\n\0"
 WIDE = ("utf-16-le", "utf-16-be")
 
@@ -49,7 +50,15 @@ def name_reason(octets: bytes, names: dict[bytes, bytes], bssid: bytes, homes: C
             if bssid in homes and owner not in homes else f"write `{owner.hex()}` for `{bssid.hex()}`"
         return Reason(f"it names {ssid_text(asked)}, the network {owner.hex(':')}, and is to {bssid.hex(':')}, "
                       f"{ssid_text(names[bssid])}", span, advice)
-    return unknown_name(asked, sorted(set(names.values())), span)
+    return of_address(asked, names, span) or unknown_name(asked, sorted(set(names.values())), span)
+
+
+def of_address(asked: bytes, names: dict[bytes, bytes], span: tuple[int, int]) -> Reason | None:
+    """A network's address as a name, as digits or as octets."""
+    digits = asked.decode("latin-1").lower().translate(NO_MARKS)
+    owner = next((bssid for bssid in names if asked == bssid or digits == bssid.hex()), None)
+    return Reason(f"its SSID is the address {owner.hex(':')}, and a network is asked for by its name: "
+                  f"{ssid_text(names[owner])}", span, f"write `{element(names[owner])}`") if owner else None
 
 
 def without_current(frame: Frame, begin: int) -> Reason | None:

@@ -324,7 +324,7 @@ def of_python(source: Source, number: int, begin: int) -> Finding | None:
 def of_json(source: Source, number: int, begin: int, addresses: set[bytes]) -> Finding | None:
     """A frame within JSON, as tshark and scripts write it: a text of digits, or a list of numbers."""
     line = source.line(number).rstrip()
-    if begin or not JSON.match(line):
+    if begin or not JSON.match(line) or re.match(r"\[\[? *[A-Za-z]", line):
         return None
     try:
         value = json.JSONDecoder().raw_decode("\n".join(source.lines[number - 1:]).lstrip())[0]

@@ -11,6 +11,7 @@ from explaining.source import Finding, quoted
 # What a shell reads itself, where no quotes stand around it.
 SHELL = re.compile(r"\d?>>?(?:&\d)?\S*|<{1,3}\S*|\|{1,2}|&{1,2}|;|2>&1")
 PLACES = ("CONFIG", "TRACE", "TRACE...", "FILE", "FILES", "LINES", "NAME", "<CONFIG>", "<TRACE>", "[TRACE]", "<FILE>")
+OUTPUT, LEAST_WITH_OUTPUT = re.compile(r"(?:-o|--(?:out(?:put)?|report|save|write)(?:-file)?)(?:=.+)?"), 5
 INTERFACE = re.compile(r"(?:wlan|wlp\w|wlx\w|wl|ath|ra|phy|eth|mon|en\w|radio)\d+\w*")
 FORMS = {1: "check", 2: "run"}  # by the number of files
 PORT = re.compile(r"(?:[\w.-]+|\[[0-9a-f:]+\])?:\d{1,5}|\d+(?:\.\d+){3}")
@@ -19,6 +20,9 @@ WEB, WINDOWS = re.compile(r"[a-z]+://.*"), re.compile(r"[A-Za-z]:[\\/].*|.*\\.+"
 
 def of_shell(words: list[str]) -> Finding | None:
     """A word that a shell acts on where it stands alone and without quotes."""
+    output = of_output(words)
+    if output:
+        return output
     at = next((at for at, word in enumerate(words) if at and SHELL.fullmatch(word) and not os.path.lexists(word)), None)
     if at is None:
         return None
@@ -29,6 +33,21 @@ def of_shell(words: list[str]) -> Finding | None:
                        f"write `{shlex.join([word for word in words if word != '<'])}`")
     return Finding(said, None, f"in a shell write `{shlex.join(words[:at])} {' '.join(words[at:])}`, without quotes "
                    f"around {quoted(words[at])}")
+
+
+def of_output(words: list[str]) -> Finding | None:
+    """An option that names the file of the report, which goes to standard output."""
+    at = next((at for at, word in enumerate(words)
+               if at and OUTPUT.fullmatch(word) and not os.path.lexists(word)), None)
+    if at is None or words[0] not in ("run", "play"):
+        return None
+    option, sign, value = words[at].partition("=")
+    name = value if sign else "".join(words[at + 1:at + 2])
+    if not name or os.path.lexists(name) and not sign and len(words) < LEAST_WITH_OUTPUT:
+        return None
+    rest = words[:at] + words[at + (1 if sign else 2):]
+    return Finding(f"{quoted(option)} is no option of the program: its report goes to standard output", None,
+                   f"write `{shlex.join(rest)} > {shlex.quote(name)}`")
 
 
 def of_joined_words(words: list[str], commands: Collection[str]) -> Finding | None:

@@ -8,6 +8,7 @@ from explaining.report_lines import GOOD
 from explaining.source import Finding, Source
 
 LIVE = called.fellow("live")
+NAMED = re.compile(r"\s*(?:[0-9A-Fa-f]{2}:){5}[0-9A-Fa-f]{2}\s+(?![0-9A-Fa-f]{4})\S.*")
 # When and where: as the system's log has it before each line.
 SYSTEM = r"(?:[A-Z][a-z]{2} [ \d]\d \d\d:\d\d:\d\d|\d{4}-\d\d-\d\dT[\d:.,]+\S*|\d+\.\d+) \S+ "
 TELLS = ((re.compile(rf"(?:{SYSTEM}waltigon[\w@.-]*(?:\[\d+\])?: .*|(?:{SYSTEM}\S+ )?(?:<\d>)?"
@@ -22,6 +23,9 @@ def of_access_point(source: Source, number: int, is_trace: bool) -> Finding | No
     """What an access point tells, where this line, or the text that begins with it, is that."""
     line = source.line(number).rstrip()
     what = next((what for pattern, what in TELLS if pattern.fullmatch(line)), None) or own_json(source, number)
+    lines = [other.partition("#")[0] for other in source.lines if other.partition("#")[0].strip()]
+    if what is None and lines and line.strip() and all(map(NAMED.fullmatch, lines)):
+        what = f"a list of names of stations, as `--names` of {called.fellow('status')} reads it"
     if what is None:
         return None
     is_among = is_trace and any(GOOD.fullmatch(other) for other in source.lines)

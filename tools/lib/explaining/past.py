@@ -1,5 +1,6 @@
 """What became of each station in each network: the line in which it lost what it had, or was refused."""
 from bisect import bisect_right
+from collections import Counter
 from collections.abc import Callable, Iterable
 
 from explaining.line_by_line import Step
@@ -46,6 +47,7 @@ class Past:
         self.coming = {Lack(frame.octets[4:10], frame.transmitter, True): line_number(number)
                        for number, frame in frames if frame.is_management(ASSOCIATION_REQUEST)}
         self.hosts = {line.octets[6:12] for line in lines if line.kind == "W"}
+        self.destinations = Counter(pair[6:] for pair, numbers in self.units.items() for _ in numbers)
         self.wired = {line.bssid for line in lines if line.kind == "W"}
         self.reflected = Reflected(lines)
         self.told: dict[tuple[bytes, bytes], str] = {}
@@ -106,8 +108,8 @@ class Past:
                 and not any(frame.is_management(AUTHENTICATION) for _, frame in frames)]
 
     def is_named(self, bssid: bytes, address: bytes) -> bool:
-        """Whether a line has an address as that of a sender on the air or on a wire."""
-        return self.is_own(bssid, address) or address in self.hosts or \
+        """Whether a line has an address as that of a sender on the air or on a wire, or several as a destination."""
+        return self.is_own(bssid, address) or address in self.hosts or self.destinations[address] > 1 or \
             any(pair[6:] == address for pair in self.sending)
 
     def never_joins(self, bssid: bytes, station: bytes) -> bool:

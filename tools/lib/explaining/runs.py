@@ -11,6 +11,7 @@ from explaining.hearing import Hearing
 from explaining.in_remarks import names_cut, networks_in_remarks
 from explaining.intervals import of_each_network
 from explaining.kept import GroupUnits, of_kept
+from explaining.likeness import likeness
 from explaining.line_by_line import steps
 from explaining.lines_in_one import of_joined_frames
 from explaining.nothing import line_in
@@ -25,12 +26,13 @@ from explaining.spans import also_in, place_of, place_of_octets
 from explaining.statuses import name_asked_for, of_full_table, of_statuses
 from explaining.trace_remarks import Remarks, unmask
 from explaining.unread import unread, wired_unread
-from explaining.wired_types import TYPES, of_wired_types
+from explaining.wired_types import TYPES, of_wired_types, packet_type
 from frames import BROADCAST, DATA, Frame, address_text, is_group, number
 from progress import Progress
 from texts import Line, frames_text, read_report, trace_line
 
 MOST_NAMED, MOST_UNITS, QOS, QOS_NULL = 3, 8, 0x80, 12
+VERSION = 3  # bits of the first octet
 RECEIVER, SENDER, WIRED_LEN = (4, 10), (10, 16), 14
 MAKES_TRACES = called.fellow("trace-from-capture")
 # What has its frame check sequence on, by the word of a line: where it was, and what to do.
@@ -127,7 +129,9 @@ def of_trace(lines: list[Line], hearings: list[Hearing], has_separator: bool, tr
                                 "without it", place_of(traces, front, (0, number(front.octets[2:4]))),
                                 f"{MAKES_TRACES} takes it off"))
     else:
-        findings += of_receivers(frames, hearings, traces, told) + of_ethernet(frames, hearings, traces)
+        wired = wired_among(frames, hearings)
+        findings += of_receivers(frames, hearings, traces, told | {line.number for line in wired})
+        findings += of_ethernet(wired, hearings, traces)
     findings += of_joined_frames(lines, (hearing.section.bssid for hearing in hearings), traces)
     findings += of_check_sequences(lines, traces) + of_wired_types(lines, traces)
     return findings
@@ -207,15 +211,23 @@ def of_untaken(frames: list[Line], hearings: list[Hearing], traces: list[Source]
                     f"the networks have {names}; `{MAKES_TRACES} --heard-only` leaves other frames out of a trace")]
 
 
-def of_ethernet(frames: list[Line], hearings: list[Hearing], traces: list[Source]) -> list[Finding]:
-    """Frames on the air that are frames of a wire, by their type and an address before it that occurs in the run."""
+def wired_among(frames: list[Line], hearings: list[Hearing]) -> list[Line]:
+    """Frames on the air that are frames of a wire, by their type and an address before it that occurs in the run, or by
+    their type and what makes of their first octets no frame of the air."""
     known = {BROADCAST} | {hearing.section.bssid for hearing in hearings}
     known |= {station.address for hearing in hearings for station in hearing.section.stations}
-    wired = [line for line in frames if line.octets[12:14] in TYPES and known & {line.octets[:6], line.octets[6:12]}]
+    return [line for line in frames if line.octets[12:WIRED_LEN] in TYPES and (
+        known & {line.octets[:6], line.octets[6:12]} or not likeness(line.octets, known) and (
+            line.octets[0] & VERSION or packet_type(line.octets[WIRED_LEN:]) == line.octets[12:WIRED_LEN].hex()))]
+
+
+def of_ethernet(wired: list[Line], hearings: list[Hearing], traces: list[Source]) -> list[Finding]:
+    """Frames on the air that are frames of a wire."""
     if not wired:
         return []
     bssid = address_text(hearings[0].section.bssid)
-    return [Finding(f"{frames_text(len(wired))} behind `A`, for what was heard on the air, begin as Ethernet's do: "
+    begin = "begins as Ethernet's does" if len(wired) == 1 else "begin as Ethernet's do"
+    return [Finding(f"{frames_text(len(wired))} behind `A`, for what was heard on the air, {begin}: "
                     "with two addresses and a type", place_of(traces, wired[0], (0, WIRED_LEN)),
                     f"a frame that came over the wire of a network stands behind `W` and its BSSID, as `W {bssid}`")]
 

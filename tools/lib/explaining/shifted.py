@@ -5,6 +5,7 @@ from collections.abc import Iterable
 from explaining.reason import Reason
 from explaining.repairs import repaired
 from explaining.wired_types import TYPES, packet_type
+from fields import type_name
 from frames import DATA, HEADER_LEN, PLAIN_DATA, Frame
 from reading import SNAP, hears, unread_kind, wired_unread_kind
 from texts import Line
@@ -42,6 +43,11 @@ def on_wire(octets: bytes) -> Reason | None:
     """A frame of a wire with its type before the place where it stands."""
     if octets[WIRED_TYPE:WIRED_TYPE + TYPE_LEN] in TYPES:
         return None
+    alone = packet_type(octets)
+    if alone:
+        return Reason(f"a packet of {type_name(int(alone, 16))} stands alone, and a frame on a wire begins with its "
+                      "destination, its source and its type", (0, 2),
+                      f"write the two addresses and `{alone}` before it")
     is_unread = wired_unread_kind(octets) is not None
     for missing, what in ((1, "an octet is"), (ADDRESS_LEN, "an address is")):
         begin = WIRED_TYPE - missing

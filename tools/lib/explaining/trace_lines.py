@@ -2,12 +2,14 @@
 import difflib
 import re
 
+import called
 from explaining import values
 from explaining.answers import Fault
 from explaining.file_kinds import is_binary, other_file
 from explaining.digits_meant import is_like, octets_from, of_digits, with_returns
 from explaining.joined import of_fields, of_several_intervals, of_table, of_two_words
 from explaining.no_key import INCLUDE, REMARK, remark_of
+from explaining.keys import HOSTAPD
 from explaining.notations import behind_words, over_lines, shown_frame, whole_frame
 from explaining.of_access_point import of_access_point
 from explaining.other_programs import of_capture, of_other_program, without_words
@@ -208,6 +210,9 @@ def of_foreign_line(source: Source, number: int, line: str, bssids: list[str]) -
     report = of_report(source, number)
     if report:
         return report
+    if sum(other.partition("=")[0].strip() in HOSTAPD for other in source.lines) > 1:
+        return Finding("this is a configuration of hostapd, and no trace", place,
+                       f"{called.fellow('config-from-hostapd')} makes a configuration of it; a trace is another text")
     if re.match(r"[a-z_]+ *= *\S|\[\[?network", line):
         return Finding("this is a line of a configuration, and no trace", place,
                        "a configuration stands before the line `---`, or in a file of its own: `run CONFIG TRACE`")

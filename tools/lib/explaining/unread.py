@@ -155,7 +155,8 @@ def wired_unread(bssid: bytes, octets: bytes) -> Reason | None:
                       f"leave `{bssid.hex()}` out")
     if rule == "U1":
         return Reason(f"a frame of a wire has at least {LEAST_WIRED} octets (destination 6, source 6, type 2), and "
-                      f"here {len(octets)}", (0, len(octets)))
+                      f"here {len(octets)}", (0, len(octets)), "write the type behind the addresses: IPv4 is `0800`"
+                      if len(octets) == 2 * ADDRESS_LEN else None)
     if rule == "U8":
         return Reason(f"{len(octets) - LEAST_WIRED:,} octets follow the type, and at most {MOST_PAYLOAD:,} may",
                       (LEAST_WIRED + MOST_PAYLOAD, len(octets)))

@@ -9,8 +9,10 @@ import called
 from explaining import (as_they_come, config, configuration, in_remarks, no_key, no_toml, octet_records, odd_config,
                         other_lines, other_programs, runs, trace_lines, words)
 from explaining.answers import Answer, Fault, read_fault, said_already
+from explaining.keys import LISTED
 from explaining.line_by_line import Unanswered
-from explaining.source import Finding, Source
+from explaining.separators import TRACE_LINE
+from explaining.source import Finding, Source, quoted
 from explaining.toml_scan import NoToml
 from texts import TextError
 
@@ -19,6 +21,7 @@ STANDARD_INPUT, ENDED_WELL = "standard input", "the program ended well"
 # How many faults of lines are looked at, how many causes are told of them, and how many numbers behind each.
 MOST_LIVE_FAULTS, MOST_LIVE_GROUPS, MOST_NUMBERS = 200, 5, 10
 QUOTED = re.compile("`[^`]*`")
+OWN_KEY = re.compile(rf"(?:{'|'.join(LISTED)}) *=|\[\[network\]\]")
 NOTHING_FOUND = f"no reason was found: {called.document('FORMATS.md')} says of each fault what to look at"
 
 
@@ -118,6 +121,9 @@ def findings_of(texts: Texts, fault: Fault) -> list[Finding]:
     swapped = of_order(texts) if fault.code == "C1" else of_first_line(texts) if fault.code == "C2" else None
     if swapped:
         return [swapped]
+    early = of_early_separator(texts) if fault.code.startswith("C") else None
+    if early:
+        return [early]
     if fault.code == "C1":
         return no_toml.explain(texts.config, texts.is_joined) if texts.config else []
     if fault.code.startswith("C") and texts.config:
@@ -174,7 +180,7 @@ def of_order(texts: Texts) -> Finding | None:
     if texts.words[:1] not in ([name] for name in words.SUBCOMMANDS) or texts.config is None:
         return None
     first = next((line for line in texts.config.lines if line.strip() and not line.startswith("#")), "")
-    if not no_toml.TRACE_LINE.fullmatch(first) or "[[network]]" in texts.config.text:
+    if not TRACE_LINE.fullmatch(first) or "[[network]]" in texts.config.text:
         return None
     if texts.words[0] == "check":
         config_name = config_beside(texts.config.name) or "CONFIG"
@@ -196,7 +202,7 @@ def of_order(texts: Texts) -> Finding | None:
 def of_joined_order(config: Source, trace: Source) -> Finding | None:
     """A text with its trace before the line `---`, and its configuration behind it."""
     first = next((number for number, line in enumerate(config.lines, 1) if line.strip() and line[:1] != "#"), None)
-    if first is None or not no_toml.TRACE_LINE.fullmatch(config.line(first)) or "[[network]]" in config.text or \
+    if first is None or not TRACE_LINE.fullmatch(config.line(first)) or "[[network]]" in config.text or \
             "[[network]]" not in trace.text:
         return None
     return Finding("the trace stands before the line `---`, and the configuration behind it: the configuration comes "
@@ -208,6 +214,19 @@ def config_beside(name: str) -> str | None:
     found = glob.glob(os.path.join(glob.escape(os.path.dirname(name)), "*.toml"))
     found = [other for other in found if other != name]
     return found[0] if len(found) == 1 else None
+
+
+def of_early_separator(texts: Texts) -> Finding | None:
+    """A line `---` within the configuration, whose other lines follow it."""
+    trace = texts.traces[0] if texts.is_joined and texts.has_separator and texts.traces else None
+    first = next((number for number, line in enumerate(trace.lines, 1) if line.strip() and line[0] != "#"), 0) \
+        if trace else 0
+    if trace is None or not OWN_KEY.match(trace.line(first)) or not texts.config or not texts.config.text.strip():
+        return None
+    whole = Source(trace.name, SEPARATOR, trace.first - 1).place(1, 1, len(SEPARATOR))
+    behind = quoted(trace.line(first).strip())
+    return Finding(f"the line `---` ends the configuration here, and {behind} behind it is a line of a configuration",
+                   whole, "take this line out, and write it where the trace begins")
 
 
 def of_first_line(texts: Texts) -> Finding | None:

@@ -34,7 +34,9 @@ def of_source(looked: Looked, to: bytes, source: bytes) -> Reason | None:
 
 def of_nobody(looked: Looked, to: bytes) -> Reason | None:
     """A frame for the group that comes before any station has associated, which one does later."""
-    later = [(number, lacks.station) for lacks, number in looked.past.coming.items() if lacks.bssid == looked.bssid]
+    here = looked.past.line_number(looked.step.line.number)
+    later = [(number, lacks.station) for lacks, number in looked.past.coming.items()
+             if lacks.bssid == looked.bssid and number > here]
     if not is_group(to) or looked.associated() or not later:
         return None
     number, station = min(later)

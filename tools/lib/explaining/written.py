@@ -6,6 +6,7 @@ from itertools import accumulate
 
 from explaining.reason import Reason
 from explaining.spans import BEFORE_DIGITS
+from explaining.wired_types import packet_type
 from frames import BROADCAST, CONTROL, PS_POLL, Frame
 from in_words import octets_text
 from texts import Line
@@ -13,11 +14,12 @@ from texts import Line
 ADDRESS_LEN, LEAST_GROUPS, MOST_OFF = 6, 3, 2
 PREAMBLE, DELIMITER, LEAST_PREAMBLE = bytes([0x55] * 7), b"\xd5", 4
 NUMBERS = {ADDRESS_LEN: "an address has six", 2: "it has two"}
+TYPE = "the type"
 Fields = tuple[tuple[str, int], ...]
 HEADER: Fields = (("Frame Control", 2), ("Duration", 2), ("Address 1", ADDRESS_LEN), ("Address 2", ADDRESS_LEN),
                   ("Address 3", ADDRESS_LEN), ("Sequence Control", 2))
 POLL: Fields = (("Frame Control", 2), ("AID", 2), ("Address 1", ADDRESS_LEN), ("Address 2", ADDRESS_LEN))
-WIRED: Fields = (("the destination", ADDRESS_LEN), ("the source", ADDRESS_LEN), ("the type", 2))
+WIRED: Fields = (("the destination", ADDRESS_LEN), ("the source", ADDRESS_LEN), (TYPE, 2))
 
 
 @dataclass(frozen=True)
@@ -115,8 +117,9 @@ class Slip:
         span = self.begin, self.begin + len(octets)
         if abs(len(octets) - size) <= MOST_OFF and fits(self.fields[self.place + 1:], self.groups[1:]):
             meant = known.meant(name, octets)
+            kind = packet_type(self.frame[span[1]:]) if name == TYPE else None
             return Reason(f"{name} has {octets_text(len(octets))}, and {NUMBERS[size]}", span,
-                          f"write `{meant.hex()}`" if meant else None)
+                          f"write `{meant.hex() if meant else kind}`" if meant or kind else None)
         if fits(self.fields[self.place + 1:], self.groups):
             write = "the identifier, as `01c0` for 1," if name == "AID" else "`0000`"
             return Reason(self.missing(name, size, known), span,
