@@ -393,6 +393,10 @@ class People(ToolTest):
                                   capture_output=True, check=False, cwd=self.folder)
         self.assertIn("the trace is on standard input, which `run` doesn't read\n  write `run my.toml "
                       "my.trace`", done.stdout)
+        with open(self.path("my.trace"), encoding="ascii") as file:
+            done = subprocess.run([os.path.join(ROOT, "tools", "explain"), "my.toml"], stdin=file, text=True,
+                                  capture_output=True, check=False, cwd=self.folder)
+        self.assertIn("standard input, my.trace, isn't read then: write `tools/explain my.toml my.trace`", done.stdout)
 
 
 class OddNames(unittest.TestCase):

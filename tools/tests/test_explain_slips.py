@@ -35,6 +35,16 @@ CASES = [
      ["no network is called"]),
     ([f"A 4000 0000 ffffffffffff {STATION} ffffffffffff 0000 0006{CELLAR} {RATES}"],
      ["its SSID is the address 02:00:00:00:00:02", "by its name: `cellar`"], []),
+    # lines that were cut within their last element, and digits of digits
+    ([auth(THIRD), join(THIRD)[:-6]],
+     ["my.trace:6:84", "the element Supported Rates says that it has 4 octets, and 1 follows",
+      "or the frame was cut, and octets are missing at its end"], ["the element SSID"]),
+    ([probe("attic")[:-4]], ["Supported Rates says that it has 4 octets, and 2 follow", "or the frame was cut"],
+     ["longer than they say"]),
+    (["A " + auth(THIRD)[2:].replace(" ", "").encode().hex()],
+     ["they were written as digits twice", f"write `A {auth(THIRD)[2:].replace(' ', '')}`"], ["no network took"]),
+    ([f"A 8000 0000 ffffffffffff {ATTIC} {ATTIC} 0000 {'00' * 8} 6400 0100 0005{b'attic'.hex()} {RATES}"],
+     ["a beacon, which the network sends itself", "and a beacon of each by `T`"], []),
     # frames of a wire: behind `A`, without their header, or with a type that lacks an octet
     ([f"A 001122334455 00aabbccddee 0800 {PACKET}"],
      ["my.trace:5:3", "1 frame behind `A`", "begins as Ethernet's does"], ["no network took"]),

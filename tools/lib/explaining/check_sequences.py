@@ -3,7 +3,8 @@ octets longer than they say."""
 import zlib
 
 from explaining.values import BASIC, UNITS
-from frames import CONTROL, DATA, HEADER_LEN, MANAGEMENT, NULL, PLAIN_DATA, PS_POLL, Frame, elements
+from frames import (CONTROL, DATA, EXTENDED_SUPPORTED_RATES, HEADER_LEN, MANAGEMENT, NULL, PLAIN_DATA, PS_POLL,
+                    SUPPORTED_RATES, Frame, elements)
 from reading import FIXED_LEN, POLL_LEN, SNAP
 
 FCS_LEN, LEAST_LEN = 4, 10
@@ -39,13 +40,20 @@ def length_by_elements(octets: bytes, begin: int) -> int | None:
     if elements(octets[begin:]) is not None:
         return len(octets)
     end = len(octets) - FCS_LEN
-    return None if end < begin or elements(octets[begin:end]) is None or is_rates(octets[end:]) else end
+    is_element = is_rates(octets[end:]) or is_begun(octets[end:])
+    return None if end < begin or elements(octets[begin:end]) is None or is_element else end
 
 
 def is_rates(octets: bytes) -> bool:
     """Whether octets are rates of 802.11b and g, each once, and so those of an element and no check sequence."""
     rates = [rate & ~BASIC for rate in octets]
     return bool(rates) and set(rates) <= UNITS and len(set(rates)) == len(rates)
+
+
+def is_begun(octets: bytes) -> bool:
+    """Whether octets are the beginning of an element of rates, which says that it has more."""
+    return octets[0] in (SUPPORTED_RATES, EXTENDED_SUPPORTED_RATES) and octets[1] > len(octets) - 2 and \
+        {rate & ~BASIC for rate in octets[2:]} <= UNITS
 
 
 def length_by_packet(octets: bytes) -> int | None:

@@ -1,8 +1,8 @@
 """Which element of a body has the wrong length, where they don't fill the body to its last octet."""
-from explaining.check_sequences import FCS_LEN, is_rates
+from explaining.check_sequences import FCS_LEN, is_begun, is_rates
 from explaining.reason import Reason
 from explaining.source import quoted
-from explaining.values import BASIC, UNITS
+from explaining.values import BASIC
 from fields import ELEMENT_NAMES
 from frames import EXTENDED_SUPPORTED_RATES, SSID, SUPPORTED_RATES, elements
 
@@ -34,7 +34,8 @@ def wrong_length(octets: bytes, begin: int) -> Reason:
                       (begin, begin + len(bare)), f"write `{bytes([SSID, len(bare)]).hex()}` before `{bare.hex()}`")
     if len(octets) - places[-1] == 1 and octets[-1] in KNOWN:
         return told(octets, places[-1], None)
-    _, _, place, meant = min(fits, default=(True, 0, places[-1], None))
+    _, _, place, meant = min(fits, key=lambda fit: (fit[0], fit[0] and fit[2] != places[-1], *fit[1:]),
+                             default=(True, 0, places[-1], None))
     return told(octets, place, meant)
 
 
@@ -90,12 +91,6 @@ def bare_rates(octets: bytes) -> Reason | None:
                   f"write `01{FCS_LEN:02x}` before them") if is_rates(rates) else None
 
 
-def is_begun(octets: bytes) -> bool:
-    """Whether octets are the beginning of an element of rates, which says that it has more."""
-    return octets[0] in (SUPPORTED_RATES, EXTENDED_SUPPORTED_RATES) and octets[1] > len(octets) - 2 and \
-        {rate & ~BASIC for rate in octets[2:]} <= UNITS
-
-
 def bare_name(octets: bytes, begin: int) -> bytes | None:
     """A name in letters where elements should begin, before elements that are known."""
     names = (octets[begin:end] for end in range(begin + 1, min(begin + MOST_NAME, len(octets) - 1) + 1)
@@ -135,8 +130,9 @@ def told(octets: bytes, place: int, meant: int | None) -> Reason:
     name, length, there = ELEMENT_NAMES.get(octets[place], str(octets[place])), octets[place + 1], \
         len(octets) - place - 2
     if meant is None or meant == there:
-        return Reason(f"the element {name} says that it has {length} octets, and {there} follow",
+        cut = ", or the frame was cut, and octets are missing at its end" * (length > there)
+        return Reason(f"the element {name} says that it has {length} octets, and {there} follow{'s' * (there == 1)}",
                       (place + 1, place + 2),
-                      f"its length `{octets[place + 1]:02x}` has to be `{there:02x}`" if there < 256 else None)
+                      f"its length `{octets[place + 1]:02x}` has to be `{there:02x}`{cut}" if there < 256 else None)
     return Reason(f"the element {name} says that it has {length} octets, and {meant} stand before the next element",
                   (place + 1, place + 2), f"its length `{octets[place + 1]:02x}` has to be `{meant:02x}`")

@@ -119,6 +119,10 @@ def other_numbers(text: str, line: Line, bssids: Iterable[bytes]) -> Reason | No
     addresses = {*bssids, BROADCAST}
     if line.kind != "A" or likeness(line.octets, addresses) == MOST_LIKE:
         return None
+    twice = digits_of_digits(line.octets)
+    if twice and likeness(twice, addresses) == MOST_LIKE:
+        return Reason("its digits are those of letters, which are the digits of the frame: they were written as digits "
+                      "twice", (0, len(line.octets)), advice_for("A ", twice))
     begin = len(text) - len(text[1:].lstrip())
     for notation in (notation for notation in NOTATIONS if notation.told_by not in (ToldBy.ITSELF, ToldBy.PLACE)):
         row = of_run(text[begin:], notation, False)
@@ -128,6 +132,12 @@ def other_numbers(text: str, line: Line, bssids: Iterable[bytes]) -> Reason | No
                           f"order",
                           (0, len(line.octets)), advice_for("A ", row.octets))
     return None
+
+
+def digits_of_digits(octets: bytes) -> bytes:
+    """The octets whose hexadecimal digits these are, as letters; nothing where they are none."""
+    text = octets.decode("latin-1").strip()
+    return bytes.fromhex(text) if len(text) % 2 == 0 and re.fullmatch("[0-9A-Fa-f]+", text) else b""
 
 
 def of_rows(source: Source, number: int, begin: int, addresses: set[bytes]) -> Finding | None:

@@ -8,8 +8,8 @@ from explaining.reason import Reason
 from explaining.repairs import repaired
 from explaining.wired_types import TYPES
 from fields import FIXED, FLAGS
-from frames import (ASSOCIATION_REQUEST, AUTHENTICATION, BROADCAST, CONTROL, DATA, DEAUTHENTICATION, DISASSOCIATION,
-                    HEADER_LEN, MANAGEMENT, PROBE_REQUEST, Frame, address_text, is_group)
+from frames import (ASSOCIATION_REQUEST, AUTHENTICATION, BEACON, BROADCAST, CONTROL, DATA, DEAUTHENTICATION,
+                    DISASSOCIATION, HEADER_LEN, MANAGEMENT, PROBE_REQUEST, Frame, address_text, is_group)
 from in_words import address_word, kind_text
 from reading import (FIXED_LEN, LEAST_LENGTH, LEAST_TYPE, MOST_BODY, MOST_LENGTH, MOST_PAYLOAD, POLL_LEN, request_of,
                      unread_kind, wired_unread_kind)
@@ -60,7 +60,8 @@ def kind(bssid: bytes, octets: bytes) -> Reason:
     said = kind_text(octets)
     if frame.transmitter == bssid:
         return Reason(f"{said}, which the network sends itself: a trace has what it hears", (0, 2),
-                      "leave the line out: the program makes its networks' frames itself")
+                      "leave the line out: the program makes its networks' frames itself" +
+                      ", and a beacon of each by `T`" * frame.is_management(BEACON))
     if frame.type == MANAGEMENT and frame.subtype in FIXED:
         return Reason(f"{said}, which access points send, and none reads", (0, 2))
     if frame.is_qos:
