@@ -6,6 +6,7 @@ import called
 from explaining.answers import Fault, read_fault
 from explaining.source import Finding, quoted
 from frames import address_text
+from in_words import octets_text
 from records import HEADER_LEN, NOBODY, TOLD, cut, parts
 
 KINDS, MOST_OCTETS = b"AWTI", 4096
@@ -15,13 +16,14 @@ TEXT_LINE = re.compile(rb"(?:[AW] +[0-9A-Fa-f: ]{4,}|T|I|#[^\n]*)\r?\n")
 
 class Layout(NamedTuple):
     """How records may have been written by mistake: what differs, how many octets of a BSSID and of a length they have,
-    the order of the length's, and what stands behind each record."""
+    the order of the length's, what stands behind each record, and how many octets before it a length counts too."""
 
     what: str
     bssid: int = 6
     length: int = 2
     order: Literal["little", "big"] = "little"
     end: bytes = b""
+    counted: int = 0
 
 
 LAYOUTS = (
@@ -32,6 +34,9 @@ LAYOUTS = (
     Layout("each length has four octets, the high one first", length=4, order="big"),
     Layout("each length has one octet", length=1),
     Layout("a line's end (LF) stands behind each record", end=b"\n"),
+    Layout("a line's end (CR LF) stands behind each record", end=b"\r\n"),
+    Layout("each length counts the nine octets before it too", counted=HEADER_LEN),
+    Layout("each length counts its own two octets too", counted=2),
 )
 
 
@@ -40,9 +45,10 @@ def is_written_so(given: bytes, layout: Layout) -> bool:
     place = 0
     while place < len(given):
         begin = place + 1 + layout.bssid + layout.length
-        length = int.from_bytes(given[begin - layout.length:begin], layout.order)
+        length = int.from_bytes(given[begin - layout.length:begin], layout.order) - layout.counted
         kind, end = given[place:place + 1], begin + length
-        if kind not in KINDS or end > len(given) or not given.startswith(layout.end, end) or \
+        is_ended = given.startswith(layout.end, end) or place > 0 and end == len(given)
+        if kind not in KINDS or length < 0 or end > len(given) or not is_ended or \
                 (length > 0) == (kind in WITHOUT_OCTETS):
             return False
         place = end + len(layout.end)
@@ -59,9 +65,10 @@ def of_layout(given: bytes) -> Finding | None:
         return Finding("standard input is hexadecimal digits, and `live --octets` reads the octets themselves", None,
                        "`xxd -r -p` makes octets of digits")
     layout = next((layout for layout in LAYOUTS if is_written_so(given, layout)), None)
-    return None if layout is None or is_written_so(given, Layout("")) else Finding(
+    return None if layout is None or not layout.counted and is_written_so(given, Layout("")) else Finding(
         f"{layout.what}: a record is its kind, a BSSID of six octets, a length of two, the low one first, and so many "
-        "octets", None, "a BSSID of six octets 0 stands in each record but `W`")
+        "octets", None, "it counts the octets behind it alone" if layout.counted else
+        "a BSSID of six octets 0 stands in each record but `W`")
 
 
 def faults_of(output: bytes) -> list[Fault]:
@@ -92,7 +99,8 @@ def explain(given: bytes, fault: Fault, bssids: list[str]) -> list[Finding]:
     if fault.code == "L5":
         return [Finding(f"the record {number} has {len(octets):,} octets, and may have {MOST_OCTETS:,}")]
     if fault.code == "L4":
-        zeros = "; zeros stand in the other kinds alone" if bssid == NOBODY else ""
+        zeros = "; zeros stand in the other kinds alone" if bssid == NOBODY else \
+            "; its octets stand the wrong way round" if address_text(bssid[::-1]) in map(str.lower, bssids) else ""
         return [Finding(f"no network of the configuration has the BSSID {address_text(bssid)} of the record {number}",
                         None, f"its networks have {', '.join(bssids)}{zeros}")]
     return [of_kind(number, kind, bssid, octets)] if fault.code == "L1" else []
@@ -111,8 +119,8 @@ def of_kind(number: int, kind: bytes, bssid: bytes, octets: bytes) -> Finding:
 def of_cut(number: int, rest: bytes) -> Finding:
     """The input ends within a record."""
     if len(rest) < HEADER_LEN:
-        return Finding(f"the input ends within the record {number}, of which it has {len(rest)} octets: a kind, a "
-                       f"BSSID and a length are {HEADER_LEN}")
+        return Finding(f"the input ends within the record {number}, of which it has {octets_text(len(rest))}: a kind, "
+                       f"a BSSID and a length are {HEADER_LEN}")
     length = int.from_bytes(rest[HEADER_LEN - 2:HEADER_LEN], "little")
     return Finding(f"the input ends within the record {number}, which says that {length:,} octets follow, and "
                    f"{len(rest) - HEADER_LEN:,} do", None, "its length is two octets, the low one first")

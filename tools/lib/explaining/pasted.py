@@ -27,6 +27,8 @@ LEAST_ROWS = 2
 LEAST_PATCHED, MOST_AROUND = 2, 8
 TAG = re.compile(r"</?(?:br|p|pre|code|span|div|td|tr|th|table|b|i|u|tt|li|ul|ol|a|em|strong|html|body|font|kbd|samp)"
                  r"(?: [^<>]*)?/?>", re.I)
+# A line by which a piece of code of a page is one of the program's texts.
+OWN_LINE = re.compile(r"\[\[network\]\]|(?:version|channel) *= *\d|[AW] +[0-9A-Fa-f]{2}|T$")
 PAGER = re.compile(r"\(END\)|~|--More--(?:\(\d+%\))?|:|lines \d+-\d+(?:/\d+)?(?: \(END\))?")
 COLOURS = re.compile("\x1b\\[[0-9;]*[A-Za-z]")
 HERE_DOCUMENT = re.compile(r"(?:sudo +)?(?:cat|tee|apctl|build/apctl)\b.*<<-? *[\"']?\w+[\"']?.*|EOF|EOT|HERE")
@@ -87,9 +89,11 @@ def of_listing_marks(source: Source, number: int) -> Finding | None:
                       "and belongs to no text", lambda other: bool(PAGER.fullmatch(other.rstrip())))
     fences = [place for place, other in enumerate(source.lines, 1) if FENCE.fullmatch(other)]
     if len(fences) > 1 and line and not FENCE.fullmatch(line) and not fences[0] < number < fences[-1]:
+        first, last = next(((first, last) for first, last in zip(fences[::2], fences[1::2])
+                            if any(map(OWN_LINE.match, source.lines[first:last]))), (fences[0], fences[1]))
         return Finding("this is a page in Markdown, and a part of it alone may be meant, between two marks of code",
-                       whole, f"give what stands between the lines {source.first + fences[0] - 1} and "
-                       f"{source.first + fences[1] - 1} alone")
+                       whole, f"give what stands between the lines {source.first + first - 1} and "
+                       f"{source.first + last - 1} alone")
     return None
 
 

@@ -269,6 +269,9 @@ def odd_as_they_come(texts: Texts, faults: list[Fault]) -> list[Finding]:
     """What is odd in lines or records that had no fault, where they may be looked at once more."""
     given = texts.traces[0] if texts.traces else None
     if texts.records is not None:
+        otherwise = None if faults else octet_records.of_layout(texts.records)
+        if otherwise:
+            return [otherwise]
         given = as_they_come.as_lines(STANDARD_INPUT, texts.records)
     if texts.config is None or texts.program is None or given is None:
         return []
