@@ -63,9 +63,9 @@ CASES = [
 class Slips(ToolTest):
     """Runs of one configuration and one trace, whose last line is `T`."""
 
-    def explained(self, lines):
+    def explained(self, lines, config=CONFIG):
         """What is said of a run."""
-        for name, text in (("my.toml", CONFIG), ("my.trace", "\n".join([*JOINED, *lines, "T", ""]))):
+        for name, text in (("my.toml", config), ("my.trace", "\n".join([*JOINED, *lines, "T", ""]))):
             with open(self.path(name), "w", encoding="utf-8") as file:
                 file.write(text)
         words = ["run", self.path("my.toml"), self.path("my.trace")]
@@ -81,6 +81,23 @@ class Slips(ToolTest):
                 self.assertIn(words, found, lines)
             for words in not_said:
                 self.assertNotIn(words, found, lines)
+
+    @needs_program
+    def test_names_that_look_the_same(self):
+        """It is told which character makes another name of one, and where it stands."""
+        for asked, name, says in (
+                ("\u0430ttic", "attic", "looks the same, and in the frame's U+0430 stands, which looks like `a`"),
+                ("attic", "\u0430ttic", "and in the configuration's U+0430 stands, which looks like `a`"),
+                ("att\u200bic", "attic", "in the frame's U+200B stands, which isn't seen"),
+                ("my\u00a0lab", "my lab", "in the frame's U+00A0 stands, which looks like a space"),
+                ("Anna\u2019s", "Anna's", "in the frame's U+2019 stands, which looks like `'`"),
+                ("attic\u00a0", "attic", "`attic` is the same but for a no-break space or the like around it"),
+                ("my lab", "my%20lab", "the configuration has it as `my%20lab`, as an address of a page (URL) has it"),
+                ("my%20lab", "my lab", "is the same but for signs written as in an address of a page (URL)")):
+            body = f"00{len(asked.encode()):02x}{asked.encode().hex()} {RATES}"
+            frame = f"A 4000 0000 ffffffffffff {STATION} ffffffffffff 0000 {body}"
+            self.assertIn(says, self.explained([frame], CONFIG.replace('"attic"', f'"{name}"')), (asked, name))
+        self.assertIn('write `ssid = "my lab"`', self.explained([], CONFIG.replace('"attic"', '"my\u00a0lab"')))
 
 
 if __name__ == "__main__":

@@ -3,9 +3,11 @@ import difflib
 import html
 import unicodedata
 from collections.abc import Collection
+from urllib.parse import unquote_to_bytes
 
 from explaining.elements_cut import is_followed
 from explaining.reason import Reason
+from explaining.source import plain_letter, plain_text, quoted
 from frames import HEADER_LEN, REASSOCIATION_REQUEST, SSID, Frame, elements, first_of
 from in_words import ssid_text
 from reading import FIXED_LEN
@@ -13,6 +15,7 @@ from reading import FIXED_LEN
 MOST_NAME, LIKE, MOST_NAMED = 32, 0.6, 4
 CURRENT_AT = 28  # where Current AP Address begins in a reassociation request
 QUOTES = (b'"', b"'", b"`")
+PRINTED = str.maketrans("\u2018\u2019\u00b4\u201c\u201d", "'''\"\"")  # quotes as telephones write them
 NO_MARKS = str.maketrans("", "", ":-. ")
 BLANKS = b" \t\r\n\0"
 WIDE = ("utf-16-le", "utf-16-be")
@@ -133,6 +136,11 @@ def written_otherwise(asked: bytes, names: list[bytes], span: tuple[int, int]) -
         return Reason(f"no network is called {ssid_text(asked)}: the configuration has it as {ssid_text(of_page)}, as "
                       "the source of a page writes it", span,
                       f"write `ssid = \"{asked.decode('utf-8', 'replace')}\"` in the configuration")
+    of_url = next((name for name in names if b"%" in name and unquote_to_bytes(name) == asked), None)
+    if of_url is not None:
+        return Reason(f"no network is called {ssid_text(asked)}: the configuration has it as {ssid_text(of_url)}, as "
+                      "an address of a page (URL) has it", span,
+                      f"write `ssid = \"{asked.decode('utf-8', 'replace')}\"` in the configuration")
     unseen = next((name for name in names if name != asked and seen_of(name) == asked), None)
     if unseen is not None:
         return Reason(f"no network is called {ssid_text(asked)}; one is with a character more that isn't seen, "
@@ -158,12 +166,35 @@ def encoded_otherwise(asked: bytes, names: list[bytes], span: tuple[int, int]) -
     if latin is not None:
         return Reason(f"no network is called {ssid_text(asked)}: this is {ssid_text(latin)} in ISO 8859-1, and the "
                       f"network's SSID is in UTF-8", span, f"write `{element(latin)}`")
+    alike = next((name for name in names if name != asked and plain_of(name) == plain_of(asked)), None)
+    if alike is not None:
+        return of_letters(asked, alike, span)
     composed = next((name for name in names if asked != name and composed_text(asked) == composed_text(name)), None)
     if composed is not None:
         return Reason(f"no network is called {ssid_text(asked)} in these octets, `{asked.hex()}`: "
                       f"{ssid_text(composed)} has "
                       f"the same letters composed otherwise, `{composed.hex()}`", span, f"write `{element(composed)}`")
     return None
+
+
+def plain_of(name: bytes) -> str:
+    """A name with the letters of ASCII in the place of others that look like them, and without what isn't seen."""
+    return plain_text(seen_of(name).decode("utf-8", "replace").translate(PRINTED))
+
+
+def of_letters(asked: bytes, name: bytes, span: tuple[int, int]) -> Reason:
+    """A name that looks as another does, and of which some letters are others."""
+    texts = asked.decode("utf-8", "replace"), name.decode("utf-8", "replace")
+    odd = [(text, letter) for text, other in (texts, texts[::-1]) for letter in text if letter not in other]
+    text, letter = next((pair for pair in odd if not pair[1].isascii()), odd[0] if odd else (texts[0], texts[0][:1]))
+    plain = letter.translate(PRINTED) if letter.translate(PRINTED) != letter else plain_letter(letter)
+    what = f"looks like {'a space' if plain == ' ' else quoted(plain)} and is another character" if plain else \
+        "isn't seen"
+    where = "the frame's" if text == texts[0] else "the configuration's"
+    return Reason(f"no network is called {ssid_text(asked)}; {ssid_text(name)} looks the same, and in {where} "
+                  f"U+{ord(letter):04X} stands, which {what}", span,
+                  f"write `{element(name)}`" if text == texts[0] else
+                  f"write `ssid = \"{texts[0]}\"` in the configuration")
 
 
 def like_another(asked: bytes, names: list[bytes], span: tuple[int, int]) -> Reason | None:
@@ -173,7 +204,10 @@ def like_another(asked: bytes, names: list[bytes], span: tuple[int, int]) -> Rea
                       f"write the name, as `{element(names[0])}`")
     for difference, plain in ((" but for capital letters", lambda name: name.lower()),
                               (" but for quotes around it", lambda name: name.strip(b"\"'`")),
-                              (" but for blanks or zeros around it", lambda name: name.strip(BLANKS))):
+                              (" but for blanks or zeros around it", lambda name: name.strip(BLANKS)),
+                              (" but for a no-break space or the like around it",
+                               lambda name: name.decode("utf-8", "replace").strip().encode()),
+                              (" but for signs written as in an address of a page (URL)", unquote_to_bytes)):
         like = next((name for name in names if plain(name) == plain(asked)), None)
         if like is not None:
             return Reason(f"no network is called {ssid_text(asked)}; {ssid_text(like)} is the same{difference}", span,

@@ -96,7 +96,8 @@ def without_unseen(config: Config, network: NetworkTable, name: str) -> str:
     value = network.entries["ssid"].value
     written = config.source.text[value.begin + 1:value.end - 1]
     return written.replace("\\", "\\\\") if re.search(r"\\[abtnfre]", written) else \
-        "".join(filter(str.isprintable, name))
+        "".join(" " if letter.isspace() and not letter.isascii() else letter for letter in name
+                if letter.isprintable() or letter.isspace() and not letter.isascii())
 
 
 def of_strange_names(config: Config, asked: Collection[bytes]) -> list[Finding]:
