@@ -174,6 +174,9 @@ SEPARATED = [
     traced("fault L1 line 1", "02:aa:00:00:00:01 a phone\n02:aa:00:00:00:02 a printer # old\n",
            "a list of names of stations, as `--names` of tools/status"),
     of_config("fault C1", "02:aa:00:00:00:01 a phone\n", "a list of names of stations"),
+    of_config("fault C1", "02:00:00:00:00:01=eth1\n", "a list of wires, as `--wires` of tools/live reads it"),
+    traced("fault L1 line 2", "# words\nWORDS=--country DE --status 8080\n", "the file of words of the service"),
+    traced("fault L1 line 2", "# a script\nset -eu\necho it\n", "none of its lines begins with `A`, `W` or `T`"),
 ]
 TEXTS = [*SEVERAL_LINES, *TABLES_AND_KEYS, *SEPARATORS, *REPORTS, *AMONG_LINES, *TEXTS_OF_OTHERS, *NEAR, *SEPARATED]
 # Words of the program, as in the table of test_explain.py.

@@ -8,7 +8,12 @@ from explaining.report_lines import GOOD
 from explaining.source import Finding, Source
 
 LIVE = called.fellow("live")
-NAMED = re.compile(r"\s*(?:[0-9A-Fa-f]{2}:){5}[0-9A-Fa-f]{2}\s+(?![0-9A-Fa-f]{4})\S.*")
+ADDRESS = r"\s*(?:[0-9A-Fa-f]{2}:){5}[0-9A-Fa-f]{2}"
+# Lists that an access point is given beside its configuration: each of their lines, and what they are.
+LISTS = ((re.compile(rf"{ADDRESS}\s+(?![0-9A-Fa-f]{{4}})\S.*"),
+          f"a list of names of stations, as `--names` of {called.fellow('status')} reads it"),
+         (re.compile(rf"{ADDRESS}\s*=\s*[\w.-]+\s*"), f"a list of wires, as `--wires` of {LIVE} reads it"),
+         (re.compile(r"WORDS=.*"), f"the file of words of the service, which {LIVE} is given"))
 # When and where: as the system's log has it before each line.
 SYSTEM = r"(?:[A-Z][a-z]{2} [ \d]\d \d\d:\d\d:\d\d|\d{4}-\d\d-\d\dT[\d:.,]+\S*|\d+\.\d+) \S+ "
 TELLS = ((re.compile(rf"(?:{SYSTEM}waltigon[\w@.-]*(?:\[\d+\])?: .*|(?:{SYSTEM}\S+ )?(?:<\d>)?"
@@ -19,13 +24,17 @@ TELLS = ((re.compile(rf"(?:{SYSTEM}waltigon[\w@.-]*(?:\[\d+\])?: .*|(?:{SYSTEM}\
          (re.compile(r"phy\d+, channel \d+.*, for \d+:\d\d:\d\d, of .*"), f"what `{LIVE} status` prints"))
 
 
+def of_lists(source: Source) -> str | None:
+    """Which of these lists a text is."""
+    lines = [line.partition("#")[0] for line in source.lines if line.partition("#")[0].strip()]
+    return next((what for pattern, what in LISTS if lines and all(map(pattern.fullmatch, lines))), None)
+
+
 def of_access_point(source: Source, number: int, is_trace: bool) -> Finding | None:
     """What an access point tells, where this line, or the text that begins with it, is that."""
     line = source.line(number).rstrip()
     what = next((what for pattern, what in TELLS if pattern.fullmatch(line)), None) or own_json(source, number)
-    lines = [other.partition("#")[0] for other in source.lines if other.partition("#")[0].strip()]
-    if what is None and lines and line.strip() and all(map(NAMED.fullmatch, lines)):
-        what = f"a list of names of stations, as `--names` of {called.fellow('status')} reads it"
+    what = what or (of_lists(source) if line.strip() else None)
     if what is None:
         return None
     is_among = is_trace and any(GOOD.fullmatch(other) for other in source.lines)

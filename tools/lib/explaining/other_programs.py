@@ -219,8 +219,8 @@ def of_no_key(source: Source, number: int) -> Finding:
 
 def without_words(source: Source, number: int) -> Finding | None:
     """A text that can't be a trace: it has several lines, and none of them begins with a word of a trace."""
-    lines = [line for line in source.lines if line.strip()]
-    if len(lines) < LEAST_LINES or any(re.match(r"\s*(?:[AWTawt]\b|#)", line) for line in lines):
+    lines = [line for line in source.lines if line.strip() and line[0] != "#"]
+    if len(lines) < LEAST_LINES or any(re.match(r"\s*[AWTawt]\b", line) for line in lines):
         return None
     return Finding("this text is no trace: none of its lines begins with `A`, `W` or `T`", whole_of(source, number),
                    f"{called.document('FIRST_TRACE.md')} has a trace to copy; {of_capture()}")
