@@ -5,8 +5,8 @@ import os
 from common import PROGRAM, ToolTest, needs_program, tool
 from explaining import whole
 from explaining.answers import run_program
-from test_explain_outcomes import (ATTIC, CELLAR, CELLARS, CONFIG, HOST, JOINED, OTHER, RATES, STATION, THIRD, auth,
-                                   data, join, managed, null, poll, probe, ssid, wire)
+from test_explain_outcomes import (ATTIC, ATTICS, CELLAR, CELLARS, CONFIG, HOST, JOINED, OTHER, RATES, STATION, THIRD,
+                                   auth, data, join, managed, null, poll, probe, ssid, wire)
 
 ALL, SNAP, DOUBT = "ffffffffffff", "aaaa03000000", "it may not say what is meant"
 PACKET = "4500001400010000400100000a0001020a000101"
@@ -32,6 +32,10 @@ CASES = [
     ([null(), wire(), "T", poll("0100")], [f"my.trace:8:8: {DOUBT}", "`0100`, lacks its two high bits",
                                            "write `01c0`"], []),
     ([null(), wire(), "T", poll()], ["nothing odd"], ["high bits"]),
+    # lengths of a wire's frames
+    ([f"W {ATTICS} {STATION} {HOST} 0015 f0f0030a0b0c0d"], ["a length of 21 octets, and 7 follow: it counts the header's "
+                                                            "14 too", "write `0007`, or all 21 octets"], []),
+    ([f"W {ATTICS} {STATION} {HOST} 0015 f0f003"], ["a length of 21 octets, and 3 follow", "write `0003`"], ["header's"]),
     ([*NEW, null(), wire(), poll("02c0")], ["names the identifier 2, that of 02:aa:00:00:00:03, and the station has 1"],
      []),
     ([null(), wire(), poll(station="02aa00000099")], ["the identifier that it names is that of 02:aa:00:00:00:01"], []),

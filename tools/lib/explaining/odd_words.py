@@ -30,7 +30,7 @@ def of_shell(words: list[str]) -> Finding | None:
         "no quotes stand around it"
     if words[at] == "<" and words[0] in ("run", "play"):
         return Finding(f"{said}; `{words[0]}` reads files, and not standard input", None,
-                       f"write `{shlex.join([word for word in words if word != '<'])}`")
+                       f"write `{shlex.join([word for word in words if word not in ('<', '-')])}`")
     return Finding(said, None, f"in a shell write `{shlex.join(words[:at])} {' '.join(words[at:])}`, without quotes "
                    f"around {quoted(words[at])}")
 

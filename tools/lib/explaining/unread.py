@@ -173,7 +173,10 @@ def wired_length(octets: bytes) -> Reason:
         return Reason(f"`{written}` is the type `{turned:04x}` with its octets the wrong way round: in a frame of a "
                       "wire the high octet comes first", (12, 14), f"write `{turned:04x}`")
     if LEAST_LENGTH <= field <= MOST_LENGTH:
-        return Reason(f"`{written}` is a length of {field} octets, and {payload} follow", (12, 14))
+        too = ": it counts the header's 14 too" if field == payload + LEAST_WIRED else ""
+        return Reason(f"`{written}` is a length of {field} octets, and {payload} follow{too}", (12, 14),
+                      f"write `{payload:04x}`, or all {field} octets" if payload >= LEAST_LENGTH else
+                      f"all {field} octets follow a length")
     return Reason(f"`{written}` is no type (from {LEAST_TYPE:04x}) and no length of {LEAST_LENGTH} to {MOST_LENGTH:,} "
                   "octets",
                   (12, 14), "IPv4 is `0800`")

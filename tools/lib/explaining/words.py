@@ -331,7 +331,7 @@ def of_file(fault: Fault, words: list[str]) -> list[Finding]:
     if name == "-" and "-" not in words:
         return [Finding("standard input can't be read: it is closed, or a folder", None,
                         f"give a text by `{called.program()} < my.input`, or `live CONFIG < LINES`")]
-    advice = "`-` names a file here, and not standard input" if name == "-" else None
+    advice = "`-` names a file here, and not standard input: name the file, or /dev/stdin" if name == "-" else None
     if name == "":
         which = {1: "CONFIG", 2: "TRACE"}.get(words.index(""), "a TRACE") if "" in words else ""
         return [Finding("the name of a file is empty" + f": {which}, the word {words.index('')} behind the command" *
