@@ -117,7 +117,7 @@ AMONG_LINES = [
 PACKED = bytes.fromhex(PROBE[2:].replace(" ", ""))
 # Texts of others, and what listings, pages, pagers and editors put around a text.
 TEXTS_OF_OTHERS = [
-    of_config("fault C1", f"[\n {{\n  \"ssid\": \"lab\"\n }}\n]\n", "my.toml:1:1", "this is JSON"),
+    of_config("fault C1", "[\n {\n  \"ssid\": \"lab\"\n }\n]\n", "my.toml:1:1", "this is JSON"),
     of_config("fault C1", "ssid=lab\nchannel=6\nbeacon_int=100\ndtim_period=2\n", "a configuration of hostapd"),
     of_config("fault C2", '[package]\nname = "x"\nversion = "0.1.0"\n', "none of its keys stands in it"),
     of_config("fault C1", "package wireless\n\nconfig wifi-device 'radio0'\n\toption channel '6'\n",

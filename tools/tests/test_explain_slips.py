@@ -27,6 +27,7 @@ CASES = [
     ([*OVER, managed("c000", "0300"), data(network=CELLAR, to=HOST)], ["nothing odd"], []),
     ([managed("c000", "0300"), auth(), join(), data(to=HOST)], ["nothing odd"], []),
     ([managed("c000", "0300"), wire()], [], ["by this line"]),
+    ([managed("c000", "0300"), managed("a000", "0300")], ["it left in line 5", "leave this line out"], ["line 5 out"]),
     # what stands before or behind elements, and names that are addresses
     ([auth(THIRD), join(THIRD) + " 00000000"], ["my.trace:6:95", "4 zeros stand at its end", "leave them out"], []),
     ([probe("attic").replace("0000 0005", "0000 0100 0a00 0005")],

@@ -8,8 +8,8 @@ from explaining.reason import Lack, Reason
 from explaining.refused import Refusal
 from explaining.trace_remarks import unmask
 from explaining.unheard import nearest
-from frames import (ASSOCIATION_REQUEST, DATA, DEAUTHENTICATION, MANAGEMENT, REASSOCIATION_REQUEST, Frame, address_text,
-                    number)
+from frames import (ASSOCIATION_REQUEST, DATA, DEAUTHENTICATION, DISASSOCIATION, MANAGEMENT, REASSOCIATION_REQUEST,
+                    Frame, address_text, number)
 from in_words import kind_text, name_in
 from reading import is_poll
 
@@ -84,6 +84,8 @@ def why_in_vain(looked: Looked, station: bytes) -> str | None:
 def after_leaving(looked: Looked, station: bytes) -> str | None:
     """What to do of a station that sends on behind the line by which it left; None where it didn't leave."""
     found = LEFT.match(looked.past.of(looked.bssid, station) or "")
+    if found and Frame(looked.step.line.octets).is_management(DISASSOCIATION):
+        return "leave this line out: a station that deauthenticates has left, and disassociates before that, if at all"
     again = "authenticate and associate" if found and found["how"] == "deauthentication" else "associate"
     return f"leave line {found['line']} out, or have it {again} again behind it" if found else None
 
