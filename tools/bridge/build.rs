@@ -17,6 +17,20 @@ fn main() {
     let of_library = fields(&crates.join("air_share/src/lane.rt"), "pub struct Lane {");
     let of_bridge = fields(Path::new("src/outbound/air/proved_rule.rs"), "struct NetworkDebt {");
     assert_eq!(of_library, of_bridge, "the library and the bridge lay the record of a network out differently");
+    link_queues(crates);
+}
+
+/// Where the tests find the static library of the proved queues, which they alone link. What is handed over has to be
+/// laid out alike there too.
+fn link_queues(crates: &Path) {
+    let folder = crates.join("downlink_c/out");
+    println!("cargo:rerun-if-changed={}", folder.join("libdownlink_c.a").display());
+    println!("cargo:rustc-link-search=native={}", folder.display());
+    for record in ["FrameTold", "Taken", "Turn", "Added", "Changed"] {
+        let of_library = fields(&crates.join("downlink_c/src/numbers.rt"), &format!("pub struct {record} {{"));
+        let of_bridge = fields(Path::new("src/outbound/air/proved_queues.rs"), &format!("struct {record} {{"));
+        assert_eq!(of_library, of_bridge, "the library and the bridge lay {record} out differently");
+    }
 }
 
 /// The fields of a record that is laid out as C does it: their names and types, in order.

@@ -15,6 +15,7 @@ ghost use Rattle.downlink.specs.Networks.{new_network};
 ghost use Rattle.downlink.specs.Radios.{new_radio, with_network, receiver_at};
 ghost use Rattle.downlink.specs.Radios.{Of, Next, Used, radio_step, radio_answer, network_answer_of};
 ghost use Rattle.downlink_c.specs.Holding.{IsSameHandle};
+ghost use Rattle.downlink_c.specs.Owned.{radio_size};
 ghost use Rattle.downlink_c.specs.Numbers.{frame_told, change_of, after_change};
 
 mod handle;
@@ -33,7 +34,9 @@ const MAX_WEIGHT: u8 = 16;
 
 /// How many octets of memory a radio takes, at a multiple of 8.
 #[unsafe(no_mangle)]
-pub extern "C" fn downlink_size() -> usize {
+pub extern "C" fn downlink_size() -> usize
+    ensures { result ≡ radio_size }
+{
     size_of::<RadioQueue>()
 }
 

@@ -9,7 +9,6 @@ use borrow.Table.OneValue.{part_in}
 use contract.Monad.{fact}
 use contract.Running.{tables}
 use lib.Dec.{T}
-use mir.Syntax.{named}
 use mir.Val.{Val, vunit, vptr, has_ty, WT}
 use prog.Wp.{WpFn}
 use types.Kit.{‵, raw, ◌⊛◌, at_ret, ◌$◌, ◌∵◌, !, qed, done, move, keep, use2, split, join, rewrite, fsplit, fsplit3, fjoin, feq_i, suffices, frame, group}
@@ -21,7 +20,7 @@ use denote.RattleType.{owns as own}
 use denote.Laws.{Typed, shows}
 use denote.Memory.{part_at, cell_at}
 use denote.Param.{layout}
-use denote.RawPtr.{Ptr, block_ptr, lies_at, room_at, in_a_block}
+use denote.RawPtr.{Ptr, lies_at, room_at, in_a_block}
 use denote.Signature.{plain, types_at}
 use denote.Steps.{nothing, heard, only, opens, closes, peeks}
 use denote.Struct.Members.{Lone}

@@ -18,7 +18,7 @@ use types.ByLocal.{alloc_all, pass_all, free_all, look_at, get, through, sets, s
 use denote.Laws.{shows}
 use denote.Memory.{cell_at}
 use denote.Param.{layout}
-use denote.RawPtr.{Ptr, block_ptr, lies_at, room_at, in_a_block}
+use denote.RawPtr.{Ptr, lies_at, room_at, in_a_block}
 use denote.Ref.{MutRef, mut_vals, mut_Tells}
 use denote.Signature.{plain}
 use denote.Steps.{nothing, heard, opens, closes, peeks}

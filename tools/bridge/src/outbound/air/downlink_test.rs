@@ -1,4 +1,5 @@
-//! The way to the air beside a model of the queues of the crate `downlink`: the same calls, and what both decide.
+//! The way to the air beside the queues of the crate `downlink`, as the proved library keeps them and as a model does:
+//! the same calls, and what all decide.
 //!
 //! Where the rules differ (`docs/DECISIONS.md`, "The queue of a receiver" and "The queues of a radio") the calls are
 //! such that both come to the same:
@@ -26,8 +27,13 @@ use crate::testing::samples::{at, network, Seeded, Unit};
 
 #[path = "downlink_model_test.rs"]
 mod model;
+#[path = "proved_queues.rs"]
+mod proved_queues;
+#[path = "proved_queues_test.rs"]
+mod proved_queues_tests;
 
 use model::Model;
+use proved_queues_tests::Beside;
 
 const CALLS: usize = if cfg!(debug_assertions) { 100_000 } else { 1_000_000 };
 const CALLS_OF_A_RUN: usize = 2000;
@@ -117,7 +123,7 @@ enum Mode {
 /// Both, with what became of frames in each.
 struct Pair {
     air: Transmitter,
-    beside: Model,
+    beside: Beside,
     seeded: Seeded,
     now: Instant,
     /// Since when time nearly stands still.
@@ -146,7 +152,7 @@ impl Pair {
         let mosts: Vec<(u8, Vec<usize>)> = weights.iter().map(|weight| (*weight, MOST.to_vec())).collect();
         let mut pair = Pair {
             air: Transmitter::new(&networks),
-            beside: Model::new(&mosts),
+            beside: Beside::new(&mosts),
             seeded,
             now: at(SECOND),
             still_since: at(SECOND),
