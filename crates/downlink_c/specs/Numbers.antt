@@ -1,10 +1,12 @@
 -- Calls and answers of a radio as numbers.
 use Rattle.std.specs.Prelude.{ℕ, nat_eq, if◌then◌else◌, true, false, Option, Some, None}
 use Rattle.downlink.specs.declared.answer.Fate.{Fate}
-use Rattle.downlink.specs.declared.answer.Fate.TheVariants.{Goes, GoesAgain, Acknowledged, WaitsAgain, Lost, HandedBack, Late, Crowded, Left}
+use Rattle.downlink.specs.declared.answer.Fate.TheVariants.{Goes, GoesAgain, Acknowledged, WaitsAgain, Lost}
+use Rattle.downlink.specs.declared.answer.Fate.TheVariants.{HandedBack, Late, Crowded, Left}
 use Rattle.downlink.specs.declared.radio_queue.NetworkAnswer.{NetworkAnswer}
 use Rattle.downlink.specs.declared.station_change.StationChange.{StationChange}
-use Rattle.downlink.specs.declared.station_change.StationChange.TheVariants.{Joins, Leaves, Dozes, Settles, Wakes, Polls}
+use Rattle.downlink.specs.declared.station_change.StationChange.TheVariants.{Joins, Leaves, Dozes, Settles}
+use Rattle.downlink.specs.declared.station_change.StationChange.TheVariants.{Wakes, Polls}
 use Rattle.downlink.specs.Calls.{call_of}
 use Rattle.downlink.specs.Radios.{Radio, Of, radio_step}
 use Rattle.downlink_c.specs.declared.numbers.FrameTold.{FrameTold}

@@ -5,8 +5,8 @@ ghost use Rattle.downlink.specs.Radios.{Radio};
 
 use std::marker::Model;
 
-/// Where a radio is kept: memory of the caller's, which holds a radio while `is_made` says so, and else nothing. A caller
-/// writes the pointer once, and from then on neither that nor the memory.
+/// Where a radio is kept: memory of the caller's, which holds a radio while `is_made` says so, and else nothing. A
+/// caller writes the pointer once, and from then on neither that nor the memory.
 #[repr(C)]
 #[derive(Drop)]
 pub struct RadioHandle {

@@ -6,7 +6,8 @@
 //! was. Frames, calls and answers are numbers.
 #![tactic(auto)]
 
-ghost use Rattle.std.specs.Prelude.{◌≡◌, ◌+◌, ◌*◌, ◌<◌, ◌≤◌, ◌^◌, ◌↔◌, [], length, true, false, is_some, IsTrue, IsSome};
+ghost use Rattle.std.specs.Prelude.{◌≡◌, ◌+◌, ◌*◌, ◌<◌, ◌≤◌, ◌^◌, ◌↔◌, [], length, true, false, is_some};
+ghost use Rattle.std.specs.Prelude.{IsTrue, IsSome};
 ghost use Rattle.std.specs.Bool.{OnTrue, OnFalse};
 ghost use Rattle.std.specs.Option.{option_map};
 ghost use Rattle.air_share.specs.Lanes.{chosen, lane_at};

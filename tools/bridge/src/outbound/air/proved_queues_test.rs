@@ -68,7 +68,7 @@ struct Run {
     now: u64,
     /// The receiver that most calls are of, for a while.
     whose: (usize, usize),
-    /// What went, and of which nothing was told yet.
+    /// What went, with nothing told of it yet.
     out: Vec<Answer>,
     fates: [u64; Fate::ALL.len()],
 }
