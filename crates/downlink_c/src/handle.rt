@@ -8,7 +8,6 @@ use std::marker::Model;
 /// Where a radio is kept: memory of the caller's, which holds a radio while `is_made` says so, and else nothing. A
 /// caller writes the pointer once, and from then on neither that nor the memory.
 #[repr(C)]
-#[derive(Drop)]
 pub struct RadioHandle {
     pub(crate) at: *mut u8,
     pub ghost is_made: { Bool },

@@ -1,9 +1,9 @@
 //! The queues of `downlink` for programs in other languages, as a static library over memory that the caller keeps.
 //!
 //! A caller keeps the memory of a radio, of [`downlink_size`] octets, and hands in a [`RadioHandle`] that points there.
-//! It makes the radio once, before all other calls, and hands it to one call at a time. All else each function tests
-//! itself, since nothing checks that such a caller meets a condition: it tells what it refuses, and then all is as it
-//! was. Frames, calls and answers are numbers.
+//! It makes the radio once, before all other calls, and calls from one thread. All else each function tests itself,
+//! since nothing checks that such a caller meets a condition: it tells what it refuses, and then all is as it was.
+//! Frames, calls and answers are numbers.
 #![tactic(auto)]
 
 ghost use Rattle.std.specs.Prelude.{◌≡◌, ◌+◌, ◌*◌, ◌<◌, ◌≤◌, ◌^◌, ◌↔◌, [], length, true, false, is_some};
