@@ -311,6 +311,8 @@ JOINED = [
 ]
 # A value that is another's, a name that is hidden or in digits, and a trace of another configuration.
 OF_OTHERS = [
+    changed("fault C10 network 0", '"82840b16"', '"828402040b16"', "`02` is the rate 1 Mb/s a second time",
+            'write `rates = "82840b16"`'),
     changed("fault C9 network 0", 'ssid = "lab"', "ssid = 6775657374", 'write `ssid = "guest"`', "in hexadecimal"),
     changed("fault C9 network 0", 'ssid = "lab"', "ssid = 12345678", 'write `ssid = "12345678"`'),
     changed("fault C9 network 0", 'ssid = "lab"', 'ssid = ""', "no network here can hide its name"),

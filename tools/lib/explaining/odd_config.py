@@ -19,15 +19,16 @@ LEAST_INTERVAL, MOST_INTERVAL = 15, 1000  # hostapd has none below 15
 MOST_DTIM, MOST_WAIT = 30, 10_000_000  # microseconds for which units for the group may wait unnoticed
 
 
-def odd(source: Source | None, asked: Collection[bytes] = ()) -> list[Finding]:
+def odd(source: Source | None, asked: Collection[bytes] = (), served: Collection[bytes] = ()) -> list[Finding]:
     """What is odd in a configuration: networks that stations can't tell apart, and networks without a basic rate.
-    `asked` are names that stations ask for, of which it is told where they do."""
+    `asked` are names that stations ask for and no network has, of which it is told where they do; `served` are those
+    that they ask for and a network has."""
     try:
         config = Config(source) if source else None
     except (NoToml, RecursionError):
         return []
     return [*of_radio(config), *of_addresses(config), *of_names(config), *of_blanks(config, asked),
-            *of_strange_names(config, asked), *of_strange_rates(config), *of_rates(config)] \
+            *of_strange_names(config, served), *of_strange_rates(config), *of_rates(config)] \
         if config else []
 
 
@@ -100,12 +101,12 @@ def without_unseen(config: Config, network: NetworkTable, name: str) -> str:
                 if letter.isprintable() or letter.isspace() and not letter.isascii())
 
 
-def of_strange_names(config: Config, asked: Collection[bytes]) -> list[Finding]:
+def of_strange_names(config: Config, served: Collection[bytes]) -> list[Finding]:
     """Names that are a place of a template, a text in quotes, digits of letters, or with letters that look like others,
     but for those that stations ask for."""
     return [Finding(f"the SSID of the network {place} {told[0]}", config.place(network.entries["ssid"].value), told[1])
             for place, network, name in texts_of(config, "ssid")
-            if name.encode() not in asked and (told := strange_name(name))]
+            if name.encode() not in served and (told := strange_name(name))]
 
 
 def strange_name(name: str) -> tuple[str, str] | None:

@@ -146,11 +146,18 @@ def octets_fault(rates: bytes) -> tuple[str, tuple[int, int], str | None] | None
             more = " (it is no rate: in captures it says which features a station needs)" if rate >= 0x7A else ""
             return f"`{octet:02x}` is the rate {rate}, and the greatest is 108 (`6c`), 54 Mb/s{more}", where, without
         if rate in seen:
-            return f"`{octet:02x}` is the rate {megabits_text(rate)} a second time", where, without
+            return f"`{octet:02x}` is the rate {megabits_text(rate)} a second time", where, each_once(rates)
         seen[rate] = place
     if len(rates) > MOST_RATES:
         return f"{len(rates)} rates, and a network has at most {MOST_RATES}", (2 * MOST_RATES, 2 * len(rates)), None
     return None
+
+
+def each_once(rates: bytes) -> str:
+    """Rates without those that stood before: as basic ones where they stand so in one place."""
+    basic = {octet & ~BASIC for octet in rates if octet & BASIC}
+    once = dict.fromkeys(octet & ~BASIC for octet in rates)
+    return bytes(rate | (BASIC if rate in basic else 0) for rate in once).hex()
 
 
 def megabits_text(rate: int) -> str:

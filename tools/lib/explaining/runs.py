@@ -73,12 +73,13 @@ def odd(config: Source, traces: list[Source], output: str, has_separator: bool,
                 findings += of_reasons(hearing, {id(line): trace for trace, of_one in zip(traces, by_trace)
                                                  for line in of_one})
         findings += outcomes.findings() if outcomes else []
-        asked = {name for name in map(name_asked_for, lines) if name} - {hearing.section.ssid for hearing in hearings}
+        names, had = {name for name in map(name_asked_for, lines) if name}, {hearing.section.ssid for hearing in hearings}
+        asked = names - had
         findings += of_intervals(traces)
         if outcomes:
             findings += of_each_network(traces[0], lines, outcomes.idle, [hearing.section for hearing in hearings])
         findings += of_order(traces, by_trace, [hearing.section.bssid for hearing in hearings])
-        findings = [*odd_config.odd(config, asked), *in_remarks(config, lines, hearings, asked), *findings,
+        findings = [*odd_config.odd(config, asked, names & had), *in_remarks(config, lines, hearings, asked), *findings,
                     *of_roaming(hearings, traces, lines, outcomes.past if outcomes else None)]
         remark = Remarks(traces[0]).interval() if len(traces) == 1 else ""
         return in_order([*findings, *of_no_interval(lines, hearings, not findings, remark)], config)
