@@ -27,7 +27,7 @@ use beacon::ResponseElements;
 use events::{Event, StationRow};
 use mac_frame::{MacAddr, NoMemory, Octets};
 use powersave::{Keep, Whom};
-use roster::{Keeping, Roster, kept_counts};
+use roster::{Roster, kept_counts};
 use stations::Stations;
 use std::alloc::Global;
 use std::marker::Model;
@@ -213,6 +213,7 @@ impl Network {
     /// been read before. The first of the frames that it sends is built in spare memory, if there
     /// is any; the frame of a poll takes memory of its own. The spare memory is gone after `NoMemory`, and stays after
     /// `Clock` (*profile*).
+    #[inline(always)]
     pub fn take_received(
         &mut self,
         event: &ReceivedEvent<'_>,
@@ -345,10 +346,9 @@ impl Network {
         // the quota is counted by 32 bits
         checked_numbers();
         let ages = units_age(reply.clock, self.setting.get().network.aging);
-        let keeping = mem::replace(&mut reply.keeping, Keeping::nothing());
         let aged = self
             .roster
-            .carry_out(reply.change, keeping, ages, self.clock)?;
+            .carry_out_from(&reply.change, &mut reply.keeping, ages, self.clock)?;
         // All that may be refused is done.
         self.lost += u64::from(aged);
         self.events += 1;

@@ -23,6 +23,7 @@ use stations::{
 };
 use std::alloc::Global;
 use std::marker::Model;
+use std::mem;
 use tim::Bitmap;
 
 /// The stations of a network and the units that it keeps. It also has the association identifiers of the stations that
@@ -155,6 +156,40 @@ impl Roster {
         };
         self.keep(change, &leaving, arriving)?;
         Ok(0)
+    }
+
+    /// Does what [`Roster::carry_out`] does. What is said of the units is taken out of where it stands, unless nothing
+    /// has to be done.
+    #[inline(always)]
+    pub fn carry_out_from(
+        &mut self,
+        change: &Change,
+        keeping: &mut Keeping,
+        ages: bool,
+        clock: u32,
+    ) -> Result<u32, NoMemory>
+        requires allowed { IsAllowed self.old.stations.most change.now self.old.stations.table }
+        requires still { ages ≡ true → (change.now ≡ Change.Nothing) × (keeping.old.arriving ≡ None) }
+        requires within { IsWithin self.old.kept.quota change.now keeping.old.leaving self.old.stations.table
+            self.old.kept.entries keeping.old.arriving }
+        requires came { CameBy clock self.old.kept.entries }
+        requires few { length self.old.kept.entries < 2 ^ 32 }
+        requires countable { self.old.kept.puts < 2 ^ 62 }
+        ensures count { IfOk result (λ dropped. dropped
+            ≡ length (filter (is_aged ages clock self.old.stations.table) self.old.kept.entries)) }
+        ensures entries { OnOk result (self.new.kept.entries ≡ kept_after keeping.old
+            (filter (λ entry. not (is_aged ages clock self.old.stations.table entry)) self.old.kept.entries)) }
+        ensures stations { OnOk result
+            (self.new.stations ≡ with_table self.old.stations (changed change.now self.old.stations.table)) }
+        ensures quota { self.new.kept.quota ≡ self.old.kept.quota }
+        ensures puts { self.new.kept.puts ≤ self.old.kept.puts + 1 }
+        ensures err { OnErr result (self.new ≡ self.old) }
+    {
+        if keeping.arriving.is_none() && is_settled(change, &keeping.leaving, ages) {
+            return Ok(0);
+        }
+        let taken = mem::replace(keeping, Keeping::nothing());
+        self.carry_out(*change, taken, ages, clock)
     }
 
     /// Sets the mode of one station at most, takes out the units that leave, and keeps one. After `NoMemory` nothing

@@ -12,7 +12,6 @@ use Rattle.network.specs.Sound.{IsSoundNetwork}
 use Rattle.stations.specs.Stations.{StationTable, changed}
 use Rattle.network.specs.declared.reply.Reply.{Reply}
 use Rattle.roster.specs.declared.keeping.Arriving.{Arriving}
-use Rattle.roster.specs.declared.keeping.Keeping.{Keeping}
 use Rattle.network.proofs.Aging.{before-none}
 use Rattle.network.proofs.network.Network.carry_out.Goals as goal
 
@@ -34,14 +33,13 @@ within-now quota s r n still = by r.keeping.arriving refl
         subst (λ (m : Network). IsWithin quota r.change r.keeping.leaving m.stations m.kept (Some a)) (before-none s r n (not-begun r a still is)) within
 
 -- the network in the end
-ended : (n : NetworkState) (r : Reply) (last : RosterState) (keeping : Keeping) (ages : Bool) (aged lost unread : ℕ) → keeping ≡ r.keeping → ages ≡ (nat_lt 0 r.clock && n.setting.network.aging)
-    → last.stations.table ≡ changed r.change n.network.stations → last.kept.entries ≡ kept_after keeping (filter (λ e. not (is_aged ages n.network.clock n.network.stations e)) n.network.kept)
+ended : (n : NetworkState) (r : Reply) (last : RosterState) (ages : Bool) (aged lost unread : ℕ) → ages ≡ (nat_lt 0 r.clock && n.setting.network.aging)
+    → last.stations.table ≡ changed r.change n.network.stations → last.kept.entries ≡ kept_after r.keeping (filter (λ e. not (is_aged ages n.network.clock n.network.stations e)) n.network.kept)
     → aged ≡ length (filter (is_aged ages n.network.clock n.network.stations) n.network.kept) → lost ≡ r.lost → unread ≡ r.unread
     → network_with last (n.network.clock + r.clock) r.sequence (n.network.lost + aged + lost) (n.network.unread + unread) ≡ unsent (after_reply r (before_outcome n.setting (Replied r) n.network))
-ended n r last keeping ages aged lost unread same is table entries count lost_is unread_is =
+ended n r last ages aged lost unread is table entries count lost_is unread_is =
     let kept : last.kept.entries ≡ kept_after r.keeping (before_outcome n.setting (Replied r) n.network).kept =
-    entries ∙ ap (λ (k : Keeping). kept_after k (filter (λ e. not (is_aged ages n.network.clock n.network.stations e)) n.network.kept)) same
-    ∙ ap (λ (b : Bool). kept_after r.keeping (filter (λ e. not (is_aged b n.network.clock n.network.stations e)) n.network.kept)) is in
+    entries ∙ ap (λ (b : Bool). kept_after r.keeping (filter (λ e. not (is_aged b n.network.clock n.network.stations e)) n.network.kept)) is in
     let gone : n.network.lost + aged ≡ (before_outcome n.setting (Replied r) n.network).lost =
     ap (λ (k : ℕ). n.network.lost + k) (count ∙ ap (λ (b : Bool). length (filter (is_aged b n.network.clock n.network.stations) n.network.kept)) is) in
     let all : n.network.lost + aged + lost ≡ (before_outcome n.setting (Replied r) n.network).lost + r.lost = ap (λ (k : ℕ). k + lost) gone ∙ ap (λ (k : ℕ). (before_outcome n.setting (Replied r) n.network).lost + k) lost_is in
@@ -56,17 +54,16 @@ ended n r last keeping ages aged lost unread same is table entries count lost_is
       wire = [];
     }
 
-pub carry_out-requires-clause-within : goal.carry_out-requires-clause-within
-carry_out-requires-clause-within c =
+pub carry_out_from-requires-clause-within : goal.carry_out_from-requires-clause-within
+carry_out_from-requires-clause-within c =
     let r : Reply = c.args.reply.now in
     let n : NetworkState = record { setting = c.self.inside.setting; events = c.self.inside.events; network = network_with c.self.inside.roster c.self.inside.clock c.self.inside.sequence c.self.inside.lost c.self.inside.unread } in
     let follows = subst (λ (k : NetworkState). MayFollow k (Replied r)) (sym c.self.view_is) c.requires.follows in
-    subst (λ (k : Keeping). IsWithin c.self.inside.roster.kept.quota r.change k.leaving n.network.stations n.network.kept k.arriving) (sym c.replace-keeping.ensures.value)
-    (subst (λ (quota : ℕ). IsWithin quota r.change r.keeping.leaving n.network.stations n.network.kept r.keeping.arriving) (sym c.self.invariant.quota)
-    (within-now n.setting.network.quota n.setting r n.network follows.still follows.fitting.keeping))
+    subst (λ (quota : ℕ). IsWithin quota r.change r.keeping.leaving n.network.stations n.network.kept r.keeping.arriving) (sym c.self.invariant.quota)
+    (within-now n.setting.network.quota n.setting r n.network follows.still follows.fitting.keeping)
 
-pub carry_out-requires-clause-few : goal.carry_out-requires-clause-few
-carry_out-requires-clause-few c =
+pub carry_out_from-requires-clause-few : goal.carry_out_from-requires-clause-few
+carry_out_from-requires-clause-few c =
     let most = c.checked_numbers.ensures.quota c.self.inside.setting.network c.self.invariant.accepted in
     omega (arith, c.self.invariant.sound.quota, most)
 
@@ -77,7 +74,7 @@ invariant_of-self-2 c =
     let follows = subst (λ (k : NetworkState). MayFollow k (Replied r)) (sym c.self.view_is) c.requires.follows in
     let told = c.in_ok-aged.ensures in
     let ages : c.units_age-ages.result ≡ (nat_lt 0 r.clock && n.setting.network.aging) = c.units_age-ages.ensures ∙ ap (λ (s : Setting). nat_lt 0 r.clock && s.network.aging) c.get.ensures in
-    let is = ended n r c.carry_out.new.self c.replace-keeping.result c.units_age-ages.result c.from.result c.from-2.result c.from-3.result c.replace-keeping.ensures.value ages (ap (λ (k : StationTable). k.table) told.stations) told.entries (c.from.ensures ∙ told.count) c.from-2.ensures c.from-3.ensures in
+    let is = ended n r c.carry_out_from.new.self c.units_age-ages.result c.from.result c.from-2.result c.from-3.result ages (ap (λ (k : StationTable). k.table) told.stations) told.entries (c.from.ensures ∙ told.count) c.from-2.ensures c.from-3.ensures in
     record {
       accepted = c.self.invariant.accepted;
       sound = subst (IsSoundNetwork n.setting (n.events + 1) (2 * (n.events + 1))) (sym is) follows.sound;
@@ -93,5 +90,5 @@ returns-clause-after c =
     let n : NetworkState = record { setting = c.self.inside.setting; events = c.self.inside.events; network = network_with c.self.inside.roster c.self.inside.clock c.self.inside.sequence c.self.inside.lost c.self.inside.unread } in
     let told = c.in_ok-aged.ensures in
     let ages : c.units_age-ages.result ≡ (nat_lt 0 r.clock && n.setting.network.aging) = c.units_age-ages.ensures ∙ ap (λ (s : Setting). nat_lt 0 r.clock && s.network.aging) c.get.ensures in
-    let is = ended n r c.carry_out.new.self c.replace-keeping.result c.units_age-ages.result c.from.result c.from-2.result c.from-3.result c.replace-keeping.ensures.value ages (ap (λ (k : StationTable). k.table) told.stations) told.entries (c.from.ensures ∙ told.count) c.from-2.ensures c.from-3.ensures in
+    let is = ended n r c.carry_out_from.new.self c.units_age-ages.result c.from.result c.from-2.result c.from-3.result ages (ap (λ (k : StationTable). k.table) told.stations) told.entries (c.from.ensures ∙ told.count) c.from-2.ensures c.from-3.ensures in
     ap (λ (m : Network). record n { events = n.events + 1; network = m }) is ∙ ap (carried_out (Replied r)) c.self.view_is
