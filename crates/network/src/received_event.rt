@@ -21,7 +21,7 @@ pub enum ReceivedEvent<'a> {
 impl<'a> ReceivedEvent<'a> {
     /// An event for several networks: a broadcast probe request is read at once (IEEE Std 802.11-2016, 9.3.3.10), and
     /// anything else by each of them. It takes no memory.
-    #[inline]
+    #[inline(always)]
     pub fn for_all(event: LentEvent<'a>) -> ReceivedEvent<'a>
         ensures { event_received result ≡ event_of event.entry }
     {
