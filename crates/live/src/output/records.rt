@@ -33,7 +33,7 @@ const MAX_OCTETS: usize = 65_535;
 const NOBODY: [u8; 6] = [0; 6];
 
 /// Puts what stands before the octets of a record.
-#[inline]
+#[inline(always)]
 fn put_header<W: Sink>(out: &mut Buffered<'_, W>, kind: u8, bssid: [u8; 6], count: usize)
     requires few { count ≤ 65535 }
     requires can_write { CanWrite W.failed out.old }
@@ -46,7 +46,7 @@ fn put_header<W: Sink>(out: &mut Buffered<'_, W>, kind: u8, bssid: [u8; 6], coun
 }
 
 /// Puts a record of these octets, unless they are too many for one.
-#[inline]
+#[inline(always)]
 fn put_record<W: Sink>(out: &mut Buffered<'_, W>, kind: u8, bssid: [u8; 6], octets: &[u8])
     requires { CanWrite W.failed out.old }
     ensures { Puts (watch W.taken W.failed) out.old out.new (record_of kind bssid octets.now) }
@@ -178,6 +178,7 @@ pub fn put_sent<W: Sink>(out: &mut Buffered<'_, W>, bssid: MacAddr, sent: &Sent)
 }
 
 /// Puts the record of a frame, if there is one.
+#[inline(always)]
 fn put_frame_if<W: Sink>(
     out: &mut Buffered<'_, W>,
     kind: u8,

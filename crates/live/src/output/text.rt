@@ -34,6 +34,7 @@ fn put_address<W: Sink>(out: &mut Buffered<'_, W>, address: MacAddr)
 }
 
 /// Puts a frame's line: where it went, the address of its network, and its octets.
+#[inline(always)]
 fn put_frame<W: Sink>(out: &mut Buffered<'_, W>, word: &[u8], bssid: MacAddr, frame: &[u8])
     requires { CanWrite W.failed out.old }
     ensures { Puts (watch W.taken W.failed) out.old out.new
@@ -113,6 +114,7 @@ pub fn put_sent<W: Sink>(out: &mut Buffered<'_, W>, bssid: MacAddr, sent: &Sent)
 }
 
 /// Puts the line of a frame, if there is one.
+#[inline(always)]
 fn put_frame_if<W: Sink>(
     out: &mut Buffered<'_, W>,
     word: &[u8],
