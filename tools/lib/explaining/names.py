@@ -166,7 +166,8 @@ def encoded_otherwise(asked: bytes, names: list[bytes], span: tuple[int, int]) -
     if latin is not None:
         return Reason(f"no network is called {ssid_text(asked)}: this is {ssid_text(latin)} in ISO 8859-1, and the "
                       f"network's SSID is in UTF-8", span, f"write `{element(latin)}`")
-    alike = next((name for name in names if name != asked and plain_of(name) == plain_of(asked)), None)
+    alike = next((name for name in names if name != asked and b"\0" not in asked + name and
+                  plain_of(name) == plain_of(asked)), None)
     if alike is not None:
         return of_letters(asked, alike, span)
     composed = next((name for name in names if asked != name and composed_text(asked) == composed_text(name)), None)

@@ -22,7 +22,7 @@ WORD_BEFORE_KEY = re.compile(r"(export|set|let|var|local|const|uci "
                              r"([\w-]+)(?:\s*=\s*|\s+)(.+)")
 TYPED = re.compile(rf"\s*(:?\s*{TYPES})\s*=\s*", re.I)
 # What stands before each line of a listing, and before each line of a letter that is quoted.
-BEFORE_LINE = re.compile(r"\s*([\w/.-]*[A-Za-z][\w/.-]*:(?:\d+:)?(?=[\w\[\"'#])|"
+BEFORE_LINE = re.compile(r"\s*((?=[\w/.-]*[A-Za-z])[\w/.-]++:(?:\d+:)?(?=[\w\[\"'#])|"
                          r"\d+ *[:.)|]?|[|>*\u2022\u00b7\u25cf]+|-(?= ))\s*(?=[\w\"'\[#])")
 ENTRY = re.compile(r"[\"']?([A-Za-z][\w-]*)[\"']?\s*[=:]|\[\[? *(\w+)")
 HEADERS = re.compile(r"\W*(\w+)\W*(?:[\"']?[\w .-]*[\"']?)\W*")

@@ -5,6 +5,7 @@ import quopri
 import re
 import unicodedata
 from collections.abc import Callable, Iterable
+from functools import lru_cache
 
 import called
 from explaining.likeness import MOST_LIKE, likeness
@@ -76,18 +77,31 @@ def foreign(source: Source, number: int) -> Finding | None:
     return None
 
 
+@lru_cache(maxsize=4)
+def is_ended_by_dollars(source: Source) -> bool:
+    """Whether each line of a text ends with `$`, and there are several."""
+    lines = [line.rstrip() for line in source.lines if line.strip()]
+    return len(lines) > 1 and all(line.endswith("$") for line in lines)
+
+
+@lru_cache(maxsize=4)
+def fences_in(source: Source) -> list[int]:
+    """The numbers of the lines that mark a piece of code in Markdown."""
+    return [number for number, line in enumerate(source.lines, 1) if FENCE.fullmatch(line)]
+
+
 def of_listing_marks(source: Source, number: int) -> Finding | None:
     """A mark that a command, a pager or an editor shows and that belongs to no text; or a line of a page in Markdown
     around the piece of code that is meant."""
-    line, lines = source.line(number).rstrip(), [line.rstrip() for line in source.lines if line.strip()]
+    line = source.line(number).rstrip()
     whole = source.place(number, 1, len(line) or 1)
-    if line.endswith("$") and len(lines) > 1 and all(line.endswith("$") for line in lines):
+    if line.endswith("$") and is_ended_by_dollars(source):
         return Finding("`$` stands at the end of each line, as `cat -A` shows it", source.place(number, len(line)),
                        "`sed 's/\\$$//'` takes it off")
     if PAGER.fullmatch(line):
         return around(source, number, f"{quoted(line)} is a mark of a pager or an editor, as `less` and vi show it, "
                       "and belongs to no text", lambda other: bool(PAGER.fullmatch(other.rstrip())))
-    fences = [place for place, other in enumerate(source.lines, 1) if FENCE.fullmatch(other)]
+    fences = fences_in(source)
     if len(fences) > 1 and line and not FENCE.fullmatch(line) and not fences[0] < number < fences[-1]:
         first, last = next(((first, last) for first, last in zip(fences[::2], fences[1::2])
                             if any(map(OWN_LINE.match, source.lines[first:last]))), (fences[0], fences[1]))

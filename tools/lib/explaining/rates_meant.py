@@ -9,7 +9,7 @@ from explaining.values import BASIC, MEGABITS, MOST_RATE, MOST_RATES, UNITS, dig
 # A rate of a list: its number, what marks it as a basic one, and its unit.
 LISTED_RATE = re.compile(r"(?P<before>[%*])?(?<![\d.])(?P<number>[0-9]+(?:\.[0-9]+)?)(?P<unit> ?(?:[MmKk](?:[Bb](?:it)?"
                          r"(?:ps|/s)?)?))?(?P<behind>\([A-Za-z]*\)|[*bB](?![A-Za-z0-9]))?")
-UNIT_BEHIND = re.compile(r"[,;\s]*[\[(][MmKk][Bb](?:it)?(?:ps|/s(?:ec)?)[\])]\s*$")
+UNIT_BEHIND = re.compile(r"[,; ]{0,3}[\[(][MmKk][Bb](?:it)?(?:ps|/s(?:ec)?)[\])]\s*$")
 LIKE_LETTERS = str.maketrans("OolI", "0011")
 # The rates of the parts of the standard, and words for all rates or a range of them.
 STANDARDS = {"b": "82840b16", "g": "82840b160c1218243048606c", "a": "8c129824b048606c"}

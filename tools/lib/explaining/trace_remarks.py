@@ -9,9 +9,9 @@ from fields import MANAGEMENT_NAMES
 from frames import DATA, DEAUTHENTICATION, DISASSOCIATION, MANAGEMENT, Frame, address_of
 from reading import is_poll
 
-HELD = re.compile(r"[#\s]*#(?P<words>(?:.*\W)?)(?:A +(?P<frame>(?:[0-9A-Fa-f] *){32,})|"
-                  r"W +(?P<bssid>[0-9A-Fa-f]{2}(?::[0-9A-Fa-f]{2}){5}) +(?P<wired>(?:[0-9A-Fa-f] *){28,}))")
-TICK = re.compile(r"[#\s]*#\s*T")
+HELD = re.compile(r"(?<!\w)(?:A +(?P<frame>[0-9A-Fa-f ]{32,}+)|"
+                  r"W +(?P<bssid>[0-9A-Fa-f]{2}(?::[0-9A-Fa-f]{2}){5}) +(?P<wired>[0-9A-Fa-f ]{28,}+))$")
+MARKS, LEAST_OCTETS, MOST_LINE = "# \t\r", 14, 20_000  # as of a frame on a wire; characters of a line that is looked at
 LEAVING = (DISASSOCIATION, DEAUTHENTICATION)
 MASKED, BEHIND = "which is a remark, since it begins with `#`", "behind the words of a remark"
 
@@ -44,11 +44,12 @@ class Held(NamedTuple):
 def held_in(trace: Source) -> Iterator[Held]:
     """The lines `A` and `W` that stand in remarks."""
     for number, line in enumerate(trace.lines, 1):
-        found = HELD.fullmatch(line.rstrip()) if line.startswith("#") else None
+        text = line.strip(MARKS) if line.startswith("#") and len(line) <= MOST_LINE else ""
+        found = HELD.search(text)
         digits = (found["frame"] or found["wired"]).replace(" ", "") if found else ""
-        if found and len(digits) % 2 == 0:
+        if found and len(digits) % 2 == 0 and len(digits) >= 2 * LEAST_OCTETS:
             yield Held(number, bytes.fromhex(digits), address_of(found["bssid"].lower()) if found["bssid"] else None,
-                       bool(found["words"].strip("# \t")))
+                       found.start() > 0)
 
 
 class Remarks:
@@ -57,8 +58,8 @@ class Remarks:
     def __init__(self, trace: Source | None = None) -> None:
         self.first = trace.first if trace else 1
         self.held = list(held_in(trace)) if trace else []
-        self.ticks = [number for number, line in enumerate(trace.lines, 1) if TICK.fullmatch(line.rstrip())] \
-            if trace else []
+        self.ticks = [number for number, line in enumerate(trace.lines, 1)
+                      if line.startswith("#") and line.strip(MARKS) == "T"] if trace else []
 
     def told(self, what: str, is_one: Callable[[Held], bool]) -> str:
         """That the last of these lines stands in a remark; nothing where none does."""
