@@ -315,9 +315,6 @@ OF_OTHERS = [
             'write `rates = "82840b16"`'),
     changed("fault C9 network 0", 'ssid = "lab"', "ssid = 6775657374", 'write `ssid = "guest"`', "in hexadecimal"),
     changed("fault C9 network 0", 'ssid = "lab"', "ssid = 12345678", 'write `ssid = "12345678"`'),
-    changed("fault C9 network 0", 'ssid = "lab"', 'ssid = ""', "no network here can hide its name"),
-    changed("fault C12 network 0", "max_stations = 8\nmax_known = 16", "max_stations = 16\nmax_known = 8",
-            "where the two changed places write `max_stations = 8` and `max_known = 16`"),
     traced("fault L4 line 4", f"{PROBE}\nA b000 0000 020000000777 {STATION} 020000000777 0000 000001000000\n"
            f"A 0000 0000 020000000777 {STATION} 020000000777 0000 01000a0000036c6162010402040b16\n"
            f"W 02:00:00:00:07:77 {STATION} {HOST} 0800 45\n", "to which 2 lines on the air are", "don't belong together"),
