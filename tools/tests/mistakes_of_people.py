@@ -317,7 +317,8 @@ OF_OTHERS = [
     changed("fault C9 network 0", 'ssid = "lab"', "ssid = 12345678", 'write `ssid = "12345678"`'),
     traced("fault L4 line 4", f"{PROBE}\nA b000 0000 020000000777 {STATION} 020000000777 0000 000001000000\n"
            f"A 0000 0000 020000000777 {STATION} 020000000777 0000 01000a0000036c6162010402040b16\n"
-           f"W 02:00:00:00:07:77 {STATION} {HOST} 0800 45\n", "to which 2 lines on the air are", "don't belong together"),
+           f"W 02:00:00:00:07:77 {STATION} {HOST} 0800 45\n", "to which 2 lines on the air are",
+           "don't belong together"),
     traced("fault L4 line 2", f"A b000 0000 020000000001 {STATION} 020000000001 0000 000001000000\n"
            f"W 02:00:00:00:00:10 {STATION} {HOST} 0800 45\n", "write 02:00:00:00:00:01, or a network with"),
 ]

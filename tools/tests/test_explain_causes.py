@@ -33,8 +33,8 @@ CASES = [
                                            "write `01c0`"], []),
     ([null(), wire(), "T", poll()], ["nothing odd"], ["high bits"]),
     # lengths of a wire's frames
-    ([f"W {ATTICS} {STATION} {HOST} 0015 f0f0030a0b0c0d"], ["a length of 21 octets, and 7 follow: it counts the header's "
-                                                            "14 too", "write `0007`, or all 21 octets"], []),
+    ([f"W {ATTICS} {STATION} {HOST} 0015 f0f0030a0b0c0d"],
+     ["a length of 21 octets, and 7 follow: it counts the header's 14 too", "write `0007`, or all 21 octets"], []),
     ([f"W {ATTICS} {STATION} {HOST} 0015 f0f003"], ["a length of 21 octets, and 3 follow", "write `0003`"],
      ["header's"]),
     ([*NEW, null(), wire(), poll("02c0")], ["names the identifier 2, that of 02:aa:00:00:00:03, and the station has 1"],

@@ -312,7 +312,8 @@ def ssid_findings(config: Config, network: NetworkTable) -> list[Finding]:
     length = len(name.encode())
     if not length:
         return [Finding("an SSID has 1 to 32 octets, and this is empty: no network here can hide its name, and each "
-                        "beacon has it", config.place(value), 'write the name that stations ask for, as `ssid = "lab"`')]
+                        "beacon has it", config.place(value),
+                        'write the name that stations ask for, as `ssid = "lab"`')]
     if length <= values.MOST_NAME:
         return []
     letters = f" ({len(name)} characters, some of several octets)" if len(name) < length else ""

@@ -73,7 +73,8 @@ def odd(config: Source, traces: list[Source], output: str, has_separator: bool,
                 findings += of_reasons(hearing, {id(line): trace for trace, of_one in zip(traces, by_trace)
                                                  for line in of_one})
         findings += outcomes.findings() if outcomes else []
-        names, had = {name for name in map(name_asked_for, lines) if name}, {hearing.section.ssid for hearing in hearings}
+        names = {name for name in map(name_asked_for, lines) if name}
+        had = {hearing.section.ssid for hearing in hearings}
         asked = names - had
         findings += of_intervals(traces)
         if outcomes:
