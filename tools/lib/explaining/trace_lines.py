@@ -335,7 +335,8 @@ def of_network(source: Source, number: int, line: str, bssids: list[str]) -> Fin
     if not any(bssid in named for bssid in listed) and named.count(word) > 1:
         return Finding(f"no network of the configuration has the address {match[1]}, to which {named.count(word)} "
                        "lines on the air are, and none is to a network of the configuration: they don't belong "
-                       "together", place, f"take the configuration of this trace, or give a network this address; {has}")
+                       "together", place,
+                       f"take the configuration of this trace, or give a network this address; {has}")
     return Finding(f"no network of the configuration has the address {match[1]}", place,
                    f"write {close[0]}, or a network with this address; {has}" if close else has)
 
