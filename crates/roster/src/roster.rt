@@ -158,8 +158,9 @@ impl Roster {
         Ok(0)
     }
 
-    /// Does what [`Roster::carry_out`] does. What is said of the units is taken out of where it stands, unless nothing
-    /// has to be done.
+    /// Does what [`Roster::carry_out`] does, and answers and refuses as it does. What is said of the units is taken out
+    /// of where it stands, also where memory is refused, unless nothing has to be done. No clause says what is left
+    /// there: who is refused says anew what becomes of the units (*profile*).
     #[inline(always)]
     pub fn carry_out_from(
         &mut self,
