@@ -60,8 +60,19 @@ pub fn served(lanes: &mut [Lane], place: usize, cost: u32) -> bool
     if choose(lanes) != Some(place) {
         return false;
     }
-    charge(lanes, place, cost);
+    serve_chosen(lanes, place, cost);
     true
+}
+
+/// Serves the lane whose turn it is with a frame of this cost in time units of air, as [`served`] does. The caller has
+/// its place from [`choose`], so nothing is refused, and it isn't looked for again.
+pub fn serve_chosen(lanes: &mut [Lane], place: usize, cost: u32)
+    requires turn { chosen lanes.old ≡ Some place }
+    requires within { place < length lanes.old }
+    ensures after { lanes.new ≡ after_turn lanes.old place cost }
+    ensures event { lanes.new ≡ lane_step lanes.old (Serve cost) }
+{
+    charge(lanes, place, cost);
 }
 
 /// Lowers every debt by that of the lane at a place, not below 0, and sets that lane's to its scale times a cost.

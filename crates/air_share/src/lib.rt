@@ -30,7 +30,7 @@ mod share;
 mod share_laws;
 mod waiting;
 
-pub use lane::{Lane, choose, served, told};
+pub use lane::{Lane, choose, serve_chosen, served, told};
 pub use lane_laws::{bounded, exact, one_choice, soon};
 pub use share::{MAX_WEIGHT, Share};
 pub use share_laws::{by_the_rule, conserved, exactly_fair, fair, prompt};
