@@ -16,12 +16,12 @@ use Rattle.downlink.specs.Receiver.{frame_that_comes, way_of, right_beside, sent
 use Rattle.downlink.specs.Receiver.{turn_answer, after_turn}
 use Rattle.downlink.specs.Receiver.{has_ticket, may_go_again, told_answer, after_told, next_leaving, in_mode}
 use Rattle.downlink.specs.Receiver.{after_dozing, after_settling, after_polling}
-use Rattle.downlink.specs.Calls.{Call, Comes, Turn, Told, Returns, Joins, Leaves, Dozes, Settles, Wakes, Polls, step}
-use Rattle.downlink.specs.Calls.{answer, answers}
+use Rattle.downlink.specs.Calls.{Call, Comes, Turn, Told, Returns, GivesUp, Joins, Leaves, Dozes, Settles, Wakes, Polls}
+use Rattle.downlink.specs.Calls.{step, answer, answers}
 use Rattle.downlink.specs.Laws.{one_if, count, stays_asleep, all_stay_asleep, is_poll, is_present, is_new_unit}
 use Rattle.downlink.specs.Laws.{GoesByPolls}
 use Rattle.downlink.proofs.Counts.{count-append, first_counted}
-use Rattle.downlink.proofs.Fates.{told_by, deaf_to_crowding, deaf_to_leaving, deaf_to_loss, turn_told}
+use Rattle.downlink.proofs.Fates.{told_by, deaf_to_crowding, deaf_to_leaving, deaf_to_giving_up, deaf_to_loss, turn_told}
 
 abbrev pub is_awake : StationMode → Bool
 is_awake Absent = false
@@ -208,6 +208,8 @@ step_asleep q (Turn now) h s = turned_asleep now q (next_sent q) refl h
 step_asleep q (Told ticket is_acknowledged) h s = told_asleep ticket is_acknowledged q (first_that (has_ticket ticket) q.out) h
 step_asleep q Returns h s =
     (h, omega (arith, deaf_to_leaving is_new_unit (next_leaving q) (λ f. refl) (λ f. refl), leaving_due q.again q.waiting))
+step_asleep q GivesUp h s =
+    (h, omega (arith, deaf_to_giving_up is_new_unit q.mode (next_sent q) (λ f. refl) (λ f. refl), next_due q.again q.waiting))
 step_asleep q Joins h s = absurd (cc)
 step_asleep q Leaves h s = mode_asleep Absent IsDropped refl refl q
 step_asleep q Dozes h s = dozes_asleep q.mode q h h

@@ -14,8 +14,8 @@ use Rattle.downlink.specs.Receiver.{frame_that_comes}
 use Rattle.downlink.specs.Receiver.{sent_another_way, next_sent, without_next, after_turn, first_that, has_ticket}
 use Rattle.downlink.specs.Receiver.{after_told}
 use Rattle.downlink.specs.Receiver.{in_mode, after_dozing, after_settling, after_waking, after_polling}
-use Rattle.downlink.specs.Calls.{Call, Comes, Turn, Told, Returns, Joins, Leaves, Dozes, Settles, Wakes, Polls, step}
-use Rattle.downlink.specs.Calls.{after}
+use Rattle.downlink.specs.Calls.{Call, Comes, Turn, Told, Returns, GivesUp, Joins, Leaves, Dozes, Settles, Wakes, Polls}
+use Rattle.downlink.specs.Calls.{step, after}
 use Rattle.downlink.specs.Laws.{IsBounded}
 
 -- as many may wait as before, and no more of them do
@@ -97,6 +97,7 @@ step_fits most q (Turn now) h = turn_fits most now q (next_sent q) h
 step_fits most q (Told ticket is_acknowledged) h =
     told_fits most ticket is_acknowledged q (first_that (has_ticket ticket) q.out) h
 step_fits most q Returns h = record { same = h.same; few = omega (arith, h.few, fewer_wait (takes_way false) q.again q.waiting) }
+step_fits most q GivesUp h = record { same = h.same; few = omega (arith, h.few, fewer_wait (takes_way true) q.again q.waiting) }
 step_fits most q Joins h = record { same = h.same; few = h.few }
 step_fits most q Leaves h = mode_fits most Absent IsDropped q h
 step_fits most q Dozes h = dozes_fits most q.mode q h

@@ -9,7 +9,7 @@ use Rattle.downlink.specs.declared.frame.Way.{Way}
 use Rattle.downlink.specs.declared.frame.Way.TheVariants.{InTurn, AnswersPoll, GoesBack, IsDropped}
 use Rattle.downlink.specs.declared.answer.Answer.{Answer}
 use Rattle.downlink.specs.declared.answer.Fate.{Fate}
-use Rattle.downlink.specs.declared.answer.Fate.TheVariants.{WaitsAgain, Lost, HandedBack, Late, Crowded}
+use Rattle.downlink.specs.declared.answer.Fate.TheVariants.{WaitsAgain, Lost, HandedBack, Late, Crowded, GivenUp}
 use Rattle.downlink.specs.declared.station_mode.StationMode.{StationMode}
 use Rattle.downlink.specs.declared.station_mode.StationMode.TheVariants.{Absent, Awake, FallsAsleep, Dozing}
 use Rattle.downlink.specs.Receiver.{Queue, first_that, first_by, takes_way, within, crowded_out}
@@ -17,9 +17,9 @@ use Rattle.downlink.specs.Receiver.{frame_that_comes, sent_another_way, next_sen
 use Rattle.downlink.specs.Receiver.{after_turn, unsent_fate, sending_fate, fate_answer}
 use Rattle.downlink.specs.Receiver.{has_ticket, told_answer, after_told, again_beside, is_last, is_asleep, after_dozing}
 use Rattle.downlink.specs.Receiver.{after_settling, after_waking, after_polling, next_leaving, leaving_answer}
-use Rattle.downlink.specs.Receiver.{without_leaving, leaving_fate, in_mode}
-use Rattle.downlink.specs.Calls.{Call, Comes, Turn, Told, Returns, Joins, Leaves, Dozes, Settles, Wakes, Polls, step}
-use Rattle.downlink.specs.Calls.{answer, answers}
+use Rattle.downlink.specs.Receiver.{without_leaving, leaving_fate, giving_up_answer, in_mode}
+use Rattle.downlink.specs.Calls.{Call, Comes, Turn, Told, Returns, GivesUp, Joins, Leaves, Dozes, Settles, Wakes, Polls}
+use Rattle.downlink.specs.Calls.{step, answer, answers}
 use Rattle.downlink.specs.Laws.{one_if, count, has, has_sent, held, brings, is_gone, tells, IsConserved}
 use Rattle.downlink.proofs.Counts.{count-append, first_counted, next_counted, of_sent}
 
@@ -123,6 +123,22 @@ returned p q (Some s) e =
       left_counted p (leaving_fate s.frame.way) s.frame (leaving_gone s.frame.way),
     )
 
+-- ---- its caller gives the next one up
+
+given_up : (p : ℕ → Bool) (q : Queue) (s : Option Sent) → next_sent q ≡ s
+    → Balanced p q false (without_next q) (option_map (giving_up_answer q.mode) s)
+given_up p q None e =
+    omega (arith, next_counted (has p) (takes_way true) q.again q.waiting, ap (λ o. count (of_sent (has p)) (option_to_list o)) e)
+given_up p q (Some s) e =
+    let taken : count (of_sent (has p)) (option_to_list (next_sent q)) ≡ one_if (p s.frame.ticket) + 0 =
+    ap (λ o. count (of_sent (has p)) (option_to_list o)) e in
+    omega (
+      arith,
+      next_counted (has p) (takes_way true) q.again q.waiting,
+      taken,
+      left_counted p (unsent_fate GivenUp q.mode s.frame) s.frame (unsent_gone GivenUp q.mode s.frame refl),
+    )
+
 -- ---- the station changes its mode
 
 same_ticket : (p : ℕ → Bool) (way : Way) (f : Frame) → has p (sent_another_way way f) ≡ has p f
@@ -175,6 +191,7 @@ step_balanced p q (Turn now) = turned p now q (next_sent q) refl
 step_balanced p q (Told ticket is_acknowledged) =
     told_one p ticket is_acknowledged q (first_that (has_ticket ticket) q.out) refl
 step_balanced p q Returns = returned p q (next_leaving q) refl
+step_balanced p q GivesUp = given_up p q (next_sent q) refl
 step_balanced p q Joins = refl
 step_balanced p q Leaves = mode_balanced p Absent IsDropped q
 step_balanced p q Dozes = dozes_balanced p q.mode q

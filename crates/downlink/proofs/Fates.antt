@@ -10,9 +10,10 @@ use Rattle.downlink.specs.declared.frame.Way.TheVariants.{InTurn, AnswersPoll, G
 use Rattle.downlink.specs.declared.answer.Answer.{Answer}
 use Rattle.downlink.specs.declared.answer.Fate.{Fate}
 use Rattle.downlink.specs.declared.answer.Fate.TheVariants.{WaitsAgain, Lost, HandedBack, Late, Crowded, Left}
+use Rattle.downlink.specs.declared.answer.Fate.TheVariants.{GivenUp}
 use Rattle.downlink.specs.declared.station_mode.StationMode.{StationMode}
 use Rattle.downlink.specs.Receiver.{unsent_fate, sending_fate, fate_answer, turn_answer, crowded_out, is_asleep}
-use Rattle.downlink.specs.Receiver.{leaving_answer, leaving_fate}
+use Rattle.downlink.specs.Receiver.{leaving_answer, leaving_fate, giving_up_answer}
 use Rattle.downlink.specs.Laws.{one_if, count}
 
 -- how many of its answers pass a test
@@ -50,6 +51,11 @@ pub deaf_to_leaving : (test : Answer → Bool) (s : Option Sent) → IsDeafTo te
     → told_by test (option_map leaving_answer s) ≡ 0
 deaf_to_leaving test None b l = refl
 deaf_to_leaving test (Some s) b l = leaving_by test s.frame.way s.frame b l
+
+pub deaf_to_giving_up : (test : Answer → Bool) (mode : StationMode) (s : Option Sent) → IsDeafTo test GivenUp → IsDeafTo test HandedBack
+    → told_by test (option_map (giving_up_answer mode) s) ≡ 0
+deaf_to_giving_up test mode None g b = refl
+deaf_to_giving_up test mode (Some s) g b = deaf_to_unsent test GivenUp mode s.frame g b
 
 pub deaf_to_loss : (test : Answer → Bool) (again : Bool) (mode : StationMode) (f : Frame) → IsDeafTo test WaitsAgain
     → IsDeafTo test Lost → IsDeafTo test HandedBack

@@ -9,7 +9,7 @@ use Rattle.downlink.specs.declared.frame.Way.{Way}
 use Rattle.downlink.specs.declared.frame.Way.TheVariants.{InTurn, AnswersPoll, GoesBack, IsDropped}
 use Rattle.downlink.specs.declared.answer.Answer.{Answer}
 use Rattle.downlink.specs.declared.answer.Fate.{Fate}
-use Rattle.downlink.specs.declared.answer.Fate.TheVariants.{WaitsAgain, Lost, HandedBack, Late, Crowded}
+use Rattle.downlink.specs.declared.answer.Fate.TheVariants.{WaitsAgain, Lost, HandedBack, Late, Crowded, GivenUp}
 use Rattle.downlink.specs.declared.station_mode.StationMode.{StationMode}
 use Rattle.downlink.specs.declared.station_mode.StationMode.TheVariants.{Absent, Awake, FallsAsleep, Dozing}
 use Rattle.downlink.specs.Receiver.{Queue, new_queue, first_that, without_first, first_by, for_first_time}
@@ -17,10 +17,10 @@ use Rattle.downlink.specs.Receiver.{waiting_without, takes_way, goes, way_goes, 
 use Rattle.downlink.specs.Receiver.{frame_that_comes, sent_another_way, next_sent, without_next, turn_answer}
 use Rattle.downlink.specs.Receiver.{after_turn, unsent_fate, sending_fate, fate_answer}
 use Rattle.downlink.specs.Receiver.{has_ticket, may_go_again, told_answer, after_told, is_asleep, next_leaving}
-use Rattle.downlink.specs.Receiver.{leaving_answer, leaving_fate, in_mode, after_dozing, after_settling, after_waking}
-use Rattle.downlink.specs.Receiver.{after_polling}
-use Rattle.downlink.specs.Calls.{Call, Comes, Turn, Told, Returns, Joins, Leaves, Dozes, Settles, Wakes, Polls, step}
-use Rattle.downlink.specs.Calls.{answer, after, answers}
+use Rattle.downlink.specs.Receiver.{leaving_answer, leaving_fate, giving_up_answer, in_mode, after_dozing, after_settling}
+use Rattle.downlink.specs.Receiver.{after_waking, after_polling}
+use Rattle.downlink.specs.Calls.{Call, Comes, Turn, Told, Returns, GivesUp, Joins, Leaves, Dozes, Settles, Wakes, Polls}
+use Rattle.downlink.specs.Calls.{step, answer, after, answers}
 use Rattle.downlink.specs.Laws.{goes_first, IsWithin, ticket_if, came_by, came, went, IsInOrder}
 use Rattle.downlink.proofs.Lists.{within_same, within_after, within_before, within_more, within_front, within_both}
 use Rattle.downlink.proofs.Lists.{ticket_within}
@@ -198,6 +198,19 @@ leaving_in_order (Some f) fs =
     elim (takes_way false f) as (λ b. IsWithin (in_turn (if b then fs else without_first (takes_way false) fs)) (in_turn fs))
     [ true ↦ within_same (in_turn fs) | false ↦ others_in_order fs ]
 
+-- ---- its caller gives the next one up
+
+giving_up_is_quiet : (mode : StationMode) (s : Option Sent) → went_by (option_map (giving_up_answer mode) s) ≡ []
+giving_up_is_quiet mode None = refl
+giving_up_is_quiet mode (Some s) = rw (unsent_is_quiet GivenUp mode s.frame refl) refl
+
+giving_up_in_order : (again : Option Frame) (fs : List Frame)
+    → IsWithin (in_turn (waiting_without (takes_way true) again fs)) (in_turn fs)
+giving_up_in_order again fs =
+    let front : List ℕ = first_ticket (first_by (takes_way true) again fs) in
+    let rest : List ℕ = in_turn (waiting_without (takes_way true) again fs) in
+    within_both rest (front ++ rest) (in_turn fs) (within_more front rest rest (within_same rest)) (next_in_order again fs)
+
 -- ---- the station changes its mode
 
 another_way : (way : Way) → way_goes way ≡ false → (f : Frame) (ts us : List ℕ) → IsWithin ts us
@@ -255,6 +268,8 @@ step_in_order q (Told ticket is_acknowledged) =
     told_in_order ticket is_acknowledged q (first_that (has_ticket ticket) q.out)
 step_in_order q Returns =
     quiet q (step q Returns) (answer q Returns) (return_is_quiet (next_leaving q)) (leaving_in_order q.again q.waiting)
+step_in_order q GivesUp =
+    quiet q (step q GivesUp) (answer q GivesUp) (giving_up_is_quiet q.mode (next_sent q)) (giving_up_in_order q.again q.waiting)
 step_in_order q Joins = same_in_order q (step q Joins) refl
 step_in_order q Leaves = mode_in_order Absent IsDropped refl q
 step_in_order q Dozes = dozes_in_order q.mode q

@@ -2,7 +2,8 @@
 use Rattle.std.proofs.Common.{◌≡◌, ◌≤◌, ℕ, Bool, true, false, ◌&&◌, List, [], ◌∷◌, refl, inl, inr, arith}
 use Rattle.downlink.specs.declared.answer.Answer.{Answer}
 use Rattle.downlink.specs.Receiver.{new_queue}
-use Rattle.downlink.specs.Calls.{Call, Comes, Turn, Told, Returns, Joins, Leaves, Dozes, Settles, Wakes, Polls, answers}
+use Rattle.downlink.specs.Calls.{Call, Comes, Turn, Told, Returns, GivesUp, Joins, Leaves, Dozes, Settles, Wakes, Polls}
+use Rattle.downlink.specs.Calls.{answers}
 use Rattle.downlink.specs.Laws.{one_if, count, brings, goes_first, tells, IsWithin, ticket_if, came_by, came, went}
 use Rattle.downlink.specs.Laws.{IsNotMadeUp}
 use Rattle.downlink.proofs.Counts.{count-append}
@@ -32,6 +33,7 @@ one_counted p (Comes ticket is_unit until now) = omega arith
 one_counted p (Turn now) = refl
 one_counted p (Told ticket is_acknowledged) = refl
 one_counted p Returns = refl
+one_counted p GivesUp = refl
 one_counted p Joins = refl
 one_counted p Leaves = refl
 one_counted p Dozes = refl

@@ -3,8 +3,9 @@ use Rattle.std.proofs.Common.{◌≡◌, ℕ, true, false, List, [], ◌∷◌, 
 use Rattle.downlink.specs.declared.answer.Answer.{Answer}
 use Rattle.downlink.specs.declared.answer.Fate.{Fate}
 use Rattle.downlink.specs.declared.answer.Fate.TheVariants.{Goes, GoesAgain, WaitsAgain, HandedBack, Late, Crowded}
-use Rattle.downlink.specs.Calls.{Comes, Told, Returns, Joins, Dozes}
-use Rattle.downlink.specs.Networks.{new_network, NetworkCall, To, TurnOfOne, network_answers}
+use Rattle.downlink.specs.declared.answer.Fate.TheVariants.{GivenUp}
+use Rattle.downlink.specs.Calls.{Comes, Turn, Told, Returns, GivesUp, Joins, Dozes}
+use Rattle.downlink.specs.Networks.{new_network, NetworkCall, To, TurnOfOne, Pauses, network_answers}
 
 -- each answer as its receiver, its ticket and its fate
 told : List (ℕ × Answer) → List (ℕ × ℕ × Fate)
@@ -50,3 +51,18 @@ nothing_comes_for_a_receiver_that_is_not_there : said (frame 2 1 ∷ TurnOfOne 1
     ≡ []
 unfolding said told frame
 nothing_comes_for_a_receiver_that_is_not_there = refl
+
+a_turn_of_a_named_receiver_leaves_the_next_turn_where_it_was : said (frame 0 1 ∷ frame 0 2 ∷ frame 1 3 ∷ To 0 (Turn 1) ∷ TurnOfOne 1 ∷ TurnOfOne 1 ∷ [])
+    ≡ (0, 1, Goes) ∷ (0, 2, Goes) ∷ (1, 3, Goes) ∷ []
+unfolding said told frame
+a_turn_of_a_named_receiver_leaves_the_next_turn_where_it_was = refl
+
+a_paused_network_has_no_turn : said (frame 0 1 ∷ To 1 (Comes 2 false 5 0) ∷ Pauses true ∷ TurnOfOne 1 ∷ Pauses false ∷ TurnOfOne 6 ∷ TurnOfOne 6 ∷ [])
+    ≡ (0, 1, Goes) ∷ (1, 2, Late) ∷ []
+unfolding said told frame
+a_paused_network_has_no_turn = refl
+
+one_that_is_given_up_leaves_the_turn_to_the_next : said (frame 0 1 ∷ frame 0 2 ∷ frame 1 3 ∷ To 0 GivesUp ∷ TurnOfOne 1 ∷ TurnOfOne 1 ∷ [])
+    ≡ (0, 1, GivenUp) ∷ (0, 2, Goes) ∷ (1, 3, Goes) ∷ []
+unfolding said told frame
+one_that_is_given_up_leaves_the_turn_to_the_next = refl

@@ -16,10 +16,10 @@ use Rattle.downlink.proofs.Parts.{own_step, own_answers-append}
 
 pub named_step : (n : Network) (receiver : ℕ) (call : Call) (q q' : Queue) → receiver < length n.receivers
     → q ≡ get_or n.receivers receiver q → q' ≡ step q call
-    → record { receivers = set n.receivers receiver q'; from = n.from } ≡ network_step n (To receiver call)
+    → record { receivers = set n.receivers receiver q'; from = n.from; is_paused = n.is_paused } ≡ network_step n (To receiver call)
 named_step n receiver call q q' within read s =
     let there : slice_get n.receivers receiver ≡ Some q = slice_get_read n.receivers (length n.receivers) receiver q refl within read in
-    let whole : List Queue → Network = λ receivers. record { receivers = receivers; from = n.from } in
+    let whole : List Queue → Network = λ receivers. record { receivers = receivers; from = n.from; is_paused = n.is_paused } in
     ap whole (ap (set n.receivers receiver) s ∙ ap (put_at (λ x. step x call) receiver n.receivers) (sym there))
 
 same_told : (receiver : ℕ) (told : Option Answer)
@@ -42,26 +42,26 @@ named_answer n receiver call q told within read e =
 abbrev after_turn_of : (now : ℕ) → Network → Option ℕ → Network
 after_turn_of now n turn =
     let given = option_map (λ receiver. (receiver, Turn now)) turn in
-    record { receivers = after_one step given n.receivers; from = from_after n.from (answer_of_one answer given n.receivers) }
+    record { receivers = after_one step given n.receivers; from = from_after n.from (answer_of_one answer given n.receivers); is_paused = n.is_paused }
 
 pub turned : (n : Network) (receiver now : ℕ) (q q' : Queue) (next : Option Answer) → Some receiver ≡ turn_of n
     → receiver < length n.receivers → q ≡ get_or n.receivers receiver q → q' ≡ step q (Turn now)
     → next ≡ answer q (Turn now)
-    → (record { receivers = set n.receivers receiver q'; from = from_after n.from (option_map (λ a. (receiver, a)) next) }
+    → (record { receivers = set n.receivers receiver q'; from = from_after n.from (option_map (λ a. (receiver, a)) next); is_paused = n.is_paused }
     ≡ network_step n (TurnOfOne now))
     × (option_map (λ a. receiver_answer (receiver, a)) next ≡ option_map receiver_answer (network_answer n (TurnOfOne now)))
 turned n receiver now q q' next e within r s a =
     let there : slice_get n.receivers receiver ≡ Some q = slice_get_read n.receivers (length n.receivers) receiver q refl within r in
     let said : Option Queue → Option (ℕ × Answer) = λ old. option_map (λ x. (receiver, x)) (option_and_then (λ x. answer x (Turn now)) old) in
     let left : Network =
-    record { receivers = set n.receivers receiver q'; from = from_after n.from (option_map (λ x. (receiver, x)) next) } in
+    record { receivers = set n.receivers receiver q'; from = from_after n.from (option_map (λ x. (receiver, x)) next); is_paused = n.is_paused } in
     let mid : Network =
-    record { receivers = set n.receivers receiver (step q (Turn now)); from = from_after n.from (said (Some q)) } in
+    record { receivers = set n.receivers receiver (step q (Turn now)); from = from_after n.from (said (Some q)); is_paused = n.is_paused } in
     let first : left ≡ mid =
-    ap (λ (x : Queue). let it : Network = record { receivers = set n.receivers receiver x; from = from_after n.from (option_map (λ y. (receiver, y)) next) } in it) s
-    ∙ ap (λ (x : Option Answer). let it : Network = record { receivers = set n.receivers receiver (step q (Turn now)); from = from_after n.from (option_map (λ y. (receiver, y)) x) } in it) a in
+    ap (λ (x : Queue). let it : Network = record { receivers = set n.receivers receiver x; from = from_after n.from (option_map (λ y. (receiver, y)) next); is_paused = n.is_paused } in it) s
+    ∙ ap (λ (x : Option Answer). let it : Network = record { receivers = set n.receivers receiver (step q (Turn now)); from = from_after n.from (option_map (λ y. (receiver, y)) x); is_paused = n.is_paused } in it) a in
     let second : mid ≡ after_turn_of now n (Some receiver) =
-    ap (λ (x : Option Queue). let it : Network = record { receivers = put_at (λ y. step y (Turn now)) receiver n.receivers x; from = from_after n.from (said x) } in it) (sym there) in (
+    ap (λ (x : Option Queue). let it : Network = record { receivers = put_at (λ y. step y (Turn now)) receiver n.receivers x; from = from_after n.from (said x); is_paused = n.is_paused } in it) (sym there) in (
       first ∙ second ∙ ap (after_turn_of now n) e,
       same_told receiver next ∙ ap (λ o. option_map receiver_answer (option_map (λ x. (receiver, x)) o)) a
           ∙ ap (λ o. option_map receiver_answer (said o)) (sym there)

@@ -9,13 +9,17 @@ use Rattle.std.proofs.lemmas.List.Sums.{sum_by-cons}
 use Rattle.std.proofs.lemmas.List.{length-set, length-map}
 use Rattle.downlink.specs.declared.answer.Answer.{Answer}
 use Rattle.air_share.specs.Lanes.{chosen}
+use Rattle.air_share.specs.LaneRuns.{is_turn_of}
 use Rattle.downlink.specs.Receiver.{Queue, new_queue}
-use Rattle.downlink.specs.Calls.{Call, Comes, Turn, Told, Returns, Joins, Leaves, Dozes, Settles, Wakes, Polls, step, after, answers}
+use Rattle.downlink.specs.Calls.{Call, Comes, Turn, Told, Returns, GivesUp, Joins, Leaves, Dozes, Settles, Wakes, Polls}
+use Rattle.downlink.specs.Calls.{step, after, answers}
 use Rattle.downlink.specs.Laws.{one_if, count, held, brings, is_gone, goes_first, goes_again, waits_again, tells, IsWithin}
 use Rattle.downlink.specs.Laws.{came_by, came, went, is_new_unit}
 use Rattle.downlink.specs.Parts.{put_at, after_one, own_call, own_answers}
-use Rattle.downlink.specs.Networks.{Network, new_network, NetworkCall, To, TurnOfOne, turn_of, goes_to, network_step, network_after, calls_to}
-use Rattle.downlink.specs.Radios.{Radio, RadioCall, Of, Next, Used, receiver_at, goes_to_network, radio_step, radio_after, radio_answers, own_calls}
+use Rattle.downlink.specs.Networks.{Network, new_network, NetworkCall, To, TurnOfOne, Pauses as NetworkPauses, turn_of, goes_to}
+use Rattle.downlink.specs.Networks.{network_step, network_after, calls_to}
+use Rattle.downlink.specs.Radios.{Radio, RadioCall, Of, Next, NextOf, Pauses, Used, receiver_at, goes_to_network, radio_step}
+use Rattle.downlink.specs.Radios.{radio_after, radio_answers, own_calls}
 use Rattle.downlink.specs.RadioReceivers.{answers_to, calls_in, calls_at, came_for_by, came_at_by, came_at, IsReceiverAloneInRadio}
 use Rattle.downlink.specs.RadioReceivers.{LosesNothing, MakesNothingUp, DoublesNothing, KeepsOrder, LetsSleep, frames_waiting, HoldsFew}
 use Rattle.downlink.proofs.Asleep.{goes_by_polls}
@@ -57,6 +61,7 @@ came_one receiver n (To other call) =
     elim (nat_eq other receiver) as (λ b. came (if b then call ∷ [] else []) ≡ (if b then came_by call else []))
     [ true ↦ append-nil (came_by call) | false ↦ refl ]
 came_one receiver n (TurnOfOne now) = turn_brings_none receiver now (turn_of n)
+came_one receiver n (NetworkPauses is_paused) = refl
 
 came_to : (receiver : ℕ) (n : Network) (calls : List NetworkCall) → came (calls_to receiver n calls) ≡ came_for receiver calls
 unfolding came_for
@@ -73,6 +78,22 @@ next_brings_none place receiver now None = refl
 next_brings_none place receiver now (Some x) =
     elim (nat_eq x place) as (λ b. came_for receiver (if b then TurnOfOne now ∷ [] else []) ≡ []) [ true ↦ refl | false ↦ refl ]
 
+named_turn_brings_none : (place receiver other whom now : ℕ) (is_chosen : Bool)
+    → came_for receiver (own_call place (if is_chosen then Some (other, To whom (Turn now)) else None)) ≡ []
+unfolding came_for
+named_turn_brings_none place receiver other whom now false = refl
+named_turn_brings_none place receiver other whom now true =
+    elim (nat_eq other place) as (λ b. came_for receiver (if b then To whom (Turn now) ∷ [] else []) ≡ []) [
+      | true ↦ elim (nat_eq whom receiver) as (λ b. (if b then came_by (Turn now) else []) ++ [] ≡ []) [ true ↦ refl | false ↦ refl ]
+      | false ↦ refl
+    ]
+
+pause_brings_none : (place receiver other : ℕ) (is_paused : Bool)
+    → came_for receiver (own_call place (Some (other, NetworkPauses is_paused))) ≡ []
+unfolding came_for
+pause_brings_none place receiver other is_paused =
+    elim (nat_eq other place) as (λ b. came_for receiver (if b then NetworkPauses is_paused ∷ [] else []) ≡ []) [ true ↦ refl | false ↦ refl ]
+
 named_one : (place receiver : ℕ) (r : Radio) (call : RadioCall)
     → came_for receiver (own_call place (goes_to_network r call)) ≡ came_at_by place receiver call
 unfolding came_for
@@ -81,6 +102,9 @@ named_one place receiver r (Of other whom call) =
     ≡ (if b then came_for_by receiver (To whom call) else []))
     [ true ↦ append-nil (came_for_by receiver (To whom call)) | false ↦ refl ]
 named_one place receiver r (Next now) = next_brings_none place receiver now (chosen r.lanes)
+named_one place receiver r (NextOf other whom now) =
+    named_turn_brings_none place receiver other whom now (is_turn_of other (chosen r.lanes))
+named_one place receiver r (Pauses other is_paused) = pause_brings_none place receiver other is_paused
 named_one place receiver r (Used other units) = refl
 
 came_named : (place receiver : ℕ) (r : Radio) (calls : List RadioCall)
@@ -119,6 +143,7 @@ brought p (Comes ticket is_unit until now) = omega arith
 brought p (Turn now) = refl
 brought p (Told ticket is_acknowledged) = refl
 brought p Returns = refl
+brought p GivesUp = refl
 brought p Joins = refl
 brought p Leaves = refl
 brought p Dozes = refl

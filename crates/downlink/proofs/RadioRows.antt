@@ -4,10 +4,10 @@ use Rattle.air_share.specs.Lanes.{chosen, after_turn, after_telling}
 use Rattle.air_share.specs.LaneRuns.{lane_step}
 use Rattle.downlink.specs.declared.answer.Answer.{Answer}
 use Rattle.downlink.specs.declared.answer.Fate.{Fate}
-use Rattle.downlink.specs.declared.answer.Fate.TheVariants.{Goes, Late, HandedBack}
-use Rattle.downlink.specs.Calls.{Comes, Returns, Joins, Dozes}
-use Rattle.downlink.specs.Networks.{To, TurnOfOne}
-use Rattle.downlink.specs.Radios.{Radio, new_radio, RadioCall, Of, Next, Used, radio_answers, own_calls}
+use Rattle.downlink.specs.declared.answer.Fate.TheVariants.{Goes, Late, HandedBack, GivenUp}
+use Rattle.downlink.specs.Calls.{Comes, Turn, Returns, GivesUp, Joins, Dozes}
+use Rattle.downlink.specs.Networks.{To, TurnOfOne, Pauses as NetworkPauses}
+use Rattle.downlink.specs.Radios.{Radio, new_radio, RadioCall, Of, Next, NextOf, Pauses, Used, radio_answers, own_calls}
 
 -- each answer as its network, its receiver, its ticket and its fate
 told : List (ℕ × (ℕ × Answer)) → List (ℕ × ℕ × ℕ × Fate)
@@ -50,3 +50,30 @@ a_turn_counts_where_nothing_went : own_calls 0 two (Of 0 0 (Comes 1 false 5 0) �
     ≡ To 0 (Comes 1 false 5 0) ∷ TurnOfOne 6 ∷ []
 unfolding two chosen lane_step after_turn after_telling
 a_turn_counts_where_nothing_went = refl
+
+a_caller_chooses_a_receiver_of_the_network_whose_turn_it_is : said (frame 0 0 1 ∷ frame 1 0 2 ∷ frame 1 1 3 ∷ NextOf 1 1 1 ∷ NextOf 0 0 1 ∷ Used 0 100
+    ∷ NextOf 0 0 1 ∷ NextOf 1 1 1 ∷ Used 1 100 ∷ Next 1 ∷ [])
+    ≡ (0, 0, 1, Goes) ∷ (1, 1, 3, Goes) ∷ (1, 0, 2, Goes) ∷ []
+unfolding said told two frame chosen lane_step after_turn after_telling
+a_caller_chooses_a_receiver_of_the_network_whose_turn_it_is = refl
+
+a_receiver_with_nothing_to_send_keeps_the_turn_of_its_network : said (frame 1 0 1 ∷ NextOf 1 1 1 ∷ NextOf 1 2 1 ∷ NextOf 1 0 2 ∷ [])
+    ≡ (1, 0, 1, Goes) ∷ []
+unfolding said told two frame chosen lane_step after_turn after_telling
+a_receiver_with_nothing_to_send_keeps_the_turn_of_its_network = refl
+
+a_paused_network_leaves_its_turn_to_others : said (frame 0 0 1 ∷ frame 1 0 2 ∷ Pauses 0 true ∷ NextOf 0 0 1 ∷ Next 1 ∷ Next 1 ∷ Pauses 0 false ∷ Next 1 ∷ [])
+    ≡ (1, 0, 2, Goes) ∷ (0, 0, 1, Goes) ∷ []
+unfolding said told two frame chosen lane_step after_turn after_telling
+a_paused_network_leaves_its_turn_to_others = refl
+
+a_network_whose_only_frame_is_given_up_has_no_turn : said (frame 0 0 1 ∷ Of 0 0 GivesUp ∷ frame 1 0 2 ∷ Next 1 ∷ [])
+    ≡ (0, 0, 1, GivenUp) ∷ (1, 0, 2, Goes) ∷ []
+unfolding said told two frame chosen lane_step after_turn after_telling
+a_network_whose_only_frame_is_given_up_has_no_turn = refl
+
+a_turn_of_a_named_receiver_is_its_networks_own_call_where_the_rule_chose_that : own_calls 1 two (frame 1 1 2 ∷ frame 0 0 1 ∷ NextOf 1 1 3 ∷ Next 4
+    ∷ NextOf 1 1 5 ∷ Pauses 1 true ∷ Pauses 0 true ∷ [])
+    ≡ To 1 (Comes 2 false 50 0) ∷ To 1 (Turn 5) ∷ NetworkPauses true ∷ []
+unfolding two frame chosen lane_step after_turn after_telling
+a_turn_of_a_named_receiver_is_its_networks_own_call_where_the_rule_chose_that = refl

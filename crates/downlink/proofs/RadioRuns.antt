@@ -13,7 +13,7 @@ use Rattle.downlink.specs.declared.answer.Answer.{Answer}
 use Rattle.downlink.specs.Receiver.{new_queue}
 use Rattle.downlink.specs.Parts.{put_at, after_one, own_answers}
 use Rattle.downlink.specs.Networks.{Network, new_network, first_from, or_else, has_next, NetworkCall, network_step, network_answer}
-use Rattle.downlink.specs.Radios.{Radio, new_lane, RadioCall, Of, Next, Used, goes_to_network, radio_answer, radio_step}
+use Rattle.downlink.specs.Radios.{Radio, new_lane, RadioCall, Of, Next, NextOf, Pauses, Used, goes_to_network, radio_answer, radio_step}
 use Rattle.downlink.specs.Radios.{waits_now, waits_after, turn_if, is_sent, air_events, lane_events_by, radio_after, radio_answers, lane_events}
 use Rattle.downlink.specs.Radios.{own_calls, queue_alone, answers_alone}
 use Rattle.downlink.specs.RadioLaws.{IsAlone, IsUnmoved, waits_of, IsTold, StaysTold, IsToldWithMore, IsMadeOneByOne, IsByTheRule}
@@ -99,6 +99,8 @@ waits-tell lanes place units = waits-set lanes place _ refl
 waits-air : (r : Radio) (call : RadioCall) → waits_of (lanes_after r.lanes (air_events r call)) ≡ waits_of r.lanes
 waits-air r (Of place receiver call) = refl
 waits-air r (Next now) = waits-serve r.lanes (is_sent (radio_answer r (Next now)))
+waits-air r (NextOf place receiver now) = waits-serve r.lanes (is_sent (radio_answer r (NextOf place receiver now)))
+waits-air r (Pauses place is_paused) = refl
 waits-air r (Used place units) = waits-tell r.lanes place units
 
 waits-step : (lanes : List Lane) (place : ℕ) (waits : Bool) → waits_of (lane_step lanes (Waits place waits)) ≡ set (waits_of lanes) place waits
@@ -199,6 +201,9 @@ air_calm : (place : ℕ) (r : Radio) (call : RadioCall) → IsTold r → HasNext
     → WaitsThroughout place r.lanes (air_events r call)
 air_calm place r (Of other receiver call) t h = tt
 air_calm place r (Next now) t h = calm_turn place r.lanes (is_sent (radio_answer r (Next now))) (told_at r place t h)
+air_calm place r (NextOf other receiver now) t h =
+    calm_turn place r.lanes (is_sent (radio_answer r (NextOf other receiver now))) (told_at r place t h)
+air_calm place r (Pauses other is_paused) t h = tt
 air_calm place r (Used other units) t h = calm_tell place r.lanes other units
 
 throughout : (place : ℕ) (r : Radio) (calls : List RadioCall) → IsTold r → HasNextThroughout place r calls

@@ -1,20 +1,21 @@
 -- What calls make of a radio's queue.
 use Rattle.std.proofs.Common.{◌≡◌, ◌<◌, ◌≤◌, ◌↔◌, ℕ, zero, suc, Bool, true, false, List, [], ◌∷◌, ◌++◌, length, get_or, set, Option, Some, None, is_some, Ok}
 use Rattle.std.proofs.Common.{MatchOption, IsErrOf, refl, sym, ap, ◌∙◌, subst, inl, inr, arith}
-use Rattle.std.specs.Prelude.{slice_get}
+use Rattle.std.specs.Prelude.{slice_get, IfSome, if◌then◌else◌}
 use Rattle.std.specs.Option.{option_map, option_and_then}
-use Rattle.std.proofs.lemmas.Bool.{cases_lt, false≢true}
+use Rattle.std.proofs.lemmas.Bool.{cases_lt, false≢true, eqb-true}
 use Rattle.std.proofs.lemmas.List.{get_or_past}
 use Rattle.std.proofs.lemmas.Option.{slice_get_read, slice_get_past, slice_get-get_or, none-some}
 use Rattle.air_share.specs.declared.lane.Lane.{Lane}
-use Rattle.air_share.specs.Lanes.{chosen, lane_at, no_lane}
-use Rattle.air_share.specs.LaneRuns.{Waits, lane_step, lanes_after}
+use Rattle.air_share.specs.Lanes.{chosen, lane_at, no_lane, IsChoice}
+use Rattle.air_share.specs.LaneRuns.{Waits, lane_step, lanes_after, is_turn_of}
 use Rattle.downlink.specs.declared.answer.Answer.{Answer}
 use Rattle.downlink.specs.declared.network_queue.ReceiverAnswer.{ReceiverAnswer}
 use Rattle.downlink.specs.Receiver.{new_queue, is_sending}
 use Rattle.downlink.specs.Parts.{put_at, after_one, answer_of_one}
-use Rattle.downlink.specs.Networks.{Network, NetworkCall, TurnOfOne, has_next, network_step, network_answer, receiver_answer}
-use Rattle.downlink.specs.Radios.{Radio, Next, receiver_at, is_sent, turn_if, waits_now, waits_after, radio_step, radio_answer}
+use Rattle.downlink.specs.Calls.{Turn}
+use Rattle.downlink.specs.Networks.{Network, NetworkCall, To, TurnOfOne, has_next, network_step, network_answer, receiver_answer}
+use Rattle.downlink.specs.Radios.{Radio, Next, NextOf, receiver_at, is_sent, turn_if, waits_now, waits_after, radio_step, radio_answer}
 use Rattle.downlink.specs.Radios.{answer_from, network_answer_of}
 use Rattle.downlink.proofs.Parts.{set_there}
 
@@ -62,26 +63,25 @@ sent_told : (place : ℕ) (told : Option (ℕ × Answer)) (sent : Bool)
 sent_told place None sent h = h
 sent_told place (Some told) sent h = h
 
--- a radio after a turn of the network that the rule chose
-abbrev after_turn_of : (now : ℕ) → Radio → Option ℕ → Radio
-after_turn_of now r turn =
-    let given = option_map (λ place. (place, TurnOfOne now)) turn in
+-- a radio after a turn, where it goes so
+abbrev after_given : Radio → Option (ℕ × NetworkCall) → Radio
+after_given r given =
     let networks = after_one network_step given r.networks in
     record {
       lanes = lanes_after r.lanes (turn_if (is_sent (answer_of_one network_answer given r.networks)) ++ waits_after networks given);
       networks = networks;
     }
 
-pub next_step : (r : Radio) (place now : ℕ) (n n' : Network) (told : Option ReceiverAnswer) (sent : Bool) (lanes' : List Lane)
-    → Some place ≡ chosen r.lanes → place < length r.networks → n ≡ get_or r.networks place n
-    → n' ≡ network_step n (TurnOfOne now) → told ≡ option_map receiver_answer (network_answer n (TurnOfOne now))
+given_step : (r : Radio) (place : ℕ) (call : NetworkCall) (n n' : Network) (told : Option ReceiverAnswer) (sent : Bool) (lanes' : List Lane)
+    → place < length r.networks → n ≡ get_or r.networks place n
+    → n' ≡ network_step n call → told ≡ option_map receiver_answer (network_answer n call)
     → MatchOption told (sent ≡ false) (λ t. sent ≡ is_sending t.answer.fate)
     → lanes' ≡ lanes_after r.lanes (turn_if sent ++ Waits place (has_next n') ∷ [])
-    → record { lanes = lanes'; networks = set r.networks place n' } ≡ radio_step r (Next now)
-next_step r place now n n' told sent lanes' e within read s a m l =
+    → record { lanes = lanes'; networks = set r.networks place n' } ≡ after_given r (Some (place, call))
+given_step r place call n n' told sent lanes' within read s a m l =
     let there : slice_get r.networks place ≡ Some n = slice_get_read r.networks (length r.networks) place n refl within read in
     let here : slice_get (set r.networks place n') place ≡ Some n' = set_there r.networks place n n' there in
-    let said : Option (ℕ × Answer) = network_answer n (TurnOfOne now) in
+    let said : Option (ℕ × Answer) = network_answer n call in
     let matched : Option ReceiverAnswer → Type 0 = λ t. MatchOption t (sent ≡ false) (λ x. sent ≡ is_sending x.answer.fate) in
     let same : sent ≡ is_sent (option_map (λ x. (place, x)) said) = sent_told place said sent (subst matched a m) in
     let with_lanes : List Lane → Radio = λ lanes. record { lanes = lanes; networks = set r.networks place n' } in
@@ -90,15 +90,25 @@ next_step r place now n n' told sent lanes' e within read s a m l =
       networks = networks;
     } in
     let found : Option Network → Radio = λ old. (
-    let networks = put_at (λ x. network_step x (TurnOfOne now)) place r.networks old in
+    let networks = put_at (λ x. network_step x call) place r.networks old in
     record {
-      lanes = lanes_after r.lanes (turn_if (is_sent (option_map (λ x. (place, x)) (option_and_then (λ x. network_answer x (TurnOfOne now)) old))) ++ waits_now place (slice_get networks place));
+      lanes = lanes_after r.lanes (turn_if (is_sent (option_map (λ x. (place, x)) (option_and_then (λ x. network_answer x call) old))) ++ waits_now place (slice_get networks place));
       networks = networks;
     }
     ) in
     ap with_lanes (l ∙ ap (λ b. lanes_after r.lanes (turn_if b ++ Waits place (has_next n') ∷ [])) same
     ∙ ap (λ old. lanes_after r.lanes (turn_if (is_sent (option_map (λ x. (place, x)) said)) ++ waits_now place old)) (sym here))
-    ∙ ap whole (ap (set r.networks place) s) ∙ ap found (sym there) ∙ ap (after_turn_of now r) e
+    ∙ ap whole (ap (set r.networks place) s) ∙ ap found (sym there)
+
+pub next_step : (r : Radio) (place now : ℕ) (n n' : Network) (told : Option ReceiverAnswer) (sent : Bool) (lanes' : List Lane)
+    → Some place ≡ chosen r.lanes → place < length r.networks → n ≡ get_or r.networks place n
+    → n' ≡ network_step n (TurnOfOne now) → told ≡ option_map receiver_answer (network_answer n (TurnOfOne now))
+    → MatchOption told (sent ≡ false) (λ t. sent ≡ is_sending t.answer.fate)
+    → lanes' ≡ lanes_after r.lanes (turn_if sent ++ Waits place (has_next n') ∷ [])
+    → record { lanes = lanes'; networks = set r.networks place n' } ≡ radio_step r (Next now)
+next_step r place now n n' told sent lanes' e within read s a m l =
+    given_step r place (TurnOfOne now) n n' told sent lanes' within read s a m l
+    ∙ ap (λ turn. after_given r (option_map (λ p. (p, TurnOfOne now)) turn)) e
 
 pub next_answer : (r : Radio) (place now : ℕ) (n : Network) (told : Option ReceiverAnswer) → Some place ≡ chosen r.lanes
     → place < length r.networks → n ≡ get_or r.networks place n
@@ -107,6 +117,34 @@ pub next_answer : (r : Radio) (place now : ℕ) (n : Network) (told : Option Rec
 next_answer r place now n told e within read a =
     named_answer r place n (TurnOfOne now) told within read a
     ∙ ap (λ turn. option_map network_answer_of (answer_of_one network_answer (option_map (λ p. (p, TurnOfOne now)) turn) r.networks)) e
+
+-- ---- a turn of a network and a receiver that the caller names
+
+-- where the turn is that of the network at the place, or isn't
+abbrev given_if : (place receiver now : ℕ) → Bool → Option (ℕ × NetworkCall)
+given_if place receiver now is_chosen = if is_chosen then Some (place, To receiver (Turn now)) else None
+
+pub next_of_step : (r : Radio) (place receiver now : ℕ) (n n' : Network) (told : Option ReceiverAnswer) (sent : Bool) (lanes' : List Lane)
+    → is_turn_of place (chosen r.lanes) ≡ true → place < length r.networks → n ≡ get_or r.networks place n
+    → n' ≡ network_step n (To receiver (Turn now)) → told ≡ option_map receiver_answer (network_answer n (To receiver (Turn now)))
+    → MatchOption told (sent ≡ false) (λ t. sent ≡ is_sending t.answer.fate)
+    → lanes' ≡ lanes_after r.lanes (turn_if sent ++ Waits place (has_next n') ∷ [])
+    → record { lanes = lanes'; networks = set r.networks place n' } ≡ radio_step r (NextOf place receiver now)
+next_of_step r place receiver now n n' told sent lanes' e within read s a m l =
+    given_step r place (To receiver (Turn now)) n n' told sent lanes' within read s a m l
+    ∙ ap (λ b. after_given r (given_if place receiver now b)) (sym e)
+
+pub next_of_answer : (r : Radio) (place receiver now : ℕ) (n : Network) (told : Option ReceiverAnswer)
+    → is_turn_of place (chosen r.lanes) ≡ true → place < length r.networks → n ≡ get_or r.networks place n
+    → told ≡ option_map receiver_answer (network_answer n (To receiver (Turn now)))
+    → option_map (answer_from place) told ≡ option_map network_answer_of (radio_answer r (NextOf place receiver now))
+next_of_answer r place receiver now n told e within read a =
+    named_answer r place n (To receiver (Turn now)) told within read a
+    ∙ ap (λ b. option_map network_answer_of (answer_of_one network_answer (given_if place receiver now b) r.networks)) (sym e)
+
+turn_is : (place : ℕ) (turn : Option ℕ) → is_turn_of place turn ≡ true → turn ≡ Some place
+turn_is place None e = absurd (false≢true e)
+turn_is place (Some other) e = ap Some (eqb-true other place e)
 
 -- ---- whether a receiver is there
 
@@ -148,3 +186,10 @@ waits_there lanes place h =
       | inl l ↦ l
       | inr past ↦ absurd (false≢true (ap (λ lane. lane.waits) (sym (get_or_past lanes place no_lane past)) ∙ h))
     ]
+
+-- where the turn is that of the network at a place, that is there
+pub turn_there : (lanes : List Lane) (place : ℕ) (turn : Option ℕ) → is_turn_of place turn ≡ true → IfSome turn (IsChoice lanes)
+    → place < length lanes
+turn_there lanes place turn e some =
+    let chosen_there : IsChoice lanes place = subst (λ (t : Option ℕ). IfSome t (IsChoice lanes)) (turn_is place turn e) some in
+    waits_there lanes place chosen_there.waits

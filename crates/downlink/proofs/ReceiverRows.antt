@@ -3,9 +3,10 @@ use Rattle.std.proofs.Common.{◌≡◌, ℕ, true, false, List, [], ◌∷◌, 
 use Rattle.downlink.specs.declared.answer.Answer.{Answer}
 use Rattle.downlink.specs.declared.answer.Fate.{Fate}
 use Rattle.downlink.specs.declared.answer.Fate.TheVariants.{Goes, GoesAgain, Acknowledged, WaitsAgain, Lost, HandedBack}
-use Rattle.downlink.specs.declared.answer.Fate.TheVariants.{Late, Crowded, Left}
+use Rattle.downlink.specs.declared.answer.Fate.TheVariants.{Late, Crowded, Left, GivenUp}
 use Rattle.downlink.specs.Receiver.{new_queue}
-use Rattle.downlink.specs.Calls.{Call, Comes, Turn, Told, Returns, Joins, Leaves, Dozes, Settles, Wakes, Polls, answers}
+use Rattle.downlink.specs.Calls.{Call, Comes, Turn, Told, Returns, GivesUp, Joins, Leaves, Dozes, Settles, Wakes, Polls}
+use Rattle.downlink.specs.Calls.{answers}
 
 -- each answer as its ticket and its fate
 told : List Answer → List (ℕ × Fate)
@@ -108,3 +109,23 @@ what_the_radio_had_then_goes_no_second_time : said (Joins ∷ unit 1 ∷ Turn 1 
     ≡ (1, Goes) ∷ (1, Lost) ∷ []
 unfolding said told unit
 what_the_radio_had_then_goes_no_second_time = refl
+
+one_that_is_given_up_is_dropped_and_the_next_one_goes : said (Joins ∷ unit 1 ∷ unit 2 ∷ GivesUp ∷ Turn 1 ∷ GivesUp ∷ [])
+    ≡ (1, GivenUp) ∷ (2, Goes) ∷ []
+unfolding said told unit
+one_that_is_given_up_is_dropped_and_the_next_one_goes = refl
+
+one_that_waits_to_go_once_more_is_given_up_first : said (Joins ∷ unit 1 ∷ unit 2 ∷ Turn 1 ∷ Told 1 false ∷ GivesUp ∷ Turn 2 ∷ [])
+    ≡ (1, Goes) ∷ (1, WaitsAgain) ∷ (1, GivenUp) ∷ (2, Goes) ∷ []
+unfolding said told unit
+one_that_waits_to_go_once_more_is_given_up_first = refl
+
+an_answer_to_a_poll_that_is_given_up_goes_back : said (Joins ∷ Dozes ∷ Settles ∷ Polls 9 ∷ unit 1 ∷ Comes 2 false 50 0 ∷ GivesUp ∷ GivesUp ∷ [])
+    ≡ (1, HandedBack) ∷ (2, GivenUp) ∷ []
+unfolding said told unit
+an_answer_to_a_poll_that_is_given_up_goes_back = refl
+
+what_goes_back_is_not_given_up : said (Joins ∷ unit 1 ∷ Dozes ∷ GivesUp ∷ Returns ∷ [])
+    ≡ (1, HandedBack) ∷ []
+unfolding said told unit
+what_goes_back_is_not_given_up = refl

@@ -16,12 +16,12 @@ use Rattle.downlink.specs.Receiver.{unsent_fate, sending_fate, fate_answer}
 use Rattle.downlink.specs.Receiver.{frame_that_comes, next_sent, without_next, turn_answer, after_turn}
 use Rattle.downlink.specs.Receiver.{has_ticket, again_beside, is_last, told_answer, after_told, next_leaving, in_mode}
 use Rattle.downlink.specs.Receiver.{after_dozing, after_settling, after_waking, after_polling}
-use Rattle.downlink.specs.Calls.{Call, Comes, Turn, Told, Returns, Joins, Leaves, Dozes, Settles, Wakes, Polls, step}
-use Rattle.downlink.specs.Calls.{answer, after, answers}
+use Rattle.downlink.specs.Calls.{Call, Comes, Turn, Told, Returns, GivesUp, Joins, Leaves, Dozes, Settles, Wakes, Polls}
+use Rattle.downlink.specs.Calls.{step, answer, after, answers}
 use Rattle.downlink.specs.Laws.{one_if, count, has, goes_first, goes_again, waits_again, tells, GoesAtMostTwice}
 use Rattle.downlink.proofs.Counts.{count-append, first_counted}
 use Rattle.downlink.proofs.Conserved.{way_counted}
-use Rattle.downlink.proofs.Fates.{told_by, deaf_to_unsent, deaf_to_crowding, deaf_to_leaving, deaf_to_loss}
+use Rattle.downlink.proofs.Fates.{told_by, deaf_to_unsent, deaf_to_crowding, deaf_to_leaving, deaf_to_giving_up, deaf_to_loss}
 
 -- how many such tickets wait to go once more, and how many that went once are out
 abbrev pub waits : (ℕ → Bool) → Queue → ℕ
@@ -158,6 +158,13 @@ returned_twice p q =
     (deaf_to_leaving (tells waits_again p) (next_leaving q) (λ f. refl) (λ f. refl))
     (omega (arith, again_counted p (takes_way false) q.again q.waiting)) (omega arith)
 
+given_up_twice : (p : ℕ → Bool) (q : Queue) → Twice p q (step q GivesUp) (answer q GivesUp)
+given_up_twice p q =
+    quiet p q (step q GivesUp) (answer q GivesUp)
+    (deaf_to_giving_up (tells goes_again p) q.mode (next_sent q) (λ f. refl) (λ f. refl))
+    (deaf_to_giving_up (tells waits_again p) q.mode (next_sent q) (λ f. refl) (λ f. refl))
+    (omega (arith, again_counted p (takes_way true) q.again q.waiting)) (omega arith)
+
 mode_twice : (p : ℕ → Bool) (mode : StationMode) (way : Way) (q : Queue) → Twice p q (in_mode mode way q) None
 mode_twice p mode way q = (omega (arith, way_counted p way q.again), omega arith)
 
@@ -194,6 +201,7 @@ step_twice p q (Comes ticket is_unit until now) =
 step_twice p q (Turn now) = turned_twice p now q (next_sent q) refl
 step_twice p q (Told ticket is_acknowledged) = told_twice p ticket is_acknowledged q (first_that (has_ticket ticket) q.out) refl
 step_twice p q Returns = returned_twice p q
+step_twice p q GivesUp = given_up_twice p q
 step_twice p q Joins = (omega arith, omega arith)
 step_twice p q Leaves = mode_twice p Absent IsDropped q
 step_twice p q Dozes = dozes_twice p q.mode q

@@ -14,8 +14,8 @@ use Rattle.downlink.specs.Receiver.{frame_that_comes}
 use Rattle.downlink.specs.Receiver.{sent_another_way, next_sent, without_next, after_turn, first_that, has_ticket}
 use Rattle.downlink.specs.Receiver.{after_told}
 use Rattle.downlink.specs.Receiver.{after_dozing, after_settling, after_waking, after_polling}
-use Rattle.downlink.specs.Calls.{Call, Comes, Turn, Told, Returns, Joins, Leaves, Dozes, Settles, Wakes, Polls, step}
-use Rattle.downlink.specs.Calls.{after}
+use Rattle.downlink.specs.Calls.{Call, Comes, Turn, Told, Returns, GivesUp, Joins, Leaves, Dozes, Settles, Wakes, Polls}
+use Rattle.downlink.specs.Calls.{step, after}
 use Rattle.downlink.specs.Laws.{IsWithin, tickets, came_by, came, WaitsInOrder}
 use Rattle.downlink.proofs.Lists.{within_same, within_after, within_before, within_more, within_both}
 
@@ -107,6 +107,7 @@ step_keeps q (Comes ticket is_unit until now) = comes_keeps q (frame_that_comes 
 step_keeps q (Turn now) = turn_keeps now q (next_sent q)
 step_keeps q (Told ticket is_acknowledged) = told_keeps ticket is_acknowledged q (first_that (has_ticket ticket) q.out)
 step_keeps q Returns = some_leave q (step q Returns) (fewer_wait (takes_way false) q.again q.waiting)
+step_keeps q GivesUp = some_leave q (step q GivesUp) (fewer_wait (takes_way true) q.again q.waiting)
 step_keeps q Joins = all_same q q refl
 step_keeps q Leaves = all_same q (step q Leaves) (same_tickets IsDropped q.waiting)
 step_keeps q Dozes = dozes_keeps q.mode q

@@ -7,7 +7,7 @@ use Rattle.downlink.specs.declared.station_change.StationChange.{StationChange}
 use Rattle.downlink.specs.declared.station_change.StationChange.TheVariants as changes
 use Rattle.downlink.specs.declared.station_mode.StationMode.TheVariants.{Absent, Awake}
 use Rattle.downlink.specs.Receiver.{Queue, frame_that_comes, after_coming, crowded_out, next_sent, turn_answer}
-use Rattle.downlink.specs.Receiver.{after_turn}
+use Rattle.downlink.specs.Receiver.{after_turn, without_next, giving_up_answer}
 use Rattle.downlink.specs.Receiver.{first_that, has_ticket, told_answer, after_told, next_leaving, leaving_answer}
 use Rattle.downlink.specs.Receiver.{without_leaving}
 use Rattle.downlink.specs.Receiver.{in_mode, after_dozing, after_settling, after_waking, after_polling}
@@ -21,6 +21,8 @@ pub data Call : Type 0 where
   Told : (ticket : ℕ) → (is_acknowledged : Bool) → Call
   -- the next one goes back or is dropped that won't go
   Returns : Call
+  -- the next one that would go leaves without going
+  GivesUp : Call
   -- the station is associated
   Joins : Call
   -- it isn't associated any more
@@ -49,6 +51,7 @@ step q (Turn now) = after_turn now q (next_sent q)
 step q (Told ticket is_acknowledged) =
     after_told ticket is_acknowledged q (first_that (has_ticket ticket) q.out)
 step q Returns = without_leaving q
+step q GivesUp = without_next q
 step q Joins = record q { mode = Awake; right = None }
 step q Leaves = in_mode Absent IsDropped q
 step q Dozes = after_dozing q.mode q
@@ -62,6 +65,7 @@ answer q (Comes ticket is_unit until now) =
 answer q (Turn now) = turn_answer now q.mode (next_sent q)
 answer q (Told ticket is_acknowledged) = told_answer is_acknowledged q (first_that (has_ticket ticket) q.out)
 answer q Returns = option_map leaving_answer (next_leaving q)
+answer q GivesUp = option_map (giving_up_answer q.mode) (next_sent q)
 answer q Joins = None
 answer q Leaves = None
 answer q Dozes = None

@@ -7,12 +7,12 @@ use Rattle.downlink.specs.declared.frame.Sent.{Sent}
 use Rattle.downlink.specs.declared.answer.Answer.{Answer}
 use Rattle.downlink.specs.declared.answer.Fate.{Fate}
 use Rattle.downlink.specs.declared.answer.Fate.TheVariants.{Goes, GoesAgain, Acknowledged, WaitsAgain, Lost, HandedBack}
-use Rattle.downlink.specs.declared.answer.Fate.TheVariants.{Late, Crowded, Left}
+use Rattle.downlink.specs.declared.answer.Fate.TheVariants.{Late, Crowded, Left, GivenUp}
 use Rattle.downlink.specs.declared.station_mode.StationMode.{StationMode}
 use Rattle.downlink.specs.declared.station_mode.StationMode.TheVariants.{Absent, Awake, FallsAsleep, Dozing}
 use Rattle.downlink.specs.Receiver.{Queue, new_queue}
-use Rattle.downlink.specs.Calls.{Call, Comes, Turn, Told, Returns, Joins, Leaves, Dozes, Settles, Wakes, Polls, step}
-use Rattle.downlink.specs.Calls.{after, answers}
+use Rattle.downlink.specs.Calls.{Call, Comes, Turn, Told, Returns, GivesUp, Joins, Leaves, Dozes, Settles, Wakes, Polls}
+use Rattle.downlink.specs.Calls.{step, after, answers}
 
 -- ---- how many
 
@@ -42,6 +42,7 @@ brings p (Comes ticket is_unit until now) = p ticket
 brings p (Turn now) = false
 brings p (Told ticket is_acknowledged) = false
 brings p Returns = false
+brings p GivesUp = false
 brings p Joins = false
 brings p Leaves = false
 brings p Dozes = false
@@ -60,6 +61,7 @@ is_gone HandedBack = true
 is_gone Late = true
 is_gone Crowded = true
 is_gone Left = true
+is_gone GivenUp = true
 
 abbrev pub goes_first : Fate → Bool
 goes_first Goes = true
@@ -71,6 +73,7 @@ goes_first HandedBack = false
 goes_first Late = false
 goes_first Crowded = false
 goes_first Left = false
+goes_first GivenUp = false
 
 abbrev pub goes_again : Fate → Bool
 goes_again Goes = false
@@ -82,6 +85,7 @@ goes_again HandedBack = false
 goes_again Late = false
 goes_again Crowded = false
 goes_again Left = false
+goes_again GivenUp = false
 
 abbrev pub waits_again : Fate → Bool
 waits_again Goes = false
@@ -93,6 +97,7 @@ waits_again HandedBack = false
 waits_again Late = false
 waits_again Crowded = false
 waits_again Left = false
+waits_again GivenUp = false
 
 -- an answer of such a fate of such a ticket
 abbrev pub tells : (Fate → Bool) → (ℕ → Bool) → Answer → Bool
@@ -135,6 +140,7 @@ came_by (Comes ticket is_unit until now) = ticket ∷ []
 came_by (Turn now) = []
 came_by (Told ticket is_acknowledged) = []
 came_by Returns = []
+came_by GivesUp = []
 came_by Joins = []
 came_by Leaves = []
 came_by Dozes = []
@@ -171,6 +177,7 @@ stays_asleep (Comes ticket is_unit until now) = true
 stays_asleep (Turn now) = true
 stays_asleep (Told ticket is_acknowledged) = true
 stays_asleep Returns = true
+stays_asleep GivesUp = true
 stays_asleep Joins = false
 stays_asleep Leaves = true
 stays_asleep Dozes = true
@@ -187,6 +194,7 @@ is_poll (Comes ticket is_unit until now) = false
 is_poll (Turn now) = false
 is_poll (Told ticket is_acknowledged) = false
 is_poll Returns = false
+is_poll GivesUp = false
 is_poll Joins = false
 is_poll Leaves = false
 is_poll Dozes = false

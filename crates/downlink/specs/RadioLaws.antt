@@ -6,7 +6,8 @@ use Rattle.air_share.specs.Lanes.{lane_at}
 use Rattle.air_share.specs.LaneRuns.{lanes_after, air_of, IsWithin, IsPassedOver, HasNoDebts}
 use Rattle.downlink.specs.Parts.{own_answers}
 use Rattle.downlink.specs.Networks.{Network, new_network, has_next}
-use Rattle.downlink.specs.Radios.{Radio, new_radio, with_network, RadioCall, Of, Next, Used, radio_step, radio_after, radio_answers}
+use Rattle.downlink.specs.Radios.{Radio, new_radio, with_network, RadioCall, Of, Next, NextOf, Pauses, Used}
+use Rattle.downlink.specs.Radios.{radio_step, radio_after, radio_answers}
 use Rattle.downlink.specs.Radios.{lane_events, own_calls, queue_alone, answers_alone}
 
 -- ---- isolation
@@ -61,10 +62,12 @@ air_used place r calls = air_of place r.lanes (lane_events r calls)
 abbrev pub UsesWithin : (place limit : ℕ) → Radio → List RadioCall → Type 0
 UsesWithin place limit r calls = IsWithin place limit r.lanes 0 (lane_events r calls)
 
--- whenever a turn comes, a frame of the network may go
+-- whenever a turn is asked for, a frame of the network may go
 abbrev pub HasNextAt : (place : ℕ) → Radio → RadioCall → Type 0
 HasNextAt place r (Of other receiver call) = Unit {0}
 HasNextAt place r (Next now) = option_map has_next (slice_get r.networks place) ≡ Some true
+HasNextAt place r (NextOf other receiver now) = option_map has_next (slice_get r.networks place) ≡ Some true
+HasNextAt place r (Pauses other is_paused) = Unit {0}
 HasNextAt place r (Used other units) = Unit {0}
 
 abbrev pub HasNextThroughout : (place : ℕ) → Radio → List RadioCall → Type 0

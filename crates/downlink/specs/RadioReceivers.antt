@@ -7,8 +7,9 @@ use Rattle.downlink.specs.Calls.{Call, Dozes, after, answers}
 use Rattle.downlink.specs.Laws.{count, held, is_gone, goes_first, goes_again, waits_again, tells, IsWithin, came_by, came, went}
 use Rattle.downlink.specs.Laws.{is_present, all_stay_asleep, is_poll, is_new_unit}
 use Rattle.downlink.specs.Parts.{own_answers}
-use Rattle.downlink.specs.Networks.{Network, NetworkCall, To, TurnOfOne, new_network, calls_to}
-use Rattle.downlink.specs.Radios.{Radio, RadioCall, Of, Next, Used, receiver_at, radio_step, radio_after, radio_answers, own_calls}
+use Rattle.downlink.specs.Networks.{Network, NetworkCall, To, TurnOfOne, Pauses as NetworkPauses, new_network, calls_to}
+use Rattle.downlink.specs.Radios.{Radio, RadioCall, Of, Next, NextOf, Pauses, Used, receiver_at, radio_step, radio_after}
+use Rattle.downlink.specs.Radios.{radio_answers, own_calls}
 
 -- what is answered of a receiver's frames
 abbrev pub answers_to : (place receiver : ℕ) → List (ℕ × (ℕ × Answer)) → List Answer
@@ -27,10 +28,13 @@ calls_at place receiver r calls = calls_in receiver (slice_get r.networks place)
 abbrev pub came_for_by : (receiver : ℕ) → NetworkCall → List ℕ
 came_for_by receiver (To other call) = if nat_eq other receiver then came_by call else []
 came_for_by receiver (TurnOfOne now) = []
+came_for_by receiver (NetworkPauses is_paused) = []
 
 abbrev pub came_at_by : (place receiver : ℕ) → RadioCall → List ℕ
 came_at_by place receiver (Of other whom call) = if nat_eq other place then came_for_by receiver (To whom call) else []
 came_at_by place receiver (Next now) = []
+came_at_by place receiver (NextOf other whom now) = []
+came_at_by place receiver (Pauses other is_paused) = []
 came_at_by place receiver (Used other units) = []
 
 abbrev pub came_at : (place receiver : ℕ) → List RadioCall → List ℕ

@@ -1,17 +1,18 @@
 -- What waits of the networks of a radio, which of them goes next, and what calls change and answer.
 use Rattle.std.specs.Prelude.{ℕ, ◌/◌, Bool, true, false, List, [], ◌∷◌, ◌++◌, map, Option, Some, None, slice_get}
+use Rattle.std.specs.Prelude.{if◌then◌else◌}
 use Rattle.std.specs.Option.{option_map, option_and_then, option_to_list}
 use Rattle.air_share.specs.declared.lane.Lane.{Lane}
 use Rattle.air_share.specs.Lanes.{chosen}
-use Rattle.air_share.specs.LaneRuns.{LaneEvent, Waits, Serve, Tell, lanes_after}
+use Rattle.air_share.specs.LaneRuns.{LaneEvent, Waits, Serve, Tell, lanes_after, is_turn_of}
 use Rattle.downlink.specs.declared.answer.Answer.{Answer}
 use Rattle.downlink.specs.declared.network_queue.ReceiverAnswer.{ReceiverAnswer}
 use Rattle.downlink.specs.declared.radio_queue.NetworkAnswer.{NetworkAnswer}
 use Rattle.downlink.specs.Receiver.{Queue, is_sending}
-use Rattle.downlink.specs.Calls.{Call}
+use Rattle.downlink.specs.Calls.{Call, Turn}
 use Rattle.downlink.specs.Parts.{after_one, answer_of_one, own_call}
 use Rattle.downlink.specs.Networks.{Network, new_network, has_next, NetworkCall, To, TurnOfOne, network_step, network_answer}
-use Rattle.downlink.specs.Networks.{receiver_answer, network_after, network_answers}
+use Rattle.downlink.specs.Networks.{Pauses as NetworkPauses, receiver_answer, network_after, network_answers}
 
 pub record Radio : Type 0 where
   -- at each place what the rule of shares keeps of a network
@@ -46,13 +47,20 @@ pub data RadioCall : Type 0 where
   Of : (place receiver : ℕ) → Call → RadioCall
   -- one network's turn comes, if one has a frame that may go
   Next : (now : ℕ) → RadioCall
+  -- the turn of the network at a place comes, if it is the one whose turn it is, and there that of this receiver
+  NextOf : (place receiver now : ℕ) → RadioCall
+  -- the network at a place is paused, or it isn't any more
+  Pauses : (place : ℕ) → (is_paused : Bool) → RadioCall
   -- the network at a place used so many time units of air
   Used : (place units : ℕ) → RadioCall
 
--- the network that a call goes to, and what it is there
+-- the network that a call goes to, if it goes to one, and what it is there
 abbrev pub goes_to_network : Radio → RadioCall → Option (ℕ × NetworkCall)
 goes_to_network r (Of place receiver call) = Some (place, To receiver call)
 goes_to_network r (Next now) = option_map (λ place. (place, TurnOfOne now)) (chosen r.lanes)
+goes_to_network r (NextOf place receiver now) =
+    if is_turn_of place (chosen r.lanes) then Some (place, To receiver (Turn now)) else None
+goes_to_network r (Pauses place is_paused) = Some (place, NetworkPauses is_paused)
 goes_to_network r (Used place units) = None
 
 abbrev pub radio_answer : Radio → RadioCall → Option (ℕ × (ℕ × Answer))
@@ -85,6 +93,8 @@ turn_if false = []
 abbrev pub air_events : Radio → RadioCall → List LaneEvent
 air_events r (Of place receiver call) = []
 air_events r (Next now) = turn_if (is_sent (radio_answer r (Next now)))
+air_events r (NextOf place receiver now) = turn_if (is_sent (radio_answer r (NextOf place receiver now)))
+air_events r (Pauses place is_paused) = []
 air_events r (Used place units) = Tell place units ∷ []
 
 abbrev pub lane_events_by : Radio → RadioCall → List LaneEvent
@@ -119,7 +129,8 @@ lane_events r (call ∷ calls) = lane_events_by r call ++ lane_events (radio_ste
 
 -- ---- a network alone
 
--- its own calls: those that name it, and a turn for each time that the rule chose it, whatever came of that turn
+-- its own calls: those that name it, and a turn for each time that the rule chose it, whatever came of that turn. A call
+-- that names it and a receiver for a turn is one of them only where the rule chose it
 abbrev pub own_calls : (place : ℕ) → Radio → List RadioCall → List NetworkCall
 own_calls place r [] = []
 own_calls place r (call ∷ calls) = own_call place (goes_to_network r call) ++ own_calls place (radio_step r call) calls

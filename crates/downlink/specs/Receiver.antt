@@ -9,7 +9,7 @@ use Rattle.downlink.specs.declared.frame.Way.TheVariants.{InTurn, AnswersPoll, G
 use Rattle.downlink.specs.declared.answer.Answer.{Answer}
 use Rattle.downlink.specs.declared.answer.Fate.{Fate}
 use Rattle.downlink.specs.declared.answer.Fate.TheVariants.{Goes, GoesAgain, Acknowledged, WaitsAgain, Lost, HandedBack}
-use Rattle.downlink.specs.declared.answer.Fate.TheVariants.{Late, Crowded, Left}
+use Rattle.downlink.specs.declared.answer.Fate.TheVariants.{Late, Crowded, Left, GivenUp}
 use Rattle.downlink.specs.declared.station_mode.StationMode.{StationMode}
 use Rattle.downlink.specs.declared.station_mode.StationMode.TheVariants.{Absent, Awake, FallsAsleep, Dozing}
 
@@ -162,6 +162,7 @@ is_sending HandedBack = false
 is_sending Late = false
 is_sending Crowded = false
 is_sending Left = false
+is_sending GivenUp = false
 
 -- a unit that didn't reach its station goes back to the program where that dozes
 abbrev pub unsent_fate : Fate → StationMode → Frame → Fate
@@ -237,6 +238,11 @@ next_leaving q = first_by (takes_way false) q.again q.waiting
 
 abbrev pub without_leaving : Queue → Queue
 without_leaving q = without_by (takes_way false) q
+
+-- ---- its caller gives the next one up
+
+abbrev pub giving_up_answer : StationMode → Sent → Answer
+giving_up_answer mode s = fate_answer (unsent_fate GivenUp mode s.frame) s.frame
 
 -- ---- the station changes its mode
 

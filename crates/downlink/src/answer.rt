@@ -33,6 +33,8 @@ pub enum Fate {
     Crowded,
     /// It is dropped: its station left.
     Left,
+    /// It is dropped: its caller gave it up.
+    GivenUp,
 }
 
 impl Fate {

@@ -5,7 +5,8 @@
 //! `air_share` ([`fair`]). Of each receiver no frame vanishes, frames go first in the order in which they came, and
 //! none goes more than twice. A unit goes to a station that dozes only where the station polled for it. The type to
 //! know first is [`RadioQueue`]. It has for each network a [`NetworkQueue`], whose receivers take turns, each a
-//! [`ReceiverQueue`]. A caller keeps the octets, and knows each [`Frame`] by its ticket.
+//! [`ReceiverQueue`]. A caller may choose the receiver instead, by [`RadioQueue::next_of`], and pause a network. It
+//! keeps the octets, and knows each [`Frame`] by its ticket.
 //!
 //! Times are numbers that callers bring, and so is the air that a frame took. Rates and the radio are left to them.
 //!

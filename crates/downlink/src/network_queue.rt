@@ -2,9 +2,9 @@
 
 ghost use Rattle.std.specs.Prelude.{◌≡◌, ◌↔◌, ◌+◌, ◌^◌, ◌<◌, ◌≤◌, length, IfSome, IfOk, OnOk, OnErr, IsErrOf, IsTrue};
 ghost use Rattle.std.specs.Option.{option_map};
-ghost use Rattle.downlink.specs.Calls.{Comes, Told, Returns, call_of};
+ghost use Rattle.downlink.specs.Calls.{Comes, Turn, Told, Returns, GivesUp, call_of};
 ghost use Rattle.downlink.specs.Networks.{new_network, from_after, turn_of, has_next};
-ghost use Rattle.downlink.specs.Networks.{To, TurnOfOne, network_step, network_answer, receiver_answer};
+ghost use Rattle.downlink.specs.Networks.{To, TurnOfOne, Pauses, network_step, network_answer, receiver_answer};
 
 use crate::answer::Answer;
 use crate::ready::ReadySet;
@@ -48,6 +48,7 @@ pub struct ReceiverAnswer {
 pub struct NetworkQueue {
     receivers: Vec<ReceiverQueue>,
     from: usize,
+    is_paused: bool,
     // a call tells it of the receiver that it may have changed
     ready: ReadySet,
 }
@@ -58,7 +59,7 @@ impl Model for NetworkQueue {
 
     ghost Value = { Network };
 
-    ghost view = { λ n. record { receivers = n.receivers.items; from = n.from } };
+    ghost view = { λ n. record { receivers = n.receivers.items; from = n.from; is_paused = n.is_paused } };
 
     ghost invariant = { λ n. IsReady n.ready.words.items n.receivers.items };
 }
@@ -77,6 +78,7 @@ impl NetworkQueue {
         Ok(NetworkQueue {
             receivers,
             from: 0,
+            is_paused: false,
             ready,
         })
     }
@@ -88,11 +90,11 @@ impl NetworkQueue {
         self.receivers.len()
     }
 
-    /// Whether a frame may go, of any receiver.
+    /// Whether a frame may go, of any receiver. None may while the network is paused.
     pub fn has_next(&self) -> bool
         ensures { result ≡ has_next self.now }
     {
-        self.ready.first_from(0).is_some()
+        !self.is_paused && self.ready.first_from(0).is_some()
     }
 
     /// A frame comes for a receiver, and waits behind the others of that. It `is_unit` if it is an MSDU. The last time
@@ -123,7 +125,7 @@ impl NetworkQueue {
     }
 
     /// It is the network's turn: the next frame goes of the receiver whose turn it is, unless that frame is too late,
-    /// and then it leaves. After an error all is as it was.
+    /// and then it leaves. `None` where no frame may go, and then nothing changes. After an error all is as it was.
     pub fn turn(&mut self, now: u64) -> Result<Option<ReceiverAnswer>, AllocError>
         ensures after { OnOk result (self.new ≡ network_step self.old (TurnOfOne now)) }
         ensures answer { IfOk result (λ next. next
@@ -137,6 +139,29 @@ impl NetworkQueue {
         let next = queue.turn(now)?;
         self.ready.set(receiver, queue.may_go());
         self.from = from_after(self.from, receiver, next);
+        Ok(told_of(receiver, next))
+    }
+
+    /// It is the turn of a receiver that the caller chose: its next frame goes, unless that is too late, and then it
+    /// leaves. The next turn of the network is looked for where it was before, and a pause doesn't hold this up. `None`
+    /// where no frame of it would go, or there is no such receiver, and then nothing changes. After an error all is as
+    /// it was.
+    pub fn turn_to(
+        &mut self,
+        receiver: usize,
+        now: u64,
+    ) -> Result<Option<ReceiverAnswer>, AllocError>
+        ensures after { OnOk result (self.new ≡ network_step self.old (To receiver (Turn now))) }
+        ensures answer { IfOk result (λ next. next
+            ≡ option_map receiver_answer (network_answer self.old (To receiver (Turn now)))) }
+        ensures err { OnErr result (self.new ≡ self.old) }
+    {
+        if receiver >= self.receivers.len() {
+            return Ok(None);
+        }
+        let queue = &mut self.receivers[receiver];
+        let next = queue.turn(now)?;
+        self.ready.set(receiver, queue.may_go());
         Ok(told_of(receiver, next))
     }
 
@@ -176,6 +201,29 @@ impl NetworkQueue {
         told_of(receiver, answer)
     }
 
+    /// The next frame of a receiver that would go leaves without going: its caller gives it up. `None` where none
+    /// would go, or there is no such receiver, and then nothing changes (*profile*).
+    pub fn gives_up(&mut self, receiver: usize) -> Option<ReceiverAnswer>
+        ensures after { self.new ≡ network_step self.old (To receiver GivesUp) }
+        ensures answer { result ≡ option_map receiver_answer (network_answer self.old (To receiver GivesUp)) }
+    {
+        if receiver >= self.receivers.len() {
+            return None;
+        }
+        let queue = &mut self.receivers[receiver];
+        let answer = queue.gives_up();
+        self.ready.set(receiver, queue.may_go());
+        told_of(receiver, answer)
+    }
+
+    /// The network is paused, or it isn't any more. While it is, it has no turn, and nothing else changes: frames come,
+    /// are told of and leave as ever. A caller pauses it that waits for what became of all that went (*profile*).
+    pub fn pauses(&mut self, is_paused: bool)
+        ensures { self.new ≡ network_step self.old (Pauses is_paused) }
+    {
+        self.is_paused = is_paused;
+    }
+
     /// The station at a place does this. `false` where there is no such receiver, and then nothing changes.
     pub fn change(&mut self, receiver: usize, change: StationChange) -> bool
         ensures after { self.new ≡ network_step self.old (To receiver (call_of change)) }
@@ -190,11 +238,14 @@ impl NetworkQueue {
         true
     }
 
-    /// The place of the receiver whose turn it is.
+    /// The place of the receiver whose turn it is. There is none while the network is paused.
     fn next_receiver(&self) -> Option<usize>
         ensures turn { result ≡ turn_of self.now }
         ensures there { IfSome result (λ receiver. receiver < length self.now.receivers) }
     {
+        if self.is_paused {
+            return None;
+        }
         match self.ready.first_from(self.from) {
             Some(receiver) => Some(receiver),
             None => self.ready.first_from(0),

@@ -10,7 +10,8 @@ ghost use Rattle.downlink.specs.RadioReceivers.{KeepsOrder, LetsSleep, HoldsFew}
 use air_share::{bounded, soon};
 
 /// Isolation: what waits of a network, and what is answered of it, is as if it were alone with its own calls. These are
-/// those that name a receiver of it, and a turn for each time that the rule of shares chose it.
+/// those that name it, and a turn for each time that the rule of shares chose it. A call that names the receiver of a
+/// turn is its own only where the rule chose the network.
 pub fn alone()
     ensures { IsAlone }
 {}

@@ -5,16 +5,16 @@ ghost use Rattle.std.specs.Prelude.{is_some, MatchOption, IsSome, IfOk, OnOk, On
 ghost use Rattle.std.specs.Bool.{OnTrue, OnFalse};
 ghost use Rattle.std.specs.Option.{option_map};
 ghost use Rattle.air_share.specs.Lanes.{chosen, lane_at};
-ghost use Rattle.air_share.specs.LaneRuns.{Waits, lane_step, lanes_after};
+ghost use Rattle.air_share.specs.LaneRuns.{Waits, lane_step, lanes_after, is_turn_of};
 ghost use Rattle.downlink.specs.Receiver.{is_sending};
-ghost use Rattle.downlink.specs.Calls.{Comes, Told, Returns, call_of};
+ghost use Rattle.downlink.specs.Calls.{Comes, Told, Returns, GivesUp, call_of};
 ghost use Rattle.downlink.specs.Radios.{new_radio, receiver_at, turn_if};
-ghost use Rattle.downlink.specs.Radios.{with_network, Of, Next, Used, radio_step, radio_answer};
+ghost use Rattle.downlink.specs.Radios.{with_network, Of, Next, NextOf, Pauses, Used, radio_step, radio_answer};
 ghost use Rattle.downlink.specs.Radios.{network_answer_of, answer_from};
 
 use crate::network_queue::{NetworkQueue, ReceiverAnswer, Refusal};
 use crate::station_change::StationChange;
-use air_share::{Lane, MAX_WEIGHT, choose, served, told};
+use air_share::{Lane, MAX_WEIGHT, choose, serve_chosen, told};
 use std::alloc::{AllocError, Global};
 use std::marker::Model;
 
@@ -97,6 +97,14 @@ impl RadioQueue {
         choose(self.lanes.as_slice()).is_some()
     }
 
+    /// The place of the network whose turn it is: of those of which a frame may go the one that owes least, and of
+    /// several the one of lowest place. `None` where no frame may go.
+    pub fn turn_of(&self) -> Option<usize>
+        ensures { result ≡ chosen self.now.lanes }
+    {
+        choose(self.lanes.as_slice())
+    }
+
     /// A frame comes for a receiver of a network, and waits behind the others of that. It `is_unit` if it is an MSDU.
     /// The last time at which it may go is `until`, and the time is `now`, both by one clock of the caller. If too many
     /// wait by it, the oldest of them is dropped and answered. `NoReceiver` comes exactly if there is no such receiver,
@@ -144,6 +152,32 @@ impl RadioQueue {
         };
         let queue = &mut self.networks[network];
         let next = queue.turn(now)?;
+        let waits = queue.has_next();
+        take_turn(self.lanes.as_mut_slice(), network, is_sent(next), waits);
+        Ok(answer_from(network, next))
+    }
+
+    /// The same as [`next`](RadioQueue::next), where the caller says which receiver of the network has the turn. The
+    /// rule of shares still says which network: `None` where it isn't the turn of this one, and then nothing changes.
+    /// `None` also where no frame of the receiver would go, or there is no such receiver. After an error all is as it
+    /// was.
+    pub fn next_of(
+        &mut self,
+        network: usize,
+        receiver: usize,
+        now: u64,
+    ) -> Result<Option<NetworkAnswer>, AllocError>
+        ensures after { OnOk result (self.new ≡ radio_step self.old (NextOf network receiver now)) }
+        ensures answer { IfOk result (λ next. next
+            ≡ option_map network_answer_of (radio_answer self.old (NextOf network receiver now))) }
+        ensures err { OnErr result (self.new ≡ self.old) }
+    {
+        let turn = choose(self.lanes.as_slice());
+        if !is_turn_of(network, turn) {
+            return Ok(None);
+        }
+        let queue = &mut self.networks[network];
+        let next = queue.turn_to(receiver, now)?;
         let waits = queue.has_next();
         take_turn(self.lanes.as_mut_slice(), network, is_sent(next), waits);
         Ok(answer_from(network, next))
@@ -199,6 +233,38 @@ impl RadioQueue {
         answer_from(network, answer)
     }
 
+    /// The next frame of a receiver that would go leaves without going: its caller gives it up. `None` where none
+    /// would go, or there is no such receiver, and then nothing changes (*profile*).
+    pub fn gives_up(&mut self, network: usize, receiver: usize) -> Option<NetworkAnswer>
+        ensures after { self.new ≡ radio_step self.old (Of network receiver GivesUp) }
+        ensures answer { result ≡ option_map network_answer_of (radio_answer self.old (Of network receiver GivesUp)) }
+    {
+        if network >= self.networks.len() {
+            return None;
+        }
+        let queue = &mut self.networks[network];
+        let answer = queue.gives_up(receiver);
+        let waits = queue.has_next();
+        set_waits(self.lanes.as_mut_slice(), network, waits);
+        answer_from(network, answer)
+    }
+
+    /// A network is paused, or it isn't any more. While it is, it has no turn, and to the rule of shares it doesn't
+    /// wait for one. `false` exactly where there is no such network, and then nothing changes (*profile*).
+    pub fn pauses(&mut self, network: usize, is_paused: bool) -> bool
+        ensures after { self.new ≡ radio_step self.old (Pauses network is_paused) }
+        ensures there { IsTrue result ↔ (network < length self.old.networks) }
+    {
+        if network >= self.networks.len() {
+            return false;
+        }
+        let queue = &mut self.networks[network];
+        queue.pauses(is_paused);
+        let waits = queue.has_next();
+        set_waits(self.lanes.as_mut_slice(), network, waits);
+        true
+    }
+
     /// The station at a place of a network does this. `false` where there is no such receiver, and then nothing
     /// changes.
     pub fn change(&mut self, network: usize, receiver: usize, change: StationChange) -> bool
@@ -232,9 +298,19 @@ fn take_turn(lanes: &mut [Lane], network: usize, is_sent: bool, waits: bool)
     ensures { lanes.new ≡ lanes_after lanes.old (turn_if is_sent ++ Waits network waits ∷ []) }
 {
     if is_sent {
-        served(lanes, network, 0);
+        serve_chosen(lanes, network, 0);
     }
     set_waits(lanes, network, waits);
+}
+
+/// Whether the turn is that of the network at a place.
+fn is_turn_of(network: usize, turn: Option<usize>) -> bool
+    ensures { result ≡ is_turn_of network turn }
+{
+    match turn {
+        Some(turn) => turn == network,
+        None => false,
+    }
 }
 
 /// Whether a frame went.

@@ -3,8 +3,8 @@
 ghost use Rattle.std.specs.Prelude.{◌≡◌, map, IfOk, OnOk, OnErr};
 ghost use Rattle.downlink.specs.Receiver.{new_queue, takes_way, way_of, first_by, without_by, unsent_fate};
 ghost use Rattle.downlink.specs.Receiver.{may_go, may_go_again, leaving_fate, in_mode, sent_another_way};
-ghost use Rattle.downlink.specs.Calls.{Comes, Turn, Told, Returns, Joins, Leaves, Dozes, Settles, Wakes, Polls};
-ghost use Rattle.downlink.specs.Calls.{step, answer, call_of};
+ghost use Rattle.downlink.specs.Calls.{Comes, Turn, Told, Returns, GivesUp, Joins, Leaves, Dozes, Settles, Wakes};
+ghost use Rattle.downlink.specs.Calls.{Polls, step, answer, call_of};
 
 use crate::answer::{Answer, Fate};
 use crate::frame::{Frame, Sent, Way};
@@ -169,6 +169,18 @@ impl ReceiverQueue {
         let frame = self.next_by(false)?.frame;
         self.remove_by(false);
         let fate = leaving_fate(frame.way);
+        Some(Answer { frame, fate })
+    }
+
+    /// The next frame that would go leaves without going: its caller gives it up. A unit goes back to the program where
+    /// its station dozes, and all else is dropped. `None` where none would go, and then nothing changes (*profile*).
+    pub fn gives_up(&mut self) -> Option<Answer>
+        ensures after { self.new ≡ step self.old GivesUp }
+        ensures answer { result ≡ answer self.old GivesUp }
+    {
+        let frame = self.next_by(true)?.frame;
+        self.remove_by(true);
+        let fate = self.unsent_fate(Fate::GivenUp, frame);
         Some(Answer { frame, fate })
     }
 

@@ -11,13 +11,13 @@ ghost use Rattle.std.specs.Prelude.{IsTrue, IsSome};
 ghost use Rattle.std.specs.Bool.{OnTrue, OnFalse};
 ghost use Rattle.std.specs.Option.{option_map};
 ghost use Rattle.air_share.specs.Lanes.{chosen, lane_at};
-ghost use Rattle.downlink.specs.Calls.{Comes, Told, Returns};
+ghost use Rattle.downlink.specs.Calls.{Comes, Told, Returns, GivesUp};
 ghost use Rattle.downlink.specs.Networks.{new_network};
 ghost use Rattle.downlink.specs.Radios.{new_radio, with_network, receiver_at};
-ghost use Rattle.downlink.specs.Radios.{Of, Next, Used, radio_step, radio_answer, network_answer_of};
+ghost use Rattle.downlink.specs.Radios.{Of, Next, NextOf, Pauses, Used, radio_step, radio_answer, network_answer_of};
 ghost use Rattle.downlink_c.specs.Holding.{IsSameHandle};
 ghost use Rattle.downlink_c.specs.Owned.{radio_size};
-ghost use Rattle.downlink_c.specs.Numbers.{frame_told, change_of, after_change};
+ghost use Rattle.downlink_c.specs.Numbers.{frame_told, chosen_told, change_of, after_change};
 
 mod handle;
 mod holding;
@@ -26,8 +26,8 @@ mod numbers;
 use downlink::{NetworkQueue, RadioQueue, Refusal};
 pub use handle::RadioHandle;
 use holding::{lend, put, take};
-pub use numbers::{Added, Changed, FrameTold, Taken, Turn};
-use numbers::{NOTHING, change_of, frame_told};
+pub use numbers::{Added, Changed, Chosen, FrameTold, Taken, Turn};
+use numbers::{NOTHING, change_of, chosen_told, frame_told};
 use std::alloc::Global;
 
 /// The largest weight of a network; the least is 1.
@@ -108,6 +108,17 @@ pub extern "C" fn downlink_has_next(radio: &mut RadioHandle) -> bool
     lend(radio).has_next()
 }
 
+/// [`RadioQueue::turn_of`].
+#[unsafe(no_mangle)]
+pub extern "C" fn downlink_turn(radio: &mut RadioHandle) -> Chosen
+    requires made { radio.old.is_made ≡ true }
+    ensures handle { IsSameHandle radio.old radio.new }
+    ensures same { radio.new.radio ≡ radio.old.radio }
+    ensures turn { result ≡ chosen_told (chosen radio.old.radio.lanes) }
+{
+    chosen_told(lend(radio).turn_of())
+}
+
 /// [`RadioQueue::comes`].
 #[unsafe(no_mangle)]
 pub extern "C" fn downlink_comes(
@@ -164,6 +175,45 @@ pub extern "C" fn downlink_next(radio: &mut RadioHandle, now: u64) -> Turn
     }
 }
 
+/// [`RadioQueue::next_of`].
+#[unsafe(no_mangle)]
+pub extern "C" fn downlink_next_of(
+    radio: &mut RadioHandle,
+    network: usize,
+    receiver: usize,
+    now: u64,
+) -> Turn
+    requires made { radio.old.is_made ≡ true }
+    ensures handle { IsSameHandle radio.old radio.new }
+    ensures after { OnTrue result.is_taken
+        (radio.new.radio ≡ radio_step radio.old.radio (NextOf network receiver now)) }
+    ensures answer { OnTrue result.is_taken (result.told ≡ frame_told (option_map network_answer_of
+        (radio_answer radio.old.radio (NextOf network receiver now)))) }
+    ensures refused { OnFalse result.is_taken (radio.new.radio ≡ radio.old.radio) }
+{
+    match lend(radio).next_of(network, receiver, now) {
+        Ok(next) => Turn {
+            is_taken: true,
+            told: frame_told(next),
+        },
+        Err(_) => Turn {
+            is_taken: false,
+            told: NOTHING,
+        },
+    }
+}
+
+/// [`RadioQueue::pauses`].
+#[unsafe(no_mangle)]
+pub extern "C" fn downlink_pauses(radio: &mut RadioHandle, network: usize, is_paused: bool) -> bool
+    requires made { radio.old.is_made ≡ true }
+    ensures handle { IsSameHandle radio.old radio.new }
+    ensures there { IsTrue result ↔ (network < length radio.old.radio.networks) }
+    ensures after { radio.new.radio ≡ radio_step radio.old.radio (Pauses network is_paused) }
+{
+    lend(radio).pauses(network, is_paused)
+}
+
 /// [`RadioQueue::used`].
 #[unsafe(no_mangle)]
 pub extern "C" fn downlink_used(radio: &mut RadioHandle, network: usize, units: u32) -> bool
@@ -210,6 +260,22 @@ pub extern "C" fn downlink_returns(
         ≡ frame_told (option_map network_answer_of (radio_answer radio.old.radio (Of network receiver Returns))) }
 {
     frame_told(lend(radio).returns(network, receiver))
+}
+
+/// [`RadioQueue::gives_up`].
+#[unsafe(no_mangle)]
+pub extern "C" fn downlink_gives_up(
+    radio: &mut RadioHandle,
+    network: usize,
+    receiver: usize,
+) -> FrameTold
+    requires made { radio.old.is_made ≡ true }
+    ensures handle { IsSameHandle radio.old radio.new }
+    ensures after { radio.new.radio ≡ radio_step radio.old.radio (Of network receiver GivesUp) }
+    ensures answer { result
+        ≡ frame_told (option_map network_answer_of (radio_answer radio.old.radio (Of network receiver GivesUp))) }
+{
+    frame_told(lend(radio).gives_up(network, receiver))
 }
 
 /// [`RadioQueue::change`], by the number of the change: it joins, leaves, dozes, settles, wakes or polls, from 0 on.

@@ -1,7 +1,7 @@
 //! Calls and answers of a radio as numbers.
 
 ghost use Rattle.std.specs.Prelude.{◌≡◌};
-ghost use Rattle.downlink_c.specs.Numbers.{fate_number, frame_told, change_of};
+ghost use Rattle.downlink_c.specs.Numbers.{fate_number, frame_told, chosen_told, change_of};
 
 use downlink::{Fate, NetworkAnswer, StationChange};
 
@@ -11,8 +11,8 @@ use downlink::{Fate, NetworkAnswer, StationChange};
 pub struct FrameTold {
     /// Whether something became of one. If not, the others are 0.
     pub is_told: bool,
-    /// What: it goes, goes again, was acknowledged, waits again, is lost, is handed back, was late, crowded out, or its
-    /// station left, from 0 on.
+    /// What: it goes, goes again, was acknowledged, waits again, is lost, is handed back, was late, crowded out, its
+    /// station left, or its caller gave it up, from 0 on.
     pub fate: u8,
     pub network: usize,
     pub receiver: usize,
@@ -38,6 +38,16 @@ pub struct Turn {
     /// Whether there was memory.
     pub is_taken: bool,
     pub told: FrameTold,
+}
+
+/// Whose turn it is.
+#[repr(C)]
+#[derive(Clone, Copy, Debug, PartialEq, Eq)]
+pub struct Chosen {
+    /// Whether it is that of a network.
+    pub is_there: bool,
+    /// The network's place, or 0 where there is none.
+    pub network: usize,
 }
 
 /// What a network more is told.
@@ -85,6 +95,22 @@ pub(crate) fn frame_told(answer: Option<NetworkAnswer>) -> FrameTold
     }
 }
 
+/// Whose turn it is, as a number.
+pub(crate) fn chosen_told(turn: Option<usize>) -> Chosen
+    ensures { result ≡ chosen_told turn }
+{
+    match turn {
+        Some(network) => Chosen {
+            is_there: true,
+            network,
+        },
+        None => Chosen {
+            is_there: false,
+            network: 0,
+        },
+    }
+}
+
 /// The number of a fate.
 fn fate_number(fate: Fate) -> u8
     ensures { result ≡ fate_number fate }
@@ -99,6 +125,7 @@ fn fate_number(fate: Fate) -> u8
         Fate::Late => 6,
         Fate::Crowded => 7,
         Fate::Left => 8,
+        Fate::GivenUp => 9,
     }
 }
 

@@ -63,3 +63,37 @@ fn units_of_a_station_that_left_are_dropped(rt: HostRuntime) -> Result<(), Fail>
     assert_eq!(rt; told(queue.returns()), None);
     Ok(())
 }
+
+#[test]
+fn the_frame_that_would_go_next_is_given_up(rt: HostRuntime) -> Result<(), Fail> {
+    let mut queue = ReceiverQueue::new(rt.alloc(), 64);
+    queue.joins();
+    assert_eq!(rt; told(queue.gives_up()), None);
+    assert_eq!(rt; told(queue.comes(1, true, 50, 0)?), None);
+    assert_eq!(rt; told(queue.comes(2, true, 50, 0)?), None);
+    assert_eq!(rt; told(queue.comes(3, false, 50, 0)?), None);
+    assert_eq!(rt; told(queue.turn(1)?), Some((1, Fate::Goes)));
+    assert_eq!(rt; told(queue.told(1, false)), Some((1, Fate::WaitsAgain)));
+    assert_eq!(rt; told(queue.gives_up()), Some((1, Fate::GivenUp)));
+    assert_eq!(rt; told(queue.gives_up()), Some((2, Fate::GivenUp)));
+    assert_eq!(rt; told(queue.turn(1)?), Some((3, Fate::Goes)));
+    assert_eq!(rt; told(queue.gives_up()), None);
+    Ok(())
+}
+
+#[test]
+fn a_unit_that_is_given_up_goes_back_where_its_station_dozes(rt: HostRuntime) -> Result<(), Fail> {
+    let mut queue = ReceiverQueue::new(rt.alloc(), 64);
+    queue.joins();
+    queue.dozes();
+    queue.settles();
+    queue.polls(9);
+    assert_eq!(rt; told(queue.comes(1, true, 50, 2)?), None);
+    assert_eq!(rt; told(queue.comes(2, true, 50, 2)?), None);
+    assert_eq!(rt; told(queue.comes(3, false, 50, 2)?), None);
+    assert_eq!(rt; told(queue.gives_up()), Some((1, Fate::HandedBack)));
+    assert_eq!(rt; told(queue.gives_up()), Some((3, Fate::GivenUp)));
+    assert_eq!(rt; told(queue.gives_up()), None);
+    assert_eq!(rt; told(queue.returns()), Some((2, Fate::HandedBack)));
+    Ok(())
+}

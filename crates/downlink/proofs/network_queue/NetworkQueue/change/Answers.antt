@@ -12,6 +12,6 @@ invariant_of-self c =
 
 pub returns-clause-after : goal.returns-clause-after
 returns-clause-after c =
-    let before : Network = record { receivers = c.self.inside.receivers.items; from = c.self.inside.from } in
+    let before : Network = record { receivers = c.self.inside.receivers.items; from = c.self.inside.from; is_paused = c.self.inside.is_paused } in
     named_step before c.args.receiver (call_of c.args.change) c.index_mut-queue.result.now c.change.new.self (omega arith) c.index_mut-queue.ensures.value
     c.change.ensures ∙ ap (λ n. network_step n (To c.args.receiver (call_of c.args.change))) c.self.view_is

@@ -13,13 +13,13 @@ invariant_of-self-2 c =
 
 pub returns-clause-after : goal.returns-clause-after
 returns-clause-after c =
-    let before : Network = record { receivers = c.self.inside.receivers.items; from = c.self.inside.from } in
+    let before : Network = record { receivers = c.self.inside.receivers.items; from = c.self.inside.from; is_paused = c.self.inside.is_paused } in
     named_step before c.args.receiver (Comes c.args.ticket c.args.is_unit c.args.until c.args.now) c.index_mut-queue.result.now c.comes.new.self (omega arith) c.index_mut-queue.ensures.value
     c.in_ok-dropped.ensures.after ∙ ap (λ n. network_step n (To c.args.receiver (Comes c.args.ticket c.args.is_unit c.args.until c.args.now))) c.self.view_is
 
 pub returns-clause-answer : goal.returns-clause-answer
 returns-clause-answer c =
-    let before : Network = record { receivers = c.self.inside.receivers.items; from = c.self.inside.from } in
+    let before : Network = record { receivers = c.self.inside.receivers.items; from = c.self.inside.from; is_paused = c.self.inside.is_paused } in
     c.told_of.ensures
     ∙ named_answer before c.args.receiver (Comes c.args.ticket c.args.is_unit c.args.until c.args.now) c.index_mut-queue.result.now c.in_ok-dropped.dropped (omega arith) c.index_mut-queue.ensures.value
     c.in_ok-dropped.ensures.answer ∙ ap (λ n. option_map receiver_answer (network_answer n (To c.args.receiver (Comes c.args.ticket c.args.is_unit c.args.until c.args.now)))) c.self.view_is

@@ -13,13 +13,13 @@ invariant_of-self c =
 
 pub returns-clause-after : goal.returns-clause-after
 returns-clause-after c =
-    let before : Network = record { receivers = c.self.inside.receivers.items; from = c.self.inside.from } in
+    let before : Network = record { receivers = c.self.inside.receivers.items; from = c.self.inside.from; is_paused = c.self.inside.is_paused } in
     named_step before c.args.receiver (Returns) c.index_mut-queue.result.now c.returns-answer.new.self (omega arith) c.index_mut-queue.ensures.value
     c.returns-answer.ensures.after ∙ ap (λ n. network_step n (To c.args.receiver (Returns))) c.self.view_is
 
 pub returns-clause-answer : goal.returns-clause-answer
 returns-clause-answer c =
-    let before : Network = record { receivers = c.self.inside.receivers.items; from = c.self.inside.from } in
+    let before : Network = record { receivers = c.self.inside.receivers.items; from = c.self.inside.from; is_paused = c.self.inside.is_paused } in
     c.told_of.ensures
     ∙ named_answer before c.args.receiver (Returns) c.index_mut-queue.result.now c.returns-answer.result (omega arith) c.index_mut-queue.ensures.value
     c.returns-answer.ensures.answer ∙ ap (λ n. option_map receiver_answer (network_answer n (To c.args.receiver (Returns)))) c.self.view_is

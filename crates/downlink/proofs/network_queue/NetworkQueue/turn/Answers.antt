@@ -16,10 +16,10 @@ invariant_of-self-2 c =
 pub returns-clause-after : goal.returns-clause-after
 returns-clause-after c =
     let receiver = c.in-Some.receiver in
-    let before : Network = record { receivers = c.self.inside.receivers.items; from = c.self.inside.from } in
+    let before : Network = record { receivers = c.self.inside.receivers.items; from = c.self.inside.from; is_paused = c.self.inside.is_paused } in
     let within : receiver < length before.receivers =
     subst (λ (n : Network). receiver < length n.receivers) (sym c.self.view_is) c.in-Some.ensures.there in
-    ap (λ (from : ℕ). let it : Network = record { receivers = set before.receivers receiver c.turn.new.self; from = from } in it) c.from_after-self-inside.ensures
+    ap (λ (from : ℕ). let it : Network = record { receivers = set before.receivers receiver c.turn.new.self; from = from; is_paused = before.is_paused } in it) c.from_after-self-inside.ensures
     ∙ (turned before receiver c.args.now c.index_mut-queue.result.now c.turn.new.self c.in_ok-next.next
     (c.in-Some.ensures.turn ∙ ap turn_of (sym c.self.view_is)) within c.index_mut-queue.ensures.value c.in_ok-next.ensures.after
     c.in_ok-next.ensures.answer).0
@@ -28,7 +28,7 @@ returns-clause-after c =
 pub returns-clause-answer : goal.returns-clause-answer
 returns-clause-answer c =
     let receiver = c.in-Some.receiver in
-    let before : Network = record { receivers = c.self.inside.receivers.items; from = c.self.inside.from } in
+    let before : Network = record { receivers = c.self.inside.receivers.items; from = c.self.inside.from; is_paused = c.self.inside.is_paused } in
     let within : receiver < length before.receivers =
     subst (λ (n : Network). receiver < length n.receivers) (sym c.self.view_is) c.in-Some.ensures.there in
     c.told_of.ensures
