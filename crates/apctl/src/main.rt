@@ -3,8 +3,12 @@
 //!
 //! It promises nothing of words, of the process's streams and files, or of the lines of faults: what the built program
 //! does shows them (`tests/`), and so it has no tests of its own. The crate `text_files` promises what each form of the
-//! words does over any file system, source and sink, and with which exit status a fault ends it.
+//! words does over any file system, source and sink, and with which exit status a fault ends it. Here the answer for a
+//! fault is that exit status, or 3 or 4. That it is 3 or 4 only where its line couldn't be written is tested.
 #![tactic(auto)]
+
+ghost use Rattle.std.specs.Prelude.{◌≡◌, ◌⊎◌};
+ghost use Rattle.text_files.specs.Faults.{status_of};
 
 mod tasks;
 
@@ -31,7 +35,9 @@ fn main(rt: HostRuntime) -> ExitCode {
 
 /// Writes the line of a fault to standard error, or that of `Memory` if there is none for it, and answers the exit
 /// status that goes with what was written.
-fn tell(rt: &HostRuntime, fault: &Fault) -> u8 {
+fn tell(rt: &HostRuntime, fault: &Fault) -> u8
+    ensures { (result ≡ status_of fault.now) ⊎ ((result ≡ 3) ⊎ (result ≡ 4)) }
+{
     let mut out = Counted::new(rt.stderr());
     let shown = match show_fault(rt.alloc(), fault, &mut out) {
         Err(ReportFault::NoMemory) => show_fault(rt.alloc(), &Fault::Memory, &mut out),
