@@ -1,36 +1,33 @@
-//! Links the static library of the proved rule of shares, which `tools/bridge/build` makes where it is missing, and
-//! refuses to build where the library and the bridge don't lay the record of a network out alike.
+//! Links the static library of the proved queues, which `tools/bridge/build` makes where it is missing, and refuses to
+//! build where the library and the bridge don't lay out alike what they hand over. Tests also link that of the rule of
+//! shares.
 use std::fs::read_to_string;
 use std::path::{Path, PathBuf};
 
 fn main() {
-    let folder = std::env::var_os("AIR_SHARE").map_or_else(
-        || PathBuf::from(std::env::var_os("CARGO_MANIFEST_DIR").unwrap()).join("../../crates/air_share_c/out"),
+    let folder = std::env::var_os("DOWNLINK").map_or_else(
+        || PathBuf::from(std::env::var_os("CARGO_MANIFEST_DIR").unwrap()).join("../../crates/downlink_c/out"),
         PathBuf::from,
     );
-    println!("cargo:rerun-if-env-changed=AIR_SHARE");
-    println!("cargo:rerun-if-changed={}", folder.join("libair_share_c.a").display());
-    println!("cargo:rustc-link-search=native={}", folder.display());
-    println!("cargo:rustc-link-lib=static=air_share_c");
-    // By names alone: before the library is first built, its folder isn't there to step out of.
+    println!("cargo:rerun-if-env-changed=DOWNLINK");
+    look_for("downlink_c", &folder);
+    // By names alone: before a library is first built, its folder isn't there to step out of.
     let crates = folder.ancestors().nth(2).expect("the library's folder stands in that of a crate");
-    let of_library = fields(&crates.join("air_share/src/lane.rt"), "pub struct Lane {");
-    let of_bridge = fields(Path::new("src/outbound/air/proved_rule.rs"), "struct NetworkDebt {");
-    assert_eq!(of_library, of_bridge, "the library and the bridge lay the record of a network out differently");
-    link_queues(crates);
-}
-
-/// Where the tests find the static library of the proved queues, which they alone link. What is handed over has to be
-/// laid out alike there too.
-fn link_queues(crates: &Path) {
-    let folder = crates.join("downlink_c/out");
-    println!("cargo:rerun-if-changed={}", folder.join("libdownlink_c.a").display());
-    println!("cargo:rustc-link-search=native={}", folder.display());
-    for record in ["FrameTold", "Taken", "Turn", "Added", "Changed"] {
+    for record in ["FrameTold", "Taken", "Turn", "Chosen", "Added", "Changed"] {
         let of_library = fields(&crates.join("downlink_c/src/numbers.rt"), &format!("pub struct {record} {{"));
         let of_bridge = fields(Path::new("src/outbound/air/proved_queues.rs"), &format!("struct {record} {{"));
         assert_eq!(of_library, of_bridge, "the library and the bridge lay {record} out differently");
     }
+    look_for("air_share_c", &crates.join("air_share_c/out"));
+    let of_library = fields(&crates.join("air_share/src/lane.rt"), "pub struct Lane {");
+    let of_bridge = fields(Path::new("src/outbound/air/proved_rule.rs"), "struct NetworkDebt {");
+    assert_eq!(of_library, of_bridge, "the library and the bridge lay the record of a network out differently");
+}
+
+/// In this folder a static library is looked for.
+fn look_for(library: &str, folder: &Path) {
+    println!("cargo:rerun-if-changed={}", folder.join(format!("lib{library}.a")).display());
+    println!("cargo:rustc-link-search=native={}", folder.display());
 }
 
 /// The fields of a record that is laid out as C does it: their names and types, in order.

@@ -18,7 +18,7 @@ pub struct Network {
     pub quota: u32,
     /// The interface of its wire, if it has one.
     pub wire: Option<String>,
-    /// Its share of the air, as a part of all networks' shares: from 1 to `scheduler::MOST_WEIGHT`.
+    /// Its share of the air, as a part of all networks' shares: from 1 to `air::MOST_WEIGHT`.
     pub weight: u8,
 }
 

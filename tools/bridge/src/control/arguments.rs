@@ -8,7 +8,7 @@ use crate::control::by::By;
 use crate::control::log;
 use crate::formats::frames::Address;
 use crate::network::Network;
-use crate::outbound::air::scheduler::MOST_WEIGHT;
+use crate::outbound::air::MOST_WEIGHT;
 
 const USAGE: &str = "bridge [--name NAME] --phy NAME --channel NUMBER --monitor NAME --interval UNITS \
                          [--by active-monitors|managed|access-points] [--idle SECONDS] [--no-update] \

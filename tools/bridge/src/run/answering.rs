@@ -75,7 +75,7 @@ impl<P: OfSocket> Bridge<P> {
     /// A line of the program for people: of a table, or a fault.
     fn take_told(&mut self, line: &str, time: Instant) {
         if let Some((mark, running)) = answered_mark(line).zip(self.phase.still_running()) {
-            if running.outbound.air.sleepers.answered(mark, time) {
+            if running.outbound.air.answered(mark, time) {
                 running.wakes.take_answer(mark, time);
                 return;
             }

@@ -43,14 +43,15 @@ impl<P: Port> Running<P> {
                 Move::Dozes => self.falls_asleep(place, station, feeder, time),
                 Move::Wakes => {
                     let (units, mark) = (air.sleepers.kept_at_most(place, station), feeder.mark());
-                    air.sleepers.wakes(place, station, mark, time);
+                    air.wakes(place, station, mark, time);
                     self.wakes.give((place, station), mark, units, time);
                 }
+                Move::Polls => air.polls(place, station, time),
                 Move::Leaves => air.leaves(place, station, Some(feeder.mark()), time),
                 Move::Left => air.leaves(place, station, None, time),
                 Move::Joins { dozes } => {
                     if !dozes {
-                        air.sleepers.joins(place, station, time);
+                        air.joins(place, station, time);
                         self.gets_ready((place, station), time);
                     } else if !air.is_asleep(place, station) {
                         self.falls_asleep(place, station, feeder, time);

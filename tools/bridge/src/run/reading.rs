@@ -8,9 +8,12 @@ use crate::formats::radiotap::Reception;
 use crate::inbound::frame::{InboundFrame, Source, LONGEST};
 use crate::inbound::judging::{judge_wired, Judged, LeftOut};
 use crate::os::batch::Batch;
-use crate::os::clock::{now, wall_now, Instant};
+use crate::os::clock::{now, wall_now, Duration, Instant, MILLISECOND};
 use crate::os::poller::{Poller, Ready, Token};
 use crate::os::port::{OfSocket, Packet, Port, AT_A_TIME};
+
+/// For how long more than some batches are read in a waking while the bridge is behind: as long as frames gather else.
+const CATCHING_UP: Duration = MILLISECOND;
 
 impl<P: OfSocket> Bridge<P> {
     /// Reads the packets that wait at an interface, or learns that it has room.
@@ -97,16 +100,31 @@ impl<P: Port> Running<P> {
         Ok(())
     }
 
-    /// Reads what waits at an interface, some batches of it at most.
+    /// Reads what waits at an interface, some batches of it at most, and more while the bridge is behind with it.
     pub(super) fn receive(&mut self, token: Token, batch: &mut Batch, time: Instant) -> Result<(), Fault> {
         batch.ask_for(self.most_to_ask_for(token));
-        for _ in 0..IN_A_ROW {
-            if self.receive_batch(token, batch, time)? < AT_A_TIME {
+        let is_behind_elsewhere = std::mem::take(&mut self.reading.is_behind);
+        let mut batches = 0;
+        while self.receive_batch(token, batch, time)? == AT_A_TIME {
+            batches += 1;
+            if batches >= IN_A_ROW && !self.catches_up() {
                 break;
             }
         }
+        self.reading.is_behind |= is_behind_elsewhere;
         self.tell_of_drops();
         Ok(())
+    }
+
+    /// Whether more is read of an interface in this waking: the last batch had waited for long there, and no interval
+    /// begins yet.
+    fn catches_up(&mut self) -> bool {
+        if !self.reading.is_behind {
+            return false;
+        }
+        let time = now();
+        let until = *self.reading.catches_up_until.get_or_insert(time + CATCHING_UP);
+        time < until.min(self.timing.ticks.due)
     }
 
     /// Reads a batch of what waits at an interface, and answers how many packets that was.
@@ -133,7 +151,9 @@ impl<P: Port> Running<P> {
         let arrival = self.reading.arrivals.read(wall_now(), now());
         for packet in batch.packets() {
             let arrived = arrival(packet.arrived).min(time);
-            self.reading.is_behind |= token != Token::Acknowledged && time.since(arrived) > LONGEST / 2;
+            if token != Token::Acknowledged {
+                self.reading.is_behind = time.since(arrived) > LONGEST / 2;
+            }
             match token {
                 Token::Wire(place) => self.take_wired(place, &packet, arrived),
                 _ => self.take_air(&packet, arrived),

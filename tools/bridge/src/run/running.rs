@@ -71,8 +71,11 @@ pub(super) struct Reading {
     /// How often the bridge was woken, and in which waking the air and each wire were read last.
     pub(super) wakings: u64,
     pub(super) read_in: Vec<u64>,
-    /// Whether a packet that was read in this waking had waited in the kernel for half as long as data is worth.
+    /// Whether the last packet that was read of an interface in this waking had waited in the kernel for half as long
+    /// as data is worth.
     pub(super) is_behind: bool,
+    /// Until when it catches up in this waking, once it has begun to.
+    pub(super) catches_up_until: Option<Instant>,
     /// How many frames were sent on the air when those that were acknowledged were read last.
     pub(super) sent_before: u64,
     /// Whether one waits for frames that were acknowledged.
@@ -162,6 +165,7 @@ impl<P: Port> Running<P> {
     pub(super) fn begin_waking(&mut self) {
         self.reading.wakings += 1;
         self.reading.is_behind = false;
+        self.reading.catches_up_until = None;
     }
 
     /// Whether the wire of the network of this place has ended, and isn't back.

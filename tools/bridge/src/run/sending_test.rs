@@ -24,9 +24,12 @@ use crate::stations::Errand;
 use crate::testing::samples::{data, network, radiotap, Unit, OTHER, OURS, STATION};
 
 /// A radio's port, which shows each frame that is sent by it as acknowledged if `shown` is. It has as many octets as
-/// `unsent` says, and counts how often it is asked that.
+/// `unsent` says, and counts how often it is asked that. Of the packets that are still to come it hears a batch each
+/// time that it is read.
 struct RadioPort {
     near: UnixDatagram,
+    far: UnixDatagram,
+    to_come: Rc<Cell<usize>>,
     shown: Option<UnixDatagram>,
     asked: Rc<Cell<usize>>,
     unsent: Rc<Cell<usize>>,
@@ -36,7 +39,8 @@ impl RadioPort {
     /// One with its other end.
     fn new(shown: Option<UnixDatagram>) -> (RadioPort, UnixDatagram) {
         let (near, far) = UnixDatagram::pair().unwrap();
-        (RadioPort { near, shown, asked: Rc::default(), unsent: Rc::default() }, far)
+        let (to_come, asked, unsent) = (Rc::default(), Rc::default(), Rc::default());
+        (RadioPort { near, far: far.try_clone().unwrap(), to_come, shown, asked, unsent }, far)
     }
 }
 
@@ -50,6 +54,9 @@ impl Port for RadioPort {
     }
 
     fn receive(&mut self, batch: &mut Batch) -> io::Result<usize> {
+        let come = self.to_come.get().min(AT_A_TIME);
+        self.to_come.set(self.to_come.get() - come);
+        (0..come).try_for_each(|_| self.far.send(&radiotap(&data(), 0, &[])).map(drop))?;
         batch.receive(self.near.as_fd())
     }
 
@@ -94,7 +101,7 @@ fn send_two(is_shown: bool) -> (usize, usize) {
     let interfaces = Interfaces::new(monitor, beacons, vec![None]).with_acknowledged(acknowledged);
     let mut running = Running::new(interfaces, &manner);
     let request = association_request(&manner.networks[0], STATION);
-    running.outbound.air.restore(0, Frame::of(&request).unwrap());
+    running.outbound.air.restore(0, Frame::of(&request).unwrap(), now());
     let (poller, mut batch, begun) = (Poller::new().unwrap(), Batch::new(), now());
     for number in 1..=2 {
         let time = begun + 20 * MILLISECOND * number;
@@ -172,6 +179,23 @@ fn where_the_bridge_is_behind_with_reading_outcomes_are_read_once() {
     }
 }
 
+/// While what is read had waited for long, more than some batches are read in a waking, for a while: what has to be
+/// dropped is dropped before the program is given the rest.
+#[test]
+fn where_the_bridge_is_behind_with_reading_it_reads_on() {
+    let some = AT_A_TIME * IN_A_ROW;
+    for (waited, reads_on) in [(LONGEST, true), (LONGEST / 4, false)] {
+        let ((monitor, _far), (beacons, _beacons)) = (RadioPort::new(None), RadioPort::new(None));
+        let to_come = Rc::clone(&monitor.to_come);
+        let mut running = Running::new(Interfaces::new(monitor, beacons, vec![None]), &manner());
+        running.batching.are_many = true;
+        assert!(running.timing.begin(now(), 1));
+        to_come.set(2 * some);
+        running.receive(Token::Monitor, &mut Batch::new(), now() + waited).unwrap();
+        assert_eq!((to_come.get() < some, running.waiting.len()), (reads_on, some), "{waited:?}");
+    }
+}
+
 /// The radio doesn't wake the bridge for an acknowledgement, so that is read before one judges by it.
 #[test]
 fn a_station_that_acknowledges_the_question_behind_an_update_stays_for_now() {
@@ -198,7 +222,7 @@ fn with_station(interfaces: Interfaces<RadioPort>, dozes: bool) -> Running<Radio
     let manner = manner();
     let mut running = Running::new(interfaces, &manner);
     let request = association_request(&manner.networks[0], STATION);
-    running.outbound.air.restore(0, Frame::of(&request).unwrap());
+    running.outbound.air.restore(0, Frame::of(&request).unwrap(), now());
     let station = KeptStation { address: STATION, aid: 1, listen: 5, dozes, has_dozed: dozes, request };
     let stay = vec![((0, STATION), station)];
     running.stations.restore(&Restored { stay, again: vec![], leave: vec![], swallowed: 0 }, now() - 10 * SECOND);
@@ -210,7 +234,7 @@ fn with_kept(units: u32) -> (Running<RadioPort>, Rc<Cell<usize>>) {
     let ((monitor, _), (beacons, _)) = (RadioPort::new(None), RadioPort::new(None));
     let unsent = Rc::clone(&beacons.unsent);
     let mut running = with_station(Interfaces::new(monitor, beacons, vec![None]), true);
-    running.outbound.air.sleepers.has_dozed(0, STATION, now());
+    running.outbound.air.has_dozed(0, STATION, now());
     (0..units).for_each(|_| running.outbound.air.sleepers.was_given(0, STATION));
     (running, unsent)
 }

@@ -112,10 +112,10 @@ impl<P: Port> Running<P> {
     pub(super) fn restore(&mut self, restored: &Restored, time: Instant) {
         for ((place, station), kept) in &restored.stay {
             if let Some(request) = Frame::of(&kept.request) {
-                self.outbound.air.restore(*place, request);
+                self.outbound.air.restore(*place, request, time);
             }
             if kept.dozes {
-                self.outbound.air.sleepers.has_dozed(*place, *station, time);
+                self.outbound.air.has_dozed(*place, *station, time);
             }
         }
         for (place, network) in self.networks.iter().enumerate() {

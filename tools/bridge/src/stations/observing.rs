@@ -109,6 +109,9 @@ impl StationTable {
                 self.told_of[member.0].remove(&aid);
             }
             (FromStation::Poll, State::Associated(aid)) => {
+                if station.dozes {
+                    self.moves.push((member, Move::Polls));
+                }
                 self.told_of[member.0].remove(&aid);
             }
             _ => {}

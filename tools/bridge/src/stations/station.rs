@@ -22,6 +22,8 @@ pub enum Move {
     Dozes,
     /// It is awake, by a frame that the program was given.
     Wakes,
+    /// It polls, and dozes, by a frame that the program was given.
+    Polls,
     /// It leaves, by a frame that the program was given.
     Leaves,
     /// It isn't associated, by what the program answered or has in its tables.

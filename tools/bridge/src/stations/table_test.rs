@@ -251,6 +251,21 @@ fn each_change_of_a_mode_is_told_once() {
     assert_eq!(table.take_moves(), [(FIRST, Move::Leaves)]);
 }
 
+/// A poll of a station that is awake brings nothing.
+#[test]
+fn a_poll_is_told_of_a_station_that_dozes() {
+    let poll = [&[0xa4, 0x10, 1, 0xc0][..], OURS.octets(), STATION.octets()].concat();
+    let mut table = joined();
+    table.take_moves();
+    table.fed(&poll, at(4 * SECOND));
+    fed_null(&mut table, true);
+    [(); 2].map(|()| table.fed(&poll, at(5 * SECOND)));
+    assert_eq!(table.take_moves(), [Move::Dozes, Move::Polls, Move::Polls].map(|change| (FIRST, change)));
+    fed_null(&mut table, false);
+    table.fed(&poll, at(6 * SECOND));
+    assert_eq!(table.take_moves(), [(FIRST, Move::Wakes)]);
+}
+
 /// The program makes a station active as it joins; what it is given behind the request holds.
 #[test]
 fn a_mode_that_comes_before_the_answer_to_a_request_holds() {

@@ -7,9 +7,10 @@ use crate::os::interfaces::Interfaces;
 use crate::outbound::air::account::Unsent;
 use crate::outbound::air::air_time::Size;
 use crate::outbound::air::dequeue::{FEW, LOOK_EVERY};
+use crate::outbound::air::downlink::MOST_FOR_STATION;
 use crate::outbound::air::frame::{MOST_LIFETIME, PROBE_RESPONSE};
 use crate::outbound::air::in_flight::MOST_OUT;
-use crate::outbound::air::queue::{MOST_FOR_STATION, MOST_OCTETS};
+use crate::outbound::air::queue::MOST_OCTETS;
 use crate::outbound::counts::Counts;
 use crate::outbound::monitor::{self, MonitorSender};
 use crate::stations::own_frames::association_request;
@@ -255,7 +256,7 @@ fn a_station_that_joined_is_sent_to_at_its_fastest_rate_soon() {
 #[test]
 fn a_station_that_is_restored_is_sent_to_at_its_fastest_rate_soon() {
     let mut driver = driver([1, 1]);
-    driver.air.restore(0, Frame::of(&request(OURS, STATION, &RATES)).unwrap());
+    driver.air.restore(0, Frame::of(&request(OURS, STATION, &RATES)).unwrap(), Instant::START);
     (0..8).for_each(|number| driver.deliver(0, unit(OURS, STATION, number)));
     assert_eq!(driver.give([unit(OURS, STATION, 9)])[0].rate, 108);
 }

@@ -8,8 +8,13 @@ use tx_time::{is_spread, of_acknowledgement, of_frame, DIFS, SLOT};
 
 use crate::os::clock::{nanos, Duration};
 
+/// The contention window of the first try, at a rate of OFDM and at one of DSSS; and the largest one.
 const LEAST_WINDOW: [u64; 2] = [15, 31];
 const MOST_WINDOW: u64 = 1023;
+/// From so many tries on each has the largest window.
+const WIDENED: usize = 8;
+/// How many nanoseconds are waited before so many tries in all, from these first windows on.
+const WAITS: [[u64; WIDENED]; 2] = [waits(LEAST_WINDOW[0]), waits(LEAST_WINDOW[1])];
 
 /// A frame as the air sees it.
 #[derive(Debug, Clone, Copy, PartialEq, Eq)]
@@ -31,7 +36,7 @@ impl Size {
 
     /// What it takes of the air, reckoned once for all that is asked of it.
     pub fn cost(self) -> Cost {
-        Cost { once: self.on_air(), window: LEAST_WINDOW[usize::from(is_spread(self.rate))] }
+        Cost { once: self.on_air(), is_spread: is_spread(self.rate) }
     }
 }
 
@@ -40,44 +45,56 @@ impl Size {
 pub struct Cost {
     /// How long one try is sent, in nanoseconds.
     once: u64,
-    /// The contention window of the first try.
-    window: u64,
+    is_spread: bool,
 }
 
 impl Cost {
     /// How long so many tries take in all, on the average of what is drawn.
     pub fn tries(self, number: u32) -> Duration {
-        let (mut time, mut window) = (u64::from(number) * self.once, self.window);
-        for _ in 0..number {
-            time += wait(window);
-            window = wider(window);
-        }
-        Duration::from_nanos(time)
+        Duration::from_nanos(self.nanos_of(u64::from(number)))
+    }
+
+    fn nanos_of(self, tries: u64) -> u64 {
+        let waits = &WAITS[usize::from(self.is_spread)];
+        let last = WIDENED as u64 - 1;
+        let waited = waits[tries.min(last) as usize] + tries.saturating_sub(last) * wait(MOST_WINDOW);
+        tries * self.once + waited
     }
 
     /// How many tries fit into a time, of so many at most, and `least` if fewer do.
     pub fn tries_within(self, time: Duration, least: u8, most: u8) -> u8 {
-        let (time, mut number, mut taken, mut window) = (nanos(time), 0, 0, self.window);
-        while number < most {
-            taken += self.once + wait(window);
-            if taken > time {
-                break;
-            }
+        let (time, mut number) = (nanos(time), 0);
+        while number < most && self.nanos_of(u64::from(number) + 1) <= time {
             number += 1;
-            window = wider(window);
         }
         number.max(least)
     }
 }
 
 /// How many nanoseconds are waited before a try, on the average: DIFS, and half of its contention window.
-fn wait(window: u64) -> u64 {
+const fn wait(window: u64) -> u64 {
     DIFS + window * SLOT / 2
 }
 
 /// The contention window of the try after one of this window.
-fn wider(window: u64) -> u64 {
-    (2 * window + 1).min(MOST_WINDOW)
+const fn wider(window: u64) -> u64 {
+    let window = 2 * window + 1;
+    if window < MOST_WINDOW {
+        window
+    } else {
+        MOST_WINDOW
+    }
+}
+
+/// How many nanoseconds are waited before none, one and more tries in all, if the first has this window.
+const fn waits(mut window: u64) -> [u64; WIDENED] {
+    let (mut waits, mut tries) = ([0; WIDENED], 1);
+    while tries < WIDENED {
+        waits[tries] = waits[tries - 1] + wait(window);
+        window = wider(window);
+        tries += 1;
+    }
+    waits
 }
 
 #[cfg(test)]
@@ -102,6 +119,21 @@ mod tests {
         assert_eq!(cost(1436, 108).tries(0), Duration::ZERO);
         // The window doubles: 31 and 63 slots.
         assert_eq!(nanos(cost(1436, 108).tries(3)), 3 * (50_000 + 286_000) + 150_000 + 310_000 + 630_000);
+    }
+
+    /// Try by try: the window doubles until it is the largest.
+    #[test]
+    fn any_number_of_tries_takes_what_each_of_them_takes() {
+        for (rate, first) in [(108, LEAST_WINDOW[0]), (2, LEAST_WINDOW[1])] {
+            let (cost, mut window, mut time) = (cost(100, rate), first, 0);
+            for number in 0..40 {
+                assert_eq!(nanos(cost.tries(number)), time, "{number}");
+                let least = Duration::from_nanos(time);
+                assert_eq!(cost.tries_within(least, 0, u8::MAX), number as u8);
+                time += cost.once + DIFS + SLOT * window / 2;
+                window = (2 * window + 1).min(MOST_WINDOW);
+            }
+        }
     }
 
     #[test]

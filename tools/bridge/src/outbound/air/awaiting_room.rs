@@ -54,9 +54,12 @@ impl Transmitter {
 
     /// A frame that had its turn is dropped: the radio never gets it. A unit whose station dozes goes back instead.
     fn lose(&mut self, name: FrameName, packet: &[u8], why: Unsent, now: Instant) {
-        self.in_flight.forget(name);
-        let goes_back =
-            unit_of(packet).map_or(false, |unit| self.hand_back_late(name.place, name.receiver, &unit, now));
+        let FrameName { place, receiver, .. } = name;
+        let sent = self.in_flight.forget(name);
+        // One that `in_flight` has forgotten had its turn long ago, and still waited for room.
+        let may_go_back = sent.map_or(true, |sent| self.queue.never_went(place, sent.receiver, sent.ticket));
+        let unit = unit_of(packet).filter(|_| may_go_back);
+        let goes_back = unit.map_or(false, |unit| self.hand_back_late(place, receiver, &unit, now));
         if !goes_back {
             self.queue.accounts[name.place].count_unsent(why);
         }

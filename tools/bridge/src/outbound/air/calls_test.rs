@@ -100,20 +100,24 @@ impl Caller {
                 true
             }
             1 => {
-                self.air.sleepers.joins(place, station, now);
+                self.air.joins(place, station, now);
                 false
             }
             2..=5 if self.air.is_asleep(place, station) => {
-                self.air.sleepers.wakes(place, station, mark, now);
+                self.air.wakes(place, station, mark, now);
                 true
             }
             2..=5 => {
                 self.air.dozes(place, station, mark, now);
                 true
             }
+            15 if self.air.is_asleep(place, station) => {
+                self.air.polls(place, station, now);
+                false
+            }
             _ => {
                 let answered = self.marks.pop_front();
-                answered.into_iter().for_each(|mark| assert!(self.air.sleepers.answered(mark, now)));
+                answered.into_iter().for_each(|mark| assert!(self.air.answered(mark, now)));
                 false
             }
         };
@@ -182,10 +186,10 @@ impl Caller {
     /// the radio has room, and tells of all that it has at once, until nothing waits or for three seconds.
     fn finish(&mut self) {
         for (place, station) in [0, 1].into_iter().flat_map(|place| [STATION, STRANGER].map(|to| (place, to))) {
-            self.air.sleepers.joins(place, station, self.now);
+            self.air.joins(place, station, self.now);
             self.send_units(place, station);
             self.air.dozes(place, station, self.last_mark + 1, self.now);
-            self.air.sleepers.joins(place, station, self.now);
+            self.air.joins(place, station, self.now);
             self.send_units(place, station);
         }
         if self.air.is_down() {
@@ -236,6 +240,25 @@ fn units_for_one_receiver_keep_their_order() {
         }
     }
     assert!(again > CALLS / 500, "{again}");
+}
+
+/// What the library holds for stations is what waits for them and what the radio has, so that nothing is held for ever.
+#[test]
+fn the_library_holds_what_waits_and_what_the_radio_has() {
+    let (mut caller, mut most) = (Caller::new(41), 0);
+    for _ in 0..CALLS {
+        caller.call();
+        for place in 0..2 {
+            let held = [STATION, STRANGER].map(|address| {
+                let station = Receiver::Station(address);
+                let with_radio = caller.air.in_flight.of(place, address).filter(|(_, sent)| sent.receiver == station);
+                caller.air.queue.scheduler.waiting(place, station) + with_radio.count()
+            });
+            most = most.max(held[0]);
+            assert_eq!(caller.air.queue.downlink.held(place), held[0] + held[1]);
+        }
+    }
+    assert!(most > 16, "{most}");
 }
 
 /// Whatever was called before: a radio that tells of all that it has is given all that waits.

@@ -7,12 +7,15 @@ use crate::formats::radiotap::{sending_header, MOST_RETRIES, SENDING_LEN};
 use crate::os::clock::{Duration, Instant, MILLISECOND};
 use crate::outbound::air::account::Unsent;
 use crate::outbound::air::air_time::{Cost, Size};
+use crate::outbound::air::downlink::Ticket;
 use crate::outbound::air::frame::{FrameKind, OutboundFrame, Receiver, MOST_LIFETIME, MOST_UNDRAINED};
 use crate::outbound::air::in_flight::FrameName;
 use crate::outbound::air::lateness::Lateness;
 use crate::outbound::air::links::{Links, Outlook};
+use crate::outbound::air::queue::Ticketed;
 use crate::outbound::air::rate_control::Choice;
 use crate::outbound::air::scheduler::Place;
+use crate::outbound::air::sleeping::Octets;
 
 /// How long the tries of one sending take at most, the waits before them included. Linux stations and hostapd give up
 /// after seven tries, which take so long for a long unit at 54 Mb/s.
@@ -33,6 +36,16 @@ const MOST_TRIED_TWICE: usize = 8;
 pub const LOOK_EVERY: Duration = MILLISECOND;
 /// A radio that had as much as it may have at once is busy for so long.
 const BUSY_SINCE_FULL: Duration = Duration::from_millis(100);
+
+/// The frame that is next.
+#[derive(Debug, Clone, Copy)]
+struct Next {
+    place: Place,
+    receiver: Receiver,
+    ticket: Ticket,
+    address: Address,
+    kind: FrameKind,
+}
 
 /// How a frame is expected to go, unless it is a sample or one that was lost.
 #[derive(Debug, Clone, Copy)]
@@ -63,11 +76,7 @@ impl Transmitter {
 
     /// The frame that waits first is worth nothing any more. A unit that answers a poll goes back to the program, as long
     /// as its station dozes. If what was kept for a station doesn't drain, all of it is dropped.
-    fn give_up(&mut self, place: Place, receiver: Receiver, now: Instant) {
-        let frame = match self.queue.take_first(place, receiver) {
-            Some(frame) => frame,
-            None => return,
-        };
+    fn give_up(&mut self, place: Place, frame: OutboundFrame, now: Instant) {
         if frame.kind.is_unit() && self.hand_back_late(place, frame.address, &frame.octets, now) {
             return;
         }
@@ -107,7 +116,7 @@ impl Transmitter {
         let waits_for_radio = match self.intake {
             Intake::Closed => true,
             Intake::Bounded if self.in_flight.any_missing() => !self.queue.scheduler.is_empty(),
-            Intake::Bounded => self.queue.scheduler.any_ready() && self.queue.scheduler.held().is_some(),
+            Intake::Bounded => self.queue.scheduler.any_ready() && self.queue.held().is_some(),
             Intake::Unbounded => false,
         };
         self.look_due = waits_for_radio.then(|| self.look_due.unwrap_or_else(|| self.next_look(now)));
@@ -126,7 +135,7 @@ impl Transmitter {
             self.queue.admit_notice(now);
         }
         loop {
-            let (place, receiver, frame) = match self.queue.scheduler.first() {
+            let (place, receiver, Ticketed { ticket, frame }) = match self.queue.first() {
                 Some(first) => first,
                 None => {
                     if self.pass_over() {
@@ -138,13 +147,18 @@ impl Transmitter {
             let address = frame.address;
             let outlook = self.links.outlook(place, address);
             if Self::is_worthless(&self.links, &mut self.lateness, place, frame, now) {
-                self.give_up(place, receiver, now);
+                match self.queue.take_first(place, receiver, now) {
+                    Some(frame) => self.give_up(place, frame, now),
+                    None => return false,
+                }
             } else if matches!(receiver, Receiver::Station(_)) && self.awaits(place, address, outlook, now) {
-                self.queue.scheduler.hold(place, receiver);
+                self.queue.hold(place, receiver);
             } else {
                 let rate = if frame.kind.is_unit() { outlook.unit_rate } else { self.links.lowest(place) };
                 let size = Size { octets: frame.octets.len(), rate, is_acknowledged: !address.is_group() };
-                let (cost, octets, kind) = (size.cost(), Rc::clone(&frame.octets), frame.kind);
+                let cost = size.cost();
+                let next = Next { place, receiver, ticket: *ticket, address, kind: frame.kind };
+                let octets = Rc::clone(&frame.octets);
                 let trying = self.most_trying((place, receiver), frame, outlook, cost, now);
                 let has_room = trying.is_some() && self.in_flight.has_room(cost.tries(1), now);
                 if self.intake != Intake::Unbounded && !has_room {
@@ -154,7 +168,7 @@ impl Transmitter {
                 }
                 self.resume();
                 let expected = Expected { size, cost, trying: trying.unwrap_or(MOST_TRYING) };
-                return self.take((place, receiver, address), kind, &octets, expected, now);
+                return self.take(next, &octets, expected, now);
             }
         }
     }
@@ -169,7 +183,7 @@ impl Transmitter {
         cost: Cost,
         now: Instant,
     ) -> Option<Duration> {
-        let others = self.in_flight.longest_of(place, now, |sent| sent.longest);
+        let others = self.in_flight.longest_of(place, now);
         if others.is_zero() {
             return Some(MOST_TRYING);
         }
@@ -183,9 +197,9 @@ impl Transmitter {
     /// If all is held of the network whose turn it is, the others wait with it until the radio told of its frames. If
     /// the radio has none of them, that may take long, and it is passed over. Answers whether it is.
     fn pass_over(&mut self) -> bool {
-        let held = self.queue.scheduler.held();
+        let held = self.queue.held();
         let passed = held.filter(|held| !self.in_flight.has_any(*held) || self.intake == Intake::Unbounded);
-        passed.into_iter().for_each(|place| self.queue.scheduler.pass_over(place));
+        passed.into_iter().for_each(|place| self.queue.pass_over(place));
         passed.is_some()
     }
 
@@ -203,27 +217,25 @@ impl Transmitter {
             || goes_alone && self.in_flight.has(place, address)
     }
 
-    /// The frame that goes next goes: its rate and tries are chosen, and its packet is made.
-    fn take(
-        &mut self,
-        (place, receiver, address): (Place, Receiver, Address),
-        kind: FrameKind,
-        octets: &Rc<Vec<u8>>,
-        expected: Expected,
-        now: Instant,
-    ) -> bool {
+    /// The frame that is next goes, if the library lets it: its rate and tries are chosen, and its packet is made.
+    fn take(&mut self, next: Next, octets: &Octets, expected: Expected, now: Instant) -> bool {
+        let Next { place, receiver, ticket, address, kind } = next;
         let most_retries = self.retries_beside_others(place, receiver, kind);
+        let ticket = match self.queue.goes(place, ticket, now) {
+            Some(ticket) => ticket,
+            None => return false,
+        };
         let (choice, waits, cost) = self.choice(place, address, kind, octets, expected, now);
         let choice = Choice { retries: choice.retries.min(most_retries), ..choice };
         let one_try = cost.tries(1);
-        if !self.queue.serve(place, receiver, microseconds(one_try)) {
+        if self.queue.serve(place, receiver, ticket, microseconds(one_try), now).is_none() {
             return false;
         }
         if kind == FrameKind::Kept {
             self.links.has_kept(place, address, now);
         }
         if waits {
-            self.queue.scheduler.hold(place, receiver);
+            self.queue.hold(place, receiver);
         }
         self.queue.accounts[place].used += one_try;
         let number = Frame::of(octets).and_then(|frame| frame.sequence_control());
@@ -232,13 +244,13 @@ impl Transmitter {
         let reckoned = cost.tries(1 + u32::from(choice.is_sample));
         let (size, retries) = (Size { rate: choice.rate, ..expected.size }, choice.retries);
         let longest = cost.tries(1 + u32::from(retries));
-        let sent = Sent { size, cost, retries, longest, receiver, kind, octets: Rc::clone(octets) };
-        self.in_flight.give(name, sent, reckoned, now);
         let mut packet = self.spare.pop().unwrap_or_default();
         packet.clear();
         packet.reserve_exact(SENDING_LEN + octets.len());
         packet.extend(sending_header(choice.rate, choice.retries));
         packet.extend_from_slice(octets);
+        let octets = Rc::clone(octets);
+        self.in_flight.give(name, Sent { size, cost, retries, longest, receiver, kind, ticket, octets }, reckoned, now);
         self.awaiting_room.push_back((name, packet));
         true
     }
@@ -249,7 +261,7 @@ impl Transmitter {
         match kind {
             FrameKind::Notice => 0,
             FrameKind::Answer => {
-                let is_answer = |frame: &OutboundFrame| frame.kind == FrameKind::Answer;
+                let is_answer = |waiting: &Ticketed| waiting.frame.kind == FrameKind::Answer;
                 let waiting = self.queue.scheduler.count_first(place, Receiver::Others, is_answer);
                 let with_radio = self.in_flight.count(|sent| sent.kind == FrameKind::Answer);
                 match waiting + with_radio - usize::from(receiver == Receiver::Others) {

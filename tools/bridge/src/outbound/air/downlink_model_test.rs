@@ -1,5 +1,5 @@
 //! The queues of a radio as the crate `downlink` defines them, written again in Rust.
-use super::{Answer, Change, Fate};
+use crate::outbound::air::proved_queues::{Answer, Change, Fate, Refusal};
 
 /// The least common multiple of the weights 1 to 16.
 const COMMON_MULTIPLE: u32 = 720_720;
@@ -119,6 +119,12 @@ impl ReceiverModel {
         Some((ticket, self.unsent(Fate::Lost, frame)))
     }
 
+    fn gives_up(&mut self) -> Option<(u64, Fate)> {
+        let (frame, _) = self.next(true)?;
+        self.remove(true);
+        Some((frame.ticket, self.unsent(Fate::GivenUp, frame)))
+    }
+
     fn returns(&mut self) -> Option<(u64, Fate)> {
         let (frame, _) = self.next(false)?;
         self.remove(false);
@@ -152,6 +158,8 @@ struct NetworkModel {
     receivers: Vec<ReceiverModel>,
     /// From which place on the next turn is looked for.
     from: usize,
+    /// Whether it has no turn.
+    is_paused: bool,
     scale: u32,
     debt: u64,
 }
@@ -164,7 +172,7 @@ impl NetworkModel {
     /// The receiver whose turn it is.
     fn turn(&self) -> Option<usize> {
         let places = self.receivers.len();
-        (self.from..places).chain(0..places).find(|place| self.may_go(*place))
+        (self.from..places).chain(0..places).find(|place| !self.is_paused && self.may_go(*place))
     }
 }
 
@@ -180,6 +188,7 @@ impl Model {
         let network = |(weight, mosts): &(u8, Vec<usize>)| NetworkModel {
             receivers: mosts.iter().map(|most| ReceiverModel::new(*most)).collect(),
             from: 0,
+            is_paused: false,
             scale: COMMON_MULTIPLE / u32::from(*weight),
             debt: 0,
         };
@@ -187,16 +196,15 @@ impl Model {
     }
 
     /// Whose turn it is.
-    fn chosen(&self) -> Option<usize> {
+    pub fn turn(&self) -> Option<usize> {
         let waits = |place: &usize| self.networks[*place].turn().is_some();
         (0..self.networks.len()).filter(waits).min_by_key(|place| self.networks[*place].debt)
     }
 
     pub fn has_next(&mut self) -> bool {
-        self.chosen().is_some()
+        self.turn().is_some()
     }
 
-    /// `Err` where there is no such receiver.
     pub fn comes(
         &mut self,
         (network, receiver): (usize, usize),
@@ -204,22 +212,35 @@ impl Model {
         is_unit: bool,
         until: u64,
         now: u64,
-    ) -> Result<Option<Answer>, ()> {
-        let queue = self.receiver(network, receiver).ok_or(())?;
+    ) -> Result<Option<Answer>, Refusal> {
+        let queue = self.receiver(network, receiver).ok_or(Refusal::NoReceiver)?;
         Ok(queue.comes(ticket, is_unit, until, now).map(|(ticket, fate)| Answer { network, receiver, ticket, fate }))
     }
 
     pub fn next(&mut self, now: u64) -> Option<Answer> {
-        let place = self.chosen()?;
-        let network = &mut self.networks[place];
-        let receiver = network.turn()?;
-        let (ticket, fate) = network.receivers[receiver].turn(now)?;
-        if matches!(fate, Fate::Goes | Fate::GoesAgain) {
-            network.from = receiver + 1;
-            let debt = network.debt;
+        let place = self.turn()?;
+        let receiver = self.networks[place].turn()?;
+        let answer = self.next_of((place, receiver), now)?;
+        if answer.fate.is_sending() {
+            self.networks[place].from = receiver + 1;
+        }
+        Some(answer)
+    }
+
+    /// If it is this network's turn, that receiver of it has its turn.
+    pub fn next_of(&mut self, (network, receiver): (usize, usize), now: u64) -> Option<Answer> {
+        self.turn().filter(|turn| *turn == network)?;
+        let (ticket, fate) = self.receiver(network, receiver)?.turn(now)?;
+        if fate.is_sending() {
+            let debt = self.networks[network].debt;
             self.networks.iter_mut().for_each(|network| network.debt = network.debt.saturating_sub(debt));
         }
-        Some(Answer { network: place, receiver, ticket, fate })
+        Some(Answer { network, receiver, ticket, fate })
+    }
+
+    /// `false` where there is no such network.
+    pub fn pauses(&mut self, network: usize, is_paused: bool) -> bool {
+        self.networks.get_mut(network).map(|network| network.is_paused = is_paused).is_some()
     }
 
     /// A network used so many time units of air; `false` where there is none, or its debt would be too large.
@@ -232,6 +253,11 @@ impl Model {
 
     pub fn told(&mut self, (network, receiver): (usize, usize), ticket: u64, is_acknowledged: bool) -> Option<Answer> {
         let (ticket, fate) = self.receiver(network, receiver)?.told(ticket, is_acknowledged)?;
+        Some(Answer { network, receiver, ticket, fate })
+    }
+
+    pub fn gives_up(&mut self, (network, receiver): (usize, usize)) -> Option<Answer> {
+        let (ticket, fate) = self.receiver(network, receiver)?.gives_up()?;
         Some(Answer { network, receiver, ticket, fate })
     }
 

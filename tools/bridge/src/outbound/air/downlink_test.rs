@@ -1,34 +1,32 @@
 //! The way to the air beside the queues of the crate `downlink`, as the proved library keeps them and as a model does:
-//! the same calls, and what all decide.
+//! the same calls, and what all decide. The way to the air decides by such a library too. So what is compared here is
+//! what it hands in, and whether it does what the library says.
 //!
-//! Where the rules differ (`docs/DECISIONS.md`, "The queue of a receiver" and "The queues of a radio") the calls are
-//! such that both come to the same:
+//! Where the way to the air has rules of its own (`docs/DECISIONS.md`, "The queues of the way to the air") the calls
+//! are such that both come to the same:
 //!
 //! 1. The receiver of a network whose turn it is isn't compared: the model says whose it is, and all others are held.
 //! 2. What became of a frame is told before the next one goes, so the bridge holds no receiver. As a frame goes,
 //!    `used` tells of its first try. Once it is told of, `used` tells what all its tries took beyond that.
 //! 3. Time nearly stands still, or goes on by half a second: units are in time, or late in any case (`lateness`).
-//! 4. A unit comes for a station that dozes only as an answer to a poll.
-//! 5. What became of a unit is told before its station's doze is settled, and before it wakes or leaves. Units go back
+//! 4. What became of a unit is told before its station's doze is settled, and before it wakes or leaves. Units go back
 //!    once the doze is settled.
-//! 6. A station that wakes or leaves is settled at once, so nothing comes as kept.
-//! 7. While as many frames wait for a station as may, none for it is lost, and none comes where one of them goes once
-//!    more: in the bridge that one needs room. None comes beyond that while a station falls asleep or leaves.
-//! 8. Nothing is for those who aren't associated, and there are no beacons.
+//! 5. A station that wakes or leaves is settled at once, so nothing comes as kept.
+//! 6. No more frames come than may wait while a station falls asleep or leaves: the bridge has taken those out by then.
+//! 7. Nothing is for those who aren't associated, and there are no beacons.
 use super::*;
 use crate::formats::frames::Address;
 use crate::formats::radiotap::SENDING_LEN;
 use crate::os::clock::SECOND;
 use crate::outbound::air::account::Unsent;
-use crate::outbound::air::frame::{OutboundFrame, MOST_LIFETIME};
+use crate::outbound::air::frame::MOST_LIFETIME;
 use crate::outbound::air::handing_back::Errand;
+use crate::outbound::air::proved_queues::{Answer, Change, Fate};
 use crate::stations::own_frames::association_request;
 use crate::testing::samples::{at, network, Seeded, Unit};
 
 #[path = "downlink_model_test.rs"]
 mod model;
-#[path = "proved_queues.rs"]
-mod proved_queues;
 #[path = "proved_queues_test.rs"]
 mod proved_queues_tests;
 
@@ -37,51 +35,6 @@ use proved_queues_tests::Beside;
 
 const CALLS: usize = if cfg!(debug_assertions) { 100_000 } else { 1_000_000 };
 const CALLS_OF_A_RUN: usize = 2000;
-
-/// What became of a frame.
-#[derive(Debug, Clone, Copy, PartialEq, Eq)]
-pub enum Fate {
-    Goes,
-    GoesAgain,
-    Acknowledged,
-    WaitsAgain,
-    Lost,
-    HandedBack,
-    Late,
-    Crowded,
-    Left,
-}
-
-impl Fate {
-    const ALL: [Fate; 9] = {
-        use Fate::*;
-        [Goes, GoesAgain, Acknowledged, WaitsAgain, Lost, HandedBack, Late, Crowded, Left]
-    };
-
-    fn is_sending(self) -> bool {
-        matches!(self, Fate::Goes | Fate::GoesAgain)
-    }
-}
-
-/// What a call answers of a frame.
-#[derive(Debug, Clone, Copy, PartialEq, Eq)]
-pub struct Answer {
-    network: usize,
-    receiver: usize,
-    ticket: u64,
-    fate: Fate,
-}
-
-/// What a station does.
-#[derive(Debug, Clone, Copy, PartialEq, Eq)]
-pub enum Change {
-    Joins,
-    Leaves,
-    Dozes,
-    Settles,
-    Wakes,
-    Polls { until: u64 },
-}
 
 const NETWORKS: usize = 3;
 /// The groups' receiver is the first one.
@@ -191,8 +144,8 @@ impl Pair {
         if receiver > 0 {
             let (station, network) = (address_of(place, receiver), network(bssid(place)));
             let request = association_request(&Network { rates: RATES.to_vec(), ..network }, station);
-            self.air.sleepers.joins(place, station, self.now);
-            self.air.restore(place, Frame::of(&request).unwrap());
+            self.air.joins(place, station, self.now);
+            self.air.restore(place, Frame::of(&request).unwrap(), self.now);
         }
         self.change(place, receiver, Change::Joins);
         self.modes[place][receiver] = Mode::Awake;
@@ -209,11 +162,11 @@ impl Pair {
         Unit { control: [control, 0], receiver, transmitter, sequence, body }.octets()
     }
 
-    /// A frame comes. One comes for a station that dozes only as the answer to a poll, or as a management frame.
+    /// A frame comes. Most units for a station that dozes are answers to a poll, and the others go back.
     fn come(&mut self, place: Place, receiver: usize) {
         let mode = self.modes[place][receiver];
         let is_unit = receiver == 0 || self.seeded.below(8) > 0;
-        if mode == Mode::Gone || self.room(place, receiver) == 0 && self.again_waits(place, receiver) {
+        if mode == Mode::Gone {
             return;
         }
         let octets = self.octets(place, receiver, if is_unit { DATA } else { ACTION });
@@ -222,11 +175,13 @@ impl Pair {
             (_, true) => self.now + MOST_LIFETIME,
             (_, false) => self.now + LIFETIME_OF_WORD,
         };
-        if is_unit && mode == Mode::Dozes {
+        if is_unit && mode == Mode::Dozes && self.seeded.below(4) > 0 {
             self.change(place, receiver, Change::Polls { until: self.nanos() });
+            self.air.polls(place, address_of(place, receiver), self.now);
         }
         self.air.send(place, octets, self.now);
         self.come_beside(place, receiver, is_unit, until);
+        self.return_all(place, receiver);
     }
 
     fn come_beside(&mut self, place: Place, receiver: usize, is_unit: bool, until: Instant) {
@@ -241,13 +196,7 @@ impl Pair {
 
     /// How many frames more may wait for a receiver.
     fn room(&self, place: Place, receiver: usize) -> usize {
-        MOST[receiver] - self.waiting(place, receiver)
-    }
-
-    /// Whether a unit waits to go once more.
-    fn again_waits(&self, place: Place, receiver: usize) -> bool {
-        let is_again = |frame: &OutboundFrame| frame.kind == FrameKind::Again;
-        self.air.queue.scheduler.count_first(place, receiver_of(place, receiver), is_again) > 0
+        MOST[receiver].saturating_sub(self.waiting(place, receiver))
     }
 
     /// The others of all networks are held, or aren't any more.
@@ -257,8 +206,8 @@ impl Pair {
                 if self.waiting(place, receiver) > 0 {
                     let receiver = receiver_of(place, receiver);
                     match is_held {
-                        true => self.air.queue.scheduler.hold(place, receiver),
-                        false => self.air.queue.scheduler.release(place, receiver),
+                        true => self.air.queue.hold(place, receiver),
+                        false => self.air.queue.release(place, receiver),
                     }
                 }
             }
@@ -284,7 +233,7 @@ impl Pair {
         for group in answers.chunk_by_receiver() {
             let (last, used) = (group[group.len() - 1], self.used(group[0].network));
             let whose = (last.network, last.receiver);
-            assert_eq!(self.air.queue.scheduler.first().map(|(place, ..)| place), Some(last.network));
+            assert_eq!(self.air.queue.first().map(|(place, ..)| place), Some(last.network));
             self.hold_others(whose, true);
             let goes = self.air.choose(1, self.now);
             self.hold_others(whose, false);
@@ -337,7 +286,7 @@ impl Pair {
             self.fall_asleep(place, receiver);
         }
         let is_unit = packet[SENDING_LEN] == DATA;
-        let may_be_lost = receiver > 0 && is_unit && self.room(place, receiver) > 0;
+        let may_be_lost = receiver > 0 && is_unit;
         let is_acknowledged = !may_be_lost || self.seeded.below(4) > 0;
         let (outcome, used) = (self.outcome(packet, is_acknowledged), self.used(place));
         self.air.reported(place, &packet[SENDING_LEN..], outcome, self.now);
@@ -370,7 +319,7 @@ impl Pair {
 
     /// All is answered that came before it said so: its units go back.
     fn settle(&mut self, place: Place, receiver: usize) {
-        assert!(self.air.sleepers.answered(self.mark, self.now));
+        assert!(self.air.answered(self.mark, self.now));
         self.return_all(place, receiver);
         self.change(place, receiver, Change::Settles);
         self.modes[place][receiver] = Mode::Dozes;
@@ -402,8 +351,8 @@ impl Pair {
             }
             Mode::Dozes => {
                 self.mark += 1;
-                self.air.sleepers.wakes(place, station, self.mark, self.now);
-                assert!(self.air.sleepers.answered(self.mark, self.now));
+                self.air.wakes(place, station, self.mark, self.now);
+                assert!(self.air.answered(self.mark, self.now));
                 self.change(place, receiver, Change::Wakes);
                 self.modes[place][receiver] = Mode::Awake;
             }
@@ -417,7 +366,7 @@ impl Pair {
         self.air.leaves(place, address_of(place, receiver), Some(self.mark), self.now);
         self.change(place, receiver, Change::Leaves);
         self.units_come(place, receiver, more);
-        assert!(self.air.sleepers.answered(self.mark, self.now));
+        assert!(self.air.answered(self.mark, self.now));
         self.return_all(place, receiver);
         self.modes[place][receiver] = Mode::Gone;
     }
@@ -522,7 +471,8 @@ fn the_way_to_the_air_decides_as_the_crate_does() {
             (0..Fate::ALL.len()).for_each(|fate| fates[fate] += of_network[fate]);
         }
     }
-    for fate in Fate::ALL {
+    // In both a frame that is given up is late: the library gives one up whenever the bridge says so.
+    for fate in Fate::ALL.into_iter().filter(|fate| *fate != Fate::GivenUp) {
         assert!(fates[fate as usize] > CALLS as u64 / 2000, "{fate:?} {fates:?}");
     }
 }

@@ -37,6 +37,7 @@ fn errands(driver: &mut Driver) -> (Vec<u16>, bool) {
 fn with_poll_answer() -> Driver {
     let mut driver = driver_at_54();
     driver.sleeps();
+    driver.air.polls(0, STATION, driver.now);
     driver.send(0, numbered(30, SHORT_UNIT));
     driver
 }
@@ -49,22 +50,22 @@ impl Driver {
     /// The station dozes, and the program has answered that.
     fn sleeps(&mut self) {
         self.air.dozes(0, STATION, 1, self.now);
-        assert!(self.air.sleepers.answered(1, self.now));
+        assert!(self.air.answered(1, self.now));
         assert_eq!(errands(self), (vec![], true));
     }
 
     /// The station dozes, and the program has answered all that it was given before.
     fn dozes(&mut self) {
         self.air.dozes(0, STATION, 5, self.now);
-        assert!(self.air.sleepers.answered(5, self.now));
+        assert!(self.air.answered(5, self.now));
     }
 
     /// The station dozes and wakes, and the program sends so many units that it had kept.
     fn wakes_with(&mut self, kept: u16, octets: usize) {
         self.sleeps();
-        self.air.sleepers.wakes(0, STATION, 2, self.now);
+        self.air.wakes(0, STATION, 2, self.now);
         (0..kept).for_each(|number| self.send(0, numbered(number, octets)));
-        self.air.sleepers.answered(2, self.now);
+        self.air.answered(2, self.now);
     }
 
     /// Nobody acknowledges these, each after the time that its tries take.
@@ -94,13 +95,27 @@ fn units_of_a_station_that_dozes_go_back_in_their_order() {
     driver.reported(0, &sent[1], 0, true);
     driver.lose(&sent[2..]);
     assert_eq!((driver.flush(), driver.air.sleepers.has_next()), (vec![], false));
-    assert!(!driver.air.sleepers.answered(4, driver.now) && driver.air.sleepers.answered(5, driver.now));
+    assert!(!driver.air.answered(4, driver.now) && driver.air.sleepers.answered(5, driver.now));
     assert_eq!(errands(&mut driver), ((102..143).collect(), true));
     assert_eq!(driver.flush(), []);
     assert_eq!((driver.handed_back(), driver.air.unacknowledged()), ((41, 0), Unacknowledged::default()));
     assert!(driver.air.is_empty() && driver.air.due().is_none());
-    driver.air.sleepers.wakes(0, STATION, 6, driver.now);
+    driver.air.wakes(0, STATION, 6, driver.now);
     assert_eq!(driver.give([numbered(102, LONG_UNIT)])[0].rate, 108);
+}
+
+/// A station may say that it dozes before the answer comes by which it joins: from then on no unit goes to it.
+#[test]
+fn a_station_that_joins_dozing_gets_no_units() {
+    let mut driver = driver([1, 1]);
+    driver.air.heard(0, Frame::of(&request(OURS, STATION, &RATES)).unwrap());
+    driver.air.dozes(0, STATION, 5, driver.now);
+    assert_eq!(driver.give([response(OURS, STATION, 0)]).len(), 1);
+    assert_eq!(driver.give([numbered(100, SHORT_UNIT)]), []);
+    assert!(driver.air.answered(5, driver.now));
+    assert_eq!(errands(&mut driver), (vec![100], true));
+    driver.air.polls(0, STATION, driver.now);
+    assert_eq!(numbers(&driver.give([numbered(101, SHORT_UNIT)])), [101]);
 }
 
 /// A unit that was lost before, and waits to be sent once more, is the first one.
@@ -123,7 +138,7 @@ fn units_before_a_socket_without_room_go_back() {
     let sent = driver.give([deauthentication(105)]);
     driver.air.dozes(0, STATION, 5, driver.now);
     driver.lose(&sent);
-    driver.air.sleepers.answered(5, driver.now);
+    driver.air.answered(5, driver.now);
     assert_eq!((sent.len(), errands(&mut driver)), (2, ((100..105).collect(), true)));
     driver.has_room_again();
     assert_eq!(numbers(&driver.flush()), [105]);
@@ -141,7 +156,7 @@ fn a_station_whose_unit_went_back_before_it_was_sent_is_held_no_more() {
     driver.dozes();
     assert_eq!(errands(&mut driver), (vec![100, 101], true));
     driver.has_room_again();
-    driver.air.sleepers.wakes(0, STATION, 6, driver.now);
+    driver.air.wakes(0, STATION, 6, driver.now);
     assert_eq!(of_station(&driver.give([numbered(100, SHORT_UNIT)])), [100]);
 }
 
@@ -217,6 +232,7 @@ fn the_answer_to_a_poll_goes_before_all_else_of_its_network() {
     (10..15).for_each(|number| driver.send(0, unit(OURS, STRANGER, number)));
     driver.send(1, unit(OTHER, STRANGER, 20));
     driver.send(0, of_network(0x08, OURS, Address::BROADCAST, 21, vec![0; 8]));
+    driver.air.polls(0, STATION, driver.now);
     driver.send(0, numbered(30, SHORT_UNIT));
     driver.has_room_again();
     let sent = driver.run(usize::MAX);
@@ -257,6 +273,7 @@ fn a_station_that_wakes_gets_all_that_was_kept() {
         let found: Vec<u16> = sent.iter().map(|seen| u16::from_be_bytes([seen.frame[32], seen.frame[33]])).collect();
         assert!(found.iter().copied().eq(0..kept + 40), "{} of {kept}", found.len());
         assert!(driver.air.is_empty() && driver.air.accounts()[0].waiting == 0 && driver.air.accounts()[0].octets == 0);
+        assert_eq!(driver.air.queue.downlink.held(0), driver.air.in_flight());
     }
 }
 
@@ -300,7 +317,7 @@ fn what_was_kept_goes_back_where_its_station_dozes_again() {
     driver.wakes_with(90, SHORT_UNIT);
     (90..95).for_each(|number| driver.send(0, numbered(number, SHORT_UNIT)));
     driver.air.dozes(0, STATION, 3, driver.now);
-    driver.air.sleepers.answered(3, driver.now);
+    driver.air.answered(3, driver.now);
     assert_eq!(errands(&mut driver), ((0..95).collect(), true));
 }
 
@@ -311,11 +328,11 @@ fn no_more_go_back_in_a_second_than_the_network_keeps() {
     for mark in 0..10 {
         driver.air.dozes(0, STATION, 2 * mark, driver.now);
         (0..30).for_each(|number| driver.send(0, numbered(number, SHORT_UNIT)));
-        driver.air.sleepers.answered(2 * mark, driver.now);
+        driver.air.answered(2 * mark, driver.now);
         let (numbers, goes_on) = errands(&mut driver);
         assert_eq!((numbers.len(), goes_on), ([30, 30, 30, 10, 0, 0, 0, 0, 0, 0][mark as usize], true));
-        driver.air.sleepers.wakes(0, STATION, 2 * mark + 1, driver.now);
-        driver.air.sleepers.answered(2 * mark + 1, driver.now);
+        driver.air.wakes(0, STATION, 2 * mark + 1, driver.now);
+        driver.air.answered(2 * mark + 1, driver.now);
     }
     assert_eq!((driver.unsent(0, Unsent::OverQuota), driver.handed_back()), (200, (100, 0)));
 }
@@ -328,7 +345,7 @@ fn a_unit_without_a_wired_form_is_counted() {
     driver.air.dozes(0, STATION, 5, driver.now);
     driver.send(0, formless);
     driver.send(0, numbered(101, SHORT_UNIT));
-    driver.air.sleepers.answered(5, driver.now);
+    driver.air.answered(5, driver.now);
     assert_eq!((errands(&mut driver), driver.unsent(0, Unsent::NoWiredForm)), ((vec![101], true), 1));
 }
 
@@ -339,7 +356,7 @@ fn units_for_a_station_that_left_are_dropped() {
     (100..130).for_each(|number| driver.send(0, numbered(number, SHORT_UNIT)));
     driver.air.leaves(0, STATION, Some(9), driver.now);
     driver.send(0, numbered(130, SHORT_UNIT));
-    driver.air.sleepers.answered(9, driver.now);
+    driver.air.answered(9, driver.now);
     driver.send(0, of_network(0xb0, OURS, STATION, 200, vec![0, 0, 2, 0, 0, 0]));
     let sent = driver.run(usize::MAX);
     assert_eq!((numbers(&sent), driver.unsent(0, Unsent::Left)), (vec![200], 31));
@@ -356,8 +373,8 @@ fn units_of_a_station_that_left_do_not_go_back() {
     (100..103).for_each(|number| driver.send(0, numbered(number, SHORT_UNIT)));
     driver.air.leaves(0, STATION, None, driver.now);
     assert_eq!((errands(&mut driver), driver.unsent(0, Unsent::Left)), ((vec![], true), 3));
-    driver.air.sleepers.joins(0, STATION, driver.now);
-    assert!(driver.air.sleepers.answered(5, driver.now));
+    driver.air.joins(0, STATION, driver.now);
+    assert!(driver.air.answered(5, driver.now));
     assert_eq!(of_station(&driver.give([numbered(110, SHORT_UNIT)])), [110]);
 }
 

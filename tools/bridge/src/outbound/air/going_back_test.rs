@@ -24,7 +24,7 @@ fn units_that_are_about_to_go_back_do_not_where_their_station_left() {
     driver.send(0, unit(OURS, STRANGER, 7));
     for (station, mark) in [(STATION, 5), (STRANGER, 6)] {
         driver.air.dozes(0, station, mark, driver.now);
-        driver.air.sleepers.answered(mark, driver.now);
+        driver.air.answered(mark, driver.now);
     }
     assert!(matches!(driver.air.next_errand(), Some(Errand::HandBack { .. })));
     driver.air.leaves(0, STATION, None, driver.now);
@@ -39,7 +39,7 @@ fn a_lost_unit_of_a_station_that_left_is_not_sent_once_more() {
     let mut driver = driver_at_54();
     let sent = driver.give([numbered(100, SHORT_UNIT)]);
     driver.air.leaves(0, STATION, Some(9), driver.now);
-    driver.air.sleepers.answered(9, driver.now);
+    driver.air.answered(9, driver.now);
     driver.lose(&sent);
     assert_eq!(numbers(&driver.give([of_network(0xb0, OURS, STATION, 200, vec![0, 0, 2, 0, 0, 0])])), [200]);
     assert_eq!(driver.air.unacknowledged(), Unacknowledged { again: 0, lost: 1 });
@@ -75,6 +75,60 @@ fn the_answer_to_a_poll_that_waited_for_the_interface_goes_back() {
     driver.pass(MOST_OUT);
     driver.air.came_up(MOST_OUT, driver.now);
     assert_eq!((errands(&mut driver), driver.unsent(0, Unsent::Late)), ((vec![30], false), 0));
+}
+
+/// A poll brings one unit, and a further poll ends its right. One that is answered too late brings none.
+#[test]
+fn a_unit_that_answers_no_poll_goes_back() {
+    let mut driver = driver_at_54();
+    driver.sleeps();
+    assert_eq!((driver.give([numbered(30, SHORT_UNIT)]), errands(&mut driver)), (vec![], (vec![30], false)));
+    [(); 2].map(|()| driver.air.polls(0, STATION, driver.now));
+    assert_eq!(numbers(&driver.give([numbered(31, SHORT_UNIT), numbered(32, SHORT_UNIT)])), [31]);
+    assert_eq!(errands(&mut driver), (vec![32], false));
+    driver.air.polls(0, STATION, driver.now);
+    driver.now += MOST_LIFETIME + MILLISECOND;
+    assert_eq!((driver.give([numbered(33, SHORT_UNIT)]), errands(&mut driver)), (vec![], (vec![33], false)));
+    assert_eq!(driver.handed_back(), (3, 0));
+}
+
+/// The oldest of those for whom most waits goes back and isn't dropped, where its network may have no more.
+#[test]
+fn the_answer_to_a_poll_that_has_no_room_goes_back() {
+    let mut driver = driver_at_54();
+    driver.sleeps();
+    driver.interfaces.monitor.port.room = Some(0);
+    for number in 30..33 {
+        driver.air.polls(0, STATION, driver.now);
+        driver.send(0, numbered(number, MOST_OCTETS / 5 * 2));
+    }
+    assert_eq!((errands(&mut driver), driver.unsent(0, Unsent::Full)), ((vec![30], false), 0));
+    assert_eq!((driver.air.accounts()[0].waiting, driver.handed_back()), (2, (1, 0)));
+}
+
+/// Also to a station of which no rates are known: its request was forgotten.
+#[test]
+fn the_answer_to_a_poll_of_a_station_without_rates_goes_back() {
+    let mut driver = driver([1, 1]);
+    driver.sleeps();
+    driver.air.polls(0, STATION, driver.now);
+    let sent = driver.give([numbered(30, SHORT_UNIT)]);
+    driver.lose(&sent);
+    let again = driver.flush();
+    assert_eq!((again.len(), again[0].is_again()), (1, true));
+    driver.lose(&again);
+    assert_eq!((driver.flush(), errands(&mut driver)), (vec![], (vec![30], false)));
+}
+
+/// What the program answered before it knew that the station dozes answers no poll.
+#[test]
+fn a_poll_before_all_is_answered_brings_nothing() {
+    let mut driver = driver_at_54();
+    driver.air.dozes(0, STATION, 5, driver.now);
+    driver.air.polls(0, STATION, driver.now);
+    assert!(driver.air.answered(5, driver.now));
+    assert_eq!(errands(&mut driver), (vec![], true));
+    assert_eq!((driver.give([numbered(30, SHORT_UNIT)]), errands(&mut driver)), (vec![], (vec![30], false)));
 }
 
 /// Only what goes back behind others of its station is told as out of order.

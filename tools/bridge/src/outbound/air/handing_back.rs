@@ -7,6 +7,7 @@ use crate::formats::frames::{Address, Frame};
 use crate::formats::radiotap::SENDING_LEN;
 use crate::os::clock::Instant;
 use crate::outbound::air::account::Unsent;
+use crate::outbound::air::proved_queues::Change;
 use crate::outbound::air::scheduler::Place;
 use crate::outbound::air::sleeping::{Late, Mark, Mode, Octets, Step};
 
@@ -20,10 +21,14 @@ pub enum Errand {
 }
 
 impl Transmitter {
-    /// The program was given a frame by which a station that was awake dozes, and behind it this mark.
+    /// The program was given a frame by which a station that was awake dozes, and behind it this mark. It may have said
+    /// so before the answer by which it joins.
     pub fn dozes(&mut self, place: Place, station: Address, mark: Mark, now: Instant) {
+        self.take_settled();
+        self.queue.change(place, station, Change::Joins);
+        let waited = self.queue.take_units(place, station, Change::Dozes);
         let mut waiting = self.take_chosen(place, station);
-        waiting.extend(self.queue.take_units(place, station).into_iter().map(|frame| frame.octets));
+        waiting.extend(waited.into_iter().map(|frame| frame.octets));
         let is_told = self.links.is_told();
         let units = self.in_flight.of(place, station).filter(|(_, sent)| is_told && sent.kind.is_unit());
         let with_radio = units.map(|(name, sent)| (name.number, Rc::clone(&sent.octets)));
@@ -33,11 +38,53 @@ impl Transmitter {
 
     /// A station isn't associated any more. If the program wasn't given more than that yet, behind it stands this mark.
     pub fn leaves(&mut self, place: Place, station: Address, mark: Option<Mark>, now: Instant) {
-        let waiting = self.take_chosen(place, station).len() + self.queue.take_units(place, station).len();
+        let waited = self.queue.take_units(place, station, Change::Leaves).len();
+        let waiting = waited + self.take_chosen(place, station).len();
         let waiting = waiting + self.sleepers.leaves(place, station, mark, now);
+        self.take_settled();
         self.count_unsent(place, Unsent::Left, waiting as u64);
         self.links.leave(place, station, now);
         self.release(place, station);
+    }
+
+    /// The program was given a frame by which a station that dozed is awake, and behind it this mark.
+    pub fn wakes(&mut self, place: Place, station: Address, mark: Mark, now: Instant) {
+        self.sleepers.wakes(place, station, mark, now);
+        self.take_settled();
+        self.queue.change(place, station, Change::Wakes);
+    }
+
+    /// The program was given a poll of a station: if that dozes, the unit that comes next for it goes.
+    pub fn polls(&mut self, place: Place, station: Address, now: Instant) {
+        self.queue.polls(place, station, now);
+    }
+
+    /// A station is associated, and awake.
+    pub fn joins(&mut self, place: Place, station: Address, now: Instant) {
+        self.sleepers.joins(place, station, now);
+        self.take_settled();
+        self.queue.change(place, station, Change::Joins);
+    }
+
+    /// A station dozes since before this bridge began.
+    pub fn has_dozed(&mut self, place: Place, station: Address, now: Instant) {
+        self.sleepers.has_dozed(place, station, now);
+        self.take_settled();
+        [Change::Joins, Change::Dozes, Change::Settles].map(|change| self.queue.change(place, station, change));
+    }
+
+    /// The program answered a mark. Answers whether there is such a mark.
+    pub fn answered(&mut self, mark: Mark, now: Instant) -> bool {
+        let is_known = self.sleepers.answered(mark, now);
+        self.take_settled();
+        is_known
+    }
+
+    /// The library learns of which stations all is answered that came before they said that they doze.
+    pub(super) fn take_settled(&mut self) {
+        while let Some((place, station)) = self.sleepers.take_settled() {
+            self.queue.change(place, station, Change::Settles);
+        }
     }
 
     pub fn is_asleep(&self, place: Place, station: Address) -> bool {
@@ -75,6 +122,15 @@ impl Transmitter {
         late != Late::Stays
     }
 
+    /// What had no room in its network goes back, since its station dozes.
+    pub(super) fn hand_back_without_room(&mut self, now: Instant) {
+        while let Some((place, frame)) = self.queue.take_without_room() {
+            if !self.hand_back_late(place, frame.address, &frame.octets, now) {
+                self.count_unsent(place, Unsent::Full, 1);
+            }
+        }
+    }
+
     fn count_over_quota(&mut self, place: Place) {
         let over_quota = self.sleepers.take_over_quota(place);
         self.count_unsent(place, Unsent::OverQuota, over_quota);
@@ -91,7 +147,9 @@ impl Transmitter {
             let is_meant = (name.place, name.receiver) == (place, station);
             match is_meant.then(|| unit_of(&packet)).flatten() {
                 Some(unit) => {
-                    self.in_flight.forget(name);
+                    if let Some(sent) = self.in_flight.forget(name) {
+                        self.queue.never_went(place, sent.receiver, sent.ticket);
+                    }
                     units.push(unit);
                 }
                 None => self.awaiting_room.push_back((name, packet)),

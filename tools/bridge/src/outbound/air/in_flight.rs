@@ -51,6 +51,12 @@ const FASTEST: u64 = 4;
 /// Nor for slower than one that takes so long for a frame: it was away, or the bridge was.
 const MOST_STEP: Duration = Duration::from_millis(100);
 
+/// What is known of a frame that the radio was given.
+pub trait Sending {
+    /// How long the radio takes for it if nobody acknowledges it.
+    fn longest(&self) -> Duration;
+}
+
 /// A frame by what the radio tells of it.
 #[derive(Debug, Clone, Copy, PartialEq, Eq)]
 pub struct FrameName {
@@ -105,6 +111,10 @@ fn at_pace(pace: u64, reckoned: Duration) -> Duration {
 #[derive(Debug)]
 pub struct InFlight<W> {
     frames: VecDeque<FrameInFlight<W>>,
+    /// Of each network how long those of its frames may take that the radio has, as far as one knows.
+    longest_out: Vec<Duration>,
+    /// How many it doesn't have or may not have.
+    doubtful: usize,
     reckoned: Duration,
     /// When the radio is reckoned to be done with all of them, though nobody has looked yet what became of some.
     done: Instant,
@@ -116,12 +126,14 @@ pub struct InFlight<W> {
     last_told: Instant,
 }
 
-impl<W> InFlight<W> {
+impl<W: Sending> InFlight<W> {
     /// The radio has nothing, and is taken to be as fast as is reckoned.
     pub fn new() -> InFlight<W> {
         let took = PACE_PARTS * MILLISECOND;
         InFlight {
             frames: VecDeque::new(),
+            longest_out: Vec::new(),
+            doubtful: 0,
             reckoned: Duration::ZERO,
             done: Instant::START,
             spent: took,
@@ -166,6 +178,10 @@ impl<W> InFlight<W> {
         let behind_those_before = self.done.max(now) + self.takes(reckoned);
         self.done = behind_those_before.min(now + self.takes(self.reckoned));
         let overdue = now + 2 * self.done.since(now);
+        if self.longest_out.len() <= name.place {
+            self.longest_out.resize(name.place + 1, Duration::ZERO);
+        }
+        self.longest_out[name.place] += what.longest();
         self.frames.push_back(FrameInFlight {
             name,
             what,
@@ -181,8 +197,7 @@ impl<W> InFlight<W> {
     /// `None` of a frame that it doesn't have.
     pub fn reported(&mut self, name: FrameName, now: Instant, took: impl FnOnce(&W) -> Duration) -> Option<W> {
         let found = self.frames.iter().position(|given| given.name == name)?;
-        let FrameInFlight { what, reckoned, since, overdue, .. } = self.frames.remove(found)?;
-        self.reckoned -= reckoned;
+        let FrameInFlight { what, since, overdue, .. } = self.remove(found)?;
         if overdue < now {
             self.wait_anew(found, name, now);
         }
@@ -222,9 +237,18 @@ impl<W> InFlight<W> {
     /// The radio was never given this frame; answers what it was.
     pub fn forget(&mut self, name: FrameName) -> Option<W> {
         let place = self.frames.iter().rposition(|given| given.name == name)?;
-        let given = self.frames.remove(place)?;
+        self.remove(place).map(|given| given.what)
+    }
+
+    /// Takes out the frame at this place among those in flight.
+    fn remove(&mut self, at: usize) -> Option<FrameInFlight<W>> {
+        let given = self.frames.remove(at)?;
         self.reckoned -= given.reckoned;
-        Some(given.what)
+        match given.state {
+            State::Out => self.longest_out[given.name.place] -= given.what.longest(),
+            State::Left | State::Missing { .. } => self.doubtful -= 1,
+        }
+        Some(given)
     }
 
     /// The frames for a receiver of which the radio hasn't told, in the order in which it got them.
@@ -256,15 +280,15 @@ impl<W> InFlight<W> {
         self.frames.iter().any(|given| given.name.receiver == receiver && given.name.place == place)
     }
 
-    /// How long those frames of a network may take in all that were given and of which nothing was read, if
-    /// `longest` says it of one. One that has left the radio took no longer than it was out.
-    pub fn longest_of(&self, place: Place, now: Instant, longest: impl Fn(&W) -> Duration) -> Duration {
-        let takes = |given: &FrameInFlight<W>| match given.state {
-            State::Out => longest(&given.what),
-            State::Left => longest(&given.what).min(now.since(given.since)),
-            State::Missing { .. } => Duration::ZERO,
-        };
-        self.frames.iter().filter(|given| given.name.place == place).map(takes).sum()
+    /// How long those frames of a network may take in all that were given and of which nothing was read. One that has
+    /// left the radio took no longer than it was out.
+    pub fn longest_of(&self, place: Place, now: Instant) -> Duration {
+        let out = self.longest_out.get(place).copied().unwrap_or(Duration::ZERO);
+        if self.doubtful == 0 {
+            return out;
+        }
+        let left = self.frames.iter().filter(|given| given.name.place == place && given.state == State::Left);
+        out + left.map(|given| given.what.longest().min(now.since(given.since))).sum::<Duration>()
     }
 
     /// Whether the radio has a frame of this network, or what became of one that it has sent may be told soon.
@@ -284,6 +308,8 @@ impl<W> InFlight<W> {
     /// The radio's socket says that the radio has sent all that it had: what became of that is still to be looked at.
     pub fn settle(&mut self) {
         (self.reckoned, self.done) = (Duration::ZERO, Instant::START);
+        self.longest_out.fill(Duration::ZERO);
+        self.doubtful = self.frames.len();
         for given in &mut self.frames {
             given.reckoned = Duration::ZERO;
             if given.state == State::Out {
@@ -293,14 +319,17 @@ impl<W> InFlight<W> {
     }
 
     /// The socket is empty once more (`settle`): takes out the frames that have been missing for long.
-    pub fn give_up_missing(&mut self) {
-        self.frames.retain_mut(|given| match &mut given.state {
-            State::Missing { empty_looks } => {
+    pub fn give_up_missing(&mut self) -> Vec<(FrameName, W)> {
+        let mut gone = Vec::new();
+        for number in (0..self.frames.len()).rev() {
+            if let State::Missing { empty_looks } = &mut self.frames[number].state {
                 *empty_looks += 1;
-                *empty_looks < MOST_EMPTY_LOOKS
+                if *empty_looks >= MOST_EMPTY_LOOKS {
+                    gone.extend(self.remove(number).map(|given| (given.name, given.what)));
+                }
             }
-            State::Out | State::Left => true,
-        });
+        }
+        gone
     }
 
     pub fn any_missing(&self) -> bool {
@@ -318,20 +347,19 @@ impl<W> InFlight<W> {
     }
 
     /// Takes out the frames of which nothing will be told any more at this time.
-    pub fn expire(&mut self, now: Instant) -> Vec<FrameName> {
+    pub fn expire(&mut self, now: Instant) -> Vec<(FrameName, W)> {
         let mut gone = Vec::new();
-        while let Some(given) = self.frames.front().filter(|given| given.since + MOST_OUT <= now) {
-            gone.push(given.name);
-            self.reckoned -= given.reckoned;
-            self.frames.pop_front();
+        while self.frames.front().map_or(false, |given| given.since + MOST_OUT <= now) {
+            gone.extend(self.remove(0).map(|given| (given.name, given.what)));
         }
         gone
     }
 
     /// The radio has nothing any more: answers what it had.
-    pub fn clear(&mut self) -> Vec<FrameName> {
-        (self.reckoned, self.done) = (Duration::ZERO, Instant::START);
-        self.frames.drain(..).map(|given| given.name).collect()
+    pub fn clear(&mut self) -> Vec<(FrameName, W)> {
+        (self.reckoned, self.done, self.doubtful) = (Duration::ZERO, Instant::START, 0);
+        self.longest_out.fill(Duration::ZERO);
+        self.frames.drain(..).map(|given| (given.name, given.what)).collect()
     }
 
     /// When its first frame is out for more than twice its reckoned time.

@@ -7,6 +7,13 @@ const RECEIVERS: [Address; 3] = [STATION, OTHER, STRANGER];
 const CALLS: usize = if cfg!(debug_assertions) { 100_000 } else { 1_000_000 };
 const CALLS_OF_A_RUN: usize = 400;
 
+/// A frame by its mark.
+impl Sending for u32 {
+    fn longest(&self) -> Duration {
+        self % 7 * MILLISECOND
+    }
+}
+
 #[derive(Debug, Clone)]
 struct ModelFrame {
     name: FrameName,
@@ -171,17 +178,16 @@ impl Model {
             };
             let has_any = self.frames.iter().any(|frame| frame.name.place == place && is_awaited(frame));
             assert_eq!(in_flight.has_any(place), has_any);
-            let longest = |mark: u32| mark % 7 * MILLISECOND;
             let of_place = self.frames.iter().filter(|frame| frame.name.place == place);
             let mut takes = Duration::ZERO;
             for frame in of_place {
                 takes += match frame.state {
-                    State::Out => longest(frame.mark),
-                    State::Left => longest(frame.mark).min(now.since(frame.given)),
+                    State::Out => frame.mark.longest(),
+                    State::Left => frame.mark.longest().min(now.since(frame.given)),
                     State::Missing { .. } => Duration::ZERO,
                 };
             }
-            assert_eq!(in_flight.longest_of(place, now, |mark| longest(*mark)), takes);
+            assert_eq!(in_flight.longest_of(place, now), takes);
         }
         let any_missing = self.frames.iter().any(|frame| matches!(frame.state, State::Missing { .. }));
         assert_eq!(in_flight.any_missing(), any_missing);
@@ -241,11 +247,15 @@ fn call(seeded: &mut Seeded, in_flight: &mut InFlight<u32>, model: &mut Model, (
             in_flight.reports_read();
             model.reports_read();
         }
-        38 => assert_eq!(in_flight.expire(now), model.expire(now)),
-        _ if seeded.below(8) == 0 => assert_eq!(in_flight.clear(), model.clear()),
+        38 => assert_eq!(names(in_flight.expire(now)), model.expire(now)),
+        _ if seeded.below(8) == 0 => assert_eq!(names(in_flight.clear()), model.clear()),
         _ => {}
     }
     false
+}
+
+fn names(gone: Vec<(FrameName, u32)>) -> Vec<FrameName> {
+    gone.into_iter().map(|(name, _)| name).collect()
 }
 
 /// Any calls have the answers of the sentences.
@@ -253,7 +263,8 @@ fn call(seeded: &mut Seeded, in_flight: &mut InFlight<u32>, model: &mut Model, (
 fn any_calls_are_answered_by_the_rules() {
     let (mut seeded, mut told) = (Seeded(17), 0);
     for _ in 0..CALLS / CALLS_OF_A_RUN {
-        let (mut in_flight, mut model, mut now) = (InFlight::new(), Model::default(), at(10 * MILLISECOND));
+        let (mut model, mut now) = (Model::default(), at(10 * MILLISECOND));
+        let mut in_flight = InFlight::new();
         let step = [100_000, 1_000_000, 20_000_000][seeded.below(3)];
         for mark in 0..CALLS_OF_A_RUN as u32 {
             now += Duration::from_nanos(seeded.below(step) as u64);

@@ -1,6 +1,18 @@
 use super::*;
 use crate::testing::samples::{at, NANOSECOND, OTHER, STATION};
 
+impl Sending for () {
+    fn longest(&self) -> Duration {
+        MILLISECOND
+    }
+}
+
+impl Sending for char {
+    fn longest(&self) -> Duration {
+        MILLISECOND
+    }
+}
+
 fn name(number: u16) -> FrameName {
     FrameName { place: 0, receiver: STATION, number: Some(number) }
 }
@@ -161,8 +173,8 @@ fn what_is_never_told_of_is_taken_out() {
     in_flight.give(name(2), (), Duration::from_nanos(5), Instant::from_nanos(1));
     assert_eq!(in_flight.due(), Some(at(MOST_OUT)));
     assert_eq!(in_flight.expire(at(MOST_OUT - NANOSECOND)), []);
-    assert_eq!(in_flight.expire(at(MOST_OUT)), [name(1)]);
-    assert_eq!((in_flight.clear(), in_flight.reckoned), (vec![name(2)], Duration::ZERO));
+    assert_eq!(in_flight.expire(at(MOST_OUT)), [(name(1), ())]);
+    assert_eq!((in_flight.clear(), in_flight.reckoned), (vec![(name(2), ())], Duration::ZERO));
     in_flight.give(name(3), (), Duration::from_nanos(5), Instant::from_nanos(1));
     in_flight.forget(name(3));
     assert_eq!((in_flight.len(), in_flight.reckoned, in_flight.overdue()), (0, Duration::ZERO, None));

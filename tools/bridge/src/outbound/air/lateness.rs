@@ -40,6 +40,9 @@ pub struct Lateness {
 impl Lateness {
     /// The first unit that waits for a station is late at this time, or it isn't. Whether it is dropped.
     pub fn look(&mut self, place: Place, station: Address, is_late: bool, now: Instant) -> bool {
+        if !is_late && self.links.is_empty() {
+            return false;
+        }
         match self.links.get_mut(&(place, station)).filter(|late| !late.is_over(now)) {
             Some(late) => {
                 late.looked = now;

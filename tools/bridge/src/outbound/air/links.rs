@@ -46,10 +46,20 @@ pub(super) enum Next {
     Nothing,
     /// What comes next for the station waits no more.
     Goes,
-    /// This frame is sent before all others for the station: the one that was lost, with Retry set.
-    Again(Rc<Vec<u8>>),
+    /// The unit was lost, and is sent once more (`once_more`).
+    Again,
     /// The unit was lost, and isn't sent once more.
     GivenUp,
+}
+
+/// What the radio tells of a frame.
+#[derive(Debug, Clone, Copy)]
+pub(super) struct Reported {
+    pub outcome: Outcome,
+    /// Whether its station listened for it, and didn't doze.
+    pub listens: bool,
+    /// Whether it is sent once more.
+    pub goes_again: bool,
 }
 
 /// How the next unit to a station is expected to go.
@@ -260,22 +270,16 @@ impl Links {
 
     /// The radio tells what became of a frame that it was given for a station, which listened for it or may have dozed.
     /// That a station didn't acknowledge what it couldn't hear tells nothing of its rates.
-    pub fn reported(
-        &mut self,
-        place: Place,
-        address: Address,
-        frame: &[u8],
-        outcome: Outcome,
-        listens: bool,
-        now: Instant,
-    ) -> Next {
+    pub fn reported(&mut self, place: Place, address: Address, frame: &[u8], told: Reported, now: Instant) -> Next {
+        let Reported { outcome, listens, goes_again } = told;
+        self.unacknowledged[place].again += u64::from(goes_again);
         let station = match self.networks[place].links.get_mut(&address) {
             Some(station) => station,
-            None => return Next::Nothing,
+            None => return if goes_again { Next::Again } else { Next::Nothing },
         };
         self.reporting = self.reporting.after_outcome();
         let number = number(frame);
-        let last = station.last.as_mut().filter(|last| last.number == number);
+        let last = station.last.as_ref().filter(|last| last.number == number);
         let is_sample = last.as_ref().map_or(false, |last| last.choice.is_sample);
         let is_unit = is_unit(frame);
         if outcome.is_acknowledged {
@@ -290,12 +294,7 @@ impl Links {
         let is_lost = is_unit && !outcome.is_acknowledged;
         let is_last = last.is_some();
         let next = match last {
-            Some(last) if is_lost && listens && !last.was_again => {
-                last.was_again = true;
-                last.frame = Rc::new(again(&last.frame));
-                self.unacknowledged[place].again += 1;
-                Next::Again(Rc::clone(&last.frame))
-            }
+            _ if goes_again => Next::Again,
             _ if is_lost => Next::GivenUp,
             Some(_) => Next::Goes,
             None => Next::Nothing,
@@ -304,6 +303,16 @@ impl Links {
             self.forget_ended_waits();
         }
         next
+    }
+
+    /// The frame by which a unit for a station goes once more: the one that was lost, with Retry set.
+    pub fn once_more(&mut self, place: Place, address: Address, lost: &Rc<Vec<u8>>) -> Rc<Vec<u8>> {
+        let frame = Rc::new(again(lost));
+        let last = self.networks[place].links.get_mut(&address).and_then(|station| station.last.as_mut());
+        if let Some(last) = last.filter(|last| Rc::ptr_eq(&last.frame, lost)) {
+            (last.was_again, last.frame) = (true, Rc::clone(&frame));
+        }
+        frame
     }
 
     /// A unit of a network that nobody acknowledged is sent no more.

@@ -90,7 +90,8 @@ fn what_is_told_of_strangers_changes_nothing() {
     let outcome = Outcome { is_acknowledged: false, retries: 7, rate: Some(2) };
     let stranger = frame(0x08, STRANGER, OURS, &[]);
     for cut in 0..=stranger.len() {
-        assert_eq!(links.reported(0, STRANGER, &stranger[..cut], outcome, true, Instant::from_nanos(1)), Next::Nothing);
+        let told = Reported { outcome, listens: true, goes_again: false };
+        assert_eq!(links.reported(0, STRANGER, &stranger[..cut], told, Instant::from_nanos(1)), Next::Nothing);
     }
     assert_eq!((links.unacknowledged.as_slice(), links.due()), (&[Unacknowledged::default(); 2][..], None));
 }

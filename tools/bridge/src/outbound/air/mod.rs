@@ -4,6 +4,10 @@
 //! `monitor` does what is left to others. It hands the packets to the radio's sockets, in their order, asks the socket
 //! whether it is empty, and says when time has passed.
 //!
+//! What decides the most of them is a proved library (`downlink`): which network sends, what of a receiver goes next,
+//! goes once more, goes back to the program or is dropped since others wait or its station left. The rest is decided
+//! here, and tested: when a receiver is held, which one of its network sends, at which rate, and what is late.
+//!
 //! The rules, of any order of calls. A *receiver* is a station, all groups of a network, or all others, who aren't
 //! associated with it.
 //!
@@ -13,8 +17,9 @@
 //! 2. Any other frame waits in its network for its receiver. At most 64 wait for a station, 256 for groups and 256 for
 //!    others. One more drops the oldest of its receiver, and of others the one that would go last.
 //! 3. Of a network 2 MB wait at most, without what was kept (5) or waits apart. What is beyond that is dropped: the
-//!    oldest frame of the receiver for which most wait, of several the last in their order.
-//! 4. A unit that is sent once more waits before the others for its station. If 64 wait, it drops the oldest of them.
+//!    oldest frame of the receiver for which most wait, of several the last in their order. The answer to a poll goes
+//!    back then.
+//! 4. A unit that is sent once more waits before the others for its station, and isn't counted among the 64.
 //! 5. Units that the program kept for a station until it woke drop nothing. Of a network 4 MB of them wait, and one
 //!    more is dropped itself. While 16 frames wait for their station, further ones wait apart (`backlog`). Once a frame
 //!    of their station is gone and fewer than 16 wait, the next one waits in its place.
@@ -23,7 +28,7 @@
 //! What goes next (`scheduler`):
 //!
 //! 7. No frame goes while a beacon waits, but for beacons.
-//! 8. Of the networks with a waiting frame, the proved rule says which one sends. Its receivers take turns by the same
+//! 8. Of the networks with a waiting frame, the library says which one sends. Its receivers take turns by the same
 //!    rule. If all that waits of that network is held (10 and 11), no other one sends in its place: all wait until the
 //!    radio has told of the network's frames. It is passed over where the radio has none of them, until one goes.
 //! 9. Of a network those go before all else that wait for its groups when units for the group come behind a beacon that
@@ -54,19 +59,20 @@
 //!
 //! 16. Frames for a station or a group go in the order in which they came. Only a lost unit goes once more before the
 //!     others for its station, and only where nothing was sent to that since. Management frames don't wait for units
-//!     apart.
+//!     apart. What waits for one of the others goes behind its own frames once it is associated.
 //! 17. Each frame waits, went, went back or was dropped: one of them, once. Those that were dropped are counted with
 //!     the reason.
 //!
 //! Of stations that doze (`sleeping`, `handing_back`):
 //!
-//! 18. From a frame that says that a station dozes until one that says that it is awake no unit goes to it but answers
-//!     to its polls. Management frames go.
+//! 18. From a frame that says that a station dozes until one that says that it is awake no unit goes to it but one for
+//!     each poll that the program was given: the first that comes within 400 ms. A further poll ends the right of the
+//!     one before. Management frames go.
 //! 19. What waits for a station that dozes goes back to the program in its order. So does a unit that nobody
-//!     acknowledged and whose station dozes by then, and the answer to a poll that was lost twice, waited for 400 ms or
-//!     was refused by the interface.
-//! 20. What waits for a station that isn't associated any more is dropped, and so is what was about to go back. What the
-//!     radio has for it isn't sent once more.
+//!     acknowledged and whose station dozes by then, one that comes and answers no poll, and the answer to a poll that
+//!     was lost twice, waited for 400 ms, had no room (3) or was refused by the interface.
+//! 20. Units that wait for a station that isn't associated any more are dropped, and so are those that the program sent
+//!     before it knew that, and what was about to go back. What the radio has for it isn't sent once more.
 //!
 //! Of others, who aren't associated (`notices`):
 //!
@@ -85,6 +91,7 @@ mod awaiting_room;
 pub mod backlog;
 mod beacon_queue;
 mod dequeue;
+mod downlink;
 mod enqueue;
 mod falling_asleep;
 pub mod frame;
@@ -95,7 +102,7 @@ mod lateness;
 pub mod links;
 pub mod notices;
 mod outcomes;
-mod proved_rule;
+mod proved_queues;
 mod queue;
 mod rate_control;
 mod reporting;
@@ -103,6 +110,7 @@ pub mod scheduler;
 mod sleeping;
 mod station_requests;
 
+pub use crate::outbound::air::downlink::MOST_WEIGHT;
 pub use crate::outbound::air::queue::MOST_OCTETS;
 pub use crate::outbound::air::sleeping::Mark;
 
@@ -115,8 +123,9 @@ use crate::os::clock::{nanos, Duration, Instant};
 use crate::outbound::air::account::Account;
 use crate::outbound::air::air_time::{Cost, Size};
 use crate::outbound::air::beacon_queue::BeaconQueue;
+use crate::outbound::air::downlink::Ticket;
 use crate::outbound::air::frame::{FrameKind, Receiver};
-use crate::outbound::air::in_flight::{FrameName, InFlight};
+use crate::outbound::air::in_flight::{FrameName, InFlight, Sending};
 use crate::outbound::air::lateness::Lateness;
 use crate::outbound::air::links::{Links, Unacknowledged};
 use crate::outbound::air::queue::Queue;
@@ -135,7 +144,15 @@ struct Sent {
     longest: Duration,
     receiver: Receiver,
     kind: FrameKind,
+    /// By which the library knows it.
+    ticket: Ticket,
     octets: Octets,
+}
+
+impl Sending for Sent {
+    fn longest(&self) -> Duration {
+        self.longest
+    }
 }
 
 impl Sent {
@@ -263,16 +280,16 @@ impl Transmitter {
     }
 
     /// A station is associated, by this request, since before this bridge began.
-    pub fn restore(&mut self, place: Place, request: Frame<'_>) {
+    pub fn restore(&mut self, place: Place, request: Frame<'_>, now: Instant) {
         self.links.hear(place, request);
         if let Some(address) = request.transmitter() {
-            self.join(place, address);
+            self.join(place, address, now);
         }
     }
 
     /// Whether a frame that is no beacon waits and may go now, if the socket has room.
     pub(super) fn has_next(&self) -> bool {
-        let waits = !self.awaiting_room.is_empty() || self.queue.scheduler.has_ready() && self.intake != Intake::Closed;
+        let waits = !self.awaiting_room.is_empty() || self.queue.has_ready() && self.intake != Intake::Closed;
         waits && self.interface == Interface::Up
     }
 
@@ -297,6 +314,9 @@ const NANOS_PER_MICROSECOND: u64 = 1000;
 fn microseconds(time: Duration) -> u32 {
     u32::try_from((nanos(time) + NANOS_PER_MICROSECOND - 1) / NANOS_PER_MICROSECOND).unwrap_or(u32::MAX)
 }
+
+#[cfg(test)]
+mod proved_rule;
 
 #[cfg(test)]
 #[path = "air_test.rs"]

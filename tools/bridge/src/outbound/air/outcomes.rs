@@ -7,7 +7,9 @@ use crate::os::port::AT_A_TIME;
 use crate::outbound::air::dequeue::LOOK_EVERY;
 use crate::outbound::air::frame::{FrameKind, OutboundFrame, Receiver};
 use crate::outbound::air::in_flight::FrameName;
-use crate::outbound::air::links::Next;
+use crate::outbound::air::links::{Next, Reported};
+use crate::outbound::air::proved_queues::Fate;
+use crate::outbound::air::queue::Ticketed;
 use crate::outbound::air::scheduler::Place;
 use crate::outbound::air::sleeping::Mode;
 use crate::stations::own_frames::is_null_of_network;
@@ -54,47 +56,67 @@ impl Transmitter {
         let tries = |outcome: Outcome| 1 + u32::from(outcome.retries);
         let found = self.in_flight.reported(name, now, |sent| sent.cost.tries(tries(sent.within_tries(outcome))));
         let outcome = found.as_ref().map_or(outcome, |sent| sent.within_tries(outcome));
+        let mut fate = None;
         if let Some(sent) = &found {
             let took = sent.told_cost(outcome).tries(tries(outcome));
             let more = took.saturating_sub(sent.cost.tries(1));
             self.resume();
             self.queue.accounts[place].used += more;
-            self.queue.scheduler.correct(place, sent.receiver, microseconds(more));
+            self.queue.charge(place, sent.receiver, microseconds(more));
+            let is_acknowledged = outcome.is_acknowledged || !sent.kind.is_unit();
+            fate = self.queue.told(place, sent.ticket, is_acknowledged);
         }
         let is_own = found.as_ref().map_or_else(|| is_null_of_network(frame), Sent::is_own);
         if !address.is_group() && !is_own {
-            self.take_outcome(name, frame, found, outcome, now);
+            self.take_outcome(name, frame, found.zip(fate), outcome, now);
         }
         self.release(place, address);
     }
 
-    /// What became of a frame of the program for a station is learned. A unit that was lost is sent once more if its
-    /// station listens, and goes back to the program if that dozes.
-    fn take_outcome(&mut self, name: FrameName, frame: &[u8], sent: Option<Sent>, outcome: Outcome, now: Instant) {
+    /// What became of a frame of the program for a station is learned. A unit that was lost is sent once more or goes
+    /// back to the program, as the library has decided.
+    fn take_outcome(
+        &mut self,
+        name: FrameName,
+        frame: &[u8],
+        sent: Option<(Sent, Fate)>,
+        outcome: Outcome,
+        now: Instant,
+    ) {
         let FrameName { place, receiver: address, number } = name;
         let mode = self.sleepers.mode(place, address);
-        let answers_poll = sent.as_ref().map_or(false, |sent| sent.kind == FrameKind::PollAnswer);
+        let answers_poll = sent.as_ref().map_or(false, |(sent, _)| sent.kind == FrameKind::PollAnswer);
         let listens = match mode {
             Mode::Awake | Mode::Wakes => true,
             Mode::Dozes => answers_poll,
             Mode::FallsAsleep | Mode::Leaves => false,
         };
         let is_awaited = self.sleepers.reported((place, address), number, outcome.is_acknowledged, now);
-        match self.links.reported(place, address, frame, outcome, listens, now) {
-            Next::Again(octets) => {
-                let again = OutboundFrame { octets, address, kind: FrameKind::Again, since: now };
-                self.queue.push_first(place, Receiver::Station(address), again);
-                if mode == Mode::Dozes {
-                    self.queue.scheduler.hurry(place, Receiver::Station(address));
-                }
-            }
-            Next::GivenUp if !is_awaited => {
-                let goes_back = sent.map_or(false, |sent| self.hand_back_late(place, address, &sent.octets, now));
-                if !goes_back {
+        self.take_settled();
+        let goes_again = matches!(sent, Some((_, Fate::WaitsAgain)));
+        let next = self.links.reported(place, address, frame, Reported { outcome, listens, goes_again }, now);
+        match (next, sent) {
+            (_, Some((sent, Fate::WaitsAgain))) => self.send_once_more(name, sent, now),
+            _ if is_awaited => {}
+            (_, Some((sent, Fate::HandedBack))) => {
+                if !self.hand_back_late(place, address, &sent.octets, now) {
                     self.links.count_lost(place);
                 }
             }
-            Next::GivenUp | Next::Goes | Next::Nothing => {}
+            (Next::GivenUp, _) => self.links.count_lost(place),
+            _ => {}
+        }
+    }
+
+    /// A unit that was lost is sent once more, with Retry set.
+    fn send_once_more(&mut self, name: FrameName, sent: Sent, now: Instant) {
+        let FrameName { place, receiver: address, .. } = name;
+        let octets = self.links.once_more(place, address, &sent.octets);
+        let frame = OutboundFrame { octets, address, kind: FrameKind::Again, since: now };
+        self.queue.push_first(place, sent.receiver, Ticketed { ticket: sent.ticket, frame }, now);
+        self.hand_back_without_room(now);
+        if self.sleepers.mode(place, address) == Mode::Dozes {
+            self.queue.scheduler.hurry(place, sent.receiver);
         }
     }
 
@@ -102,7 +124,7 @@ impl Transmitter {
     pub(super) fn release(&mut self, place: Place, address: Address) {
         let station = Receiver::Station(address);
         if self.queue.scheduler.is_held(place, station) && !self.links.waits(place, address) {
-            self.queue.scheduler.release(place, station);
+            self.queue.release(place, station);
         }
     }
 
@@ -116,9 +138,10 @@ impl Transmitter {
     /// more leaves it room.
     pub fn expire(&mut self, now: Instant) {
         self.sleepers.expire(now);
+        self.take_settled();
         self.queue.notices.expire(now);
         let gone = self.in_flight.expire(now);
-        self.left(gone);
+        self.forget(gone);
         while let Some((place, address)) = self.links.expire(now) {
             self.release(place, address);
         }
@@ -134,12 +157,13 @@ impl Transmitter {
         if is_empty && self.awaiting_room.is_empty() {
             self.look_due = None;
             let had = self.in_flight.names().collect();
-            if self.links.is_told() {
+            let gone = if self.links.is_told() {
                 self.in_flight.settle();
-                self.in_flight.give_up_missing();
+                self.in_flight.give_up_missing()
             } else {
-                self.in_flight.clear();
-            }
+                self.in_flight.clear()
+            };
+            self.forget(gone);
             self.left(had);
         } else {
             self.look_due = Some(now + LOOK_EVERY);
@@ -152,6 +176,14 @@ impl Transmitter {
             self.intake = Intake::Bounded;
             self.look_due = None;
         }
+    }
+
+    /// Nothing will be told any more of these frames: none of them goes once more.
+    fn forget(&mut self, gone: Vec<(FrameName, Sent)>) {
+        for (FrameName { place, .. }, sent) in &gone {
+            self.queue.told(*place, sent.ticket, true);
+        }
+        self.left(gone.into_iter().map(|(name, _)| name).collect());
     }
 
     /// The radio doesn't have these frames any more, and said nothing of them yet.

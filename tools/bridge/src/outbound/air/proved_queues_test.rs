@@ -1,6 +1,6 @@
 //! The model of the queues beside the proved library, by the same calls: both answer the same.
-use super::proved_queues::ProvedQueues;
-use super::{Answer, Change, Fate, Model, CALLS, CALLS_OF_A_RUN};
+use super::{Model, CALLS, CALLS_OF_A_RUN};
+use crate::outbound::air::proved_queues::{Answer, Change, Fate, ProvedQueues, Refusal};
 use crate::testing::samples::Seeded;
 
 /// Both: each call goes to each, and they have to answer the same.
@@ -21,7 +21,7 @@ macro_rules! both {
 
 impl Beside {
     pub fn new(networks: &[(u8, Vec<usize>)]) -> Beside {
-        Beside { model: Model::new(networks), proved: ProvedQueues::new(networks) }
+        Beside { model: Model::new(networks), proved: ProvedQueues::new(networks).unwrap() }
     }
 
     pub fn has_next(&mut self) -> bool {
@@ -35,12 +35,28 @@ impl Beside {
         is_unit: bool,
         until: u64,
         now: u64,
-    ) -> Result<Option<Answer>, ()> {
+    ) -> Result<Option<Answer>, Refusal> {
         both!(self.comes(whose, ticket, is_unit, until, now))
     }
 
     pub fn next(&mut self, now: u64) -> Option<Answer> {
         both!(self.next(now))
+    }
+
+    pub fn turn(&self) -> Option<usize> {
+        both!(self.turn())
+    }
+
+    pub fn next_of(&mut self, whose: (usize, usize), now: u64) -> Option<Answer> {
+        both!(self.next_of(whose, now))
+    }
+
+    pub fn gives_up(&mut self, whose: (usize, usize)) -> Option<Answer> {
+        both!(self.gives_up(whose))
+    }
+
+    pub fn pauses(&mut self, place: usize, is_paused: bool) -> bool {
+        both!(self.pauses(place, is_paused))
     }
 
     pub fn used(&mut self, place: usize, units: u32) -> bool {
@@ -141,11 +157,24 @@ impl Run {
             self.whose = (self.seeded.below(self.networks.len()), self.seeded.below(5));
         }
         let whose = self.some_receiver();
-        match self.seeded.below(20) {
+        match self.seeded.below(24) {
             0..=5 => self.come(whose),
             6..=9 => {
                 let next = self.beside.next(self.now);
                 self.count(next);
+            }
+            20..=21 => {
+                let turn = self.beside.turn().filter(|_| self.seeded.below(4) > 0);
+                let next = self.beside.next_of((turn.unwrap_or(whose.0), whose.1), self.now);
+                self.count(next);
+            }
+            22 => {
+                let given_up = self.beside.gives_up(whose);
+                self.count(given_up);
+            }
+            23 => {
+                let is_paused = self.seeded.below(3) == 0;
+                self.beside.pauses(whose.0, is_paused);
             }
             10..=13 => self.tell(whose),
             14 => {
@@ -177,17 +206,4 @@ fn the_library_decides_as_its_model_does() {
     for fate in Fate::ALL {
         assert!(fates[fate as usize] > CALLS as u64 / 2000, "{fate:?} {fates:?}");
     }
-}
-
-#[test]
-fn the_library_refuses_what_it_has_no_rule_for() {
-    let mut queues = ProvedQueues::new(&[(1, vec![1])]);
-    assert!(queues.refuses(0) && queues.refuses(17) && queues.refuses(u8::MAX));
-    assert_eq!(queues.comes((0, 1), 1, true, 0, 0), Err(()));
-    assert_eq!(queues.comes((1, 0), 1, true, 0, 0), Err(()));
-    assert_eq!(queues.change_by_number((0, 0), 5, 0), Some(true));
-    assert_eq!(queues.change_by_number((0, 1), 5, 0), Some(false));
-    assert_eq!(queues.change_by_number((0, 0), 6, 0), None);
-    assert_eq!(queues.change_by_number((0, 0), u8::MAX, 0), None);
-    assert_eq!((queues.used(1, 1), queues.told((1, 0), 1, true), queues.returns((1, 0))), (false, None, None));
 }

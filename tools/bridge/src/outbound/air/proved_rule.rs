@@ -1,15 +1,12 @@
-//! The networks' debts, and whose turn it is by them: the proved rule of `crates/air_share`, which is linked as a
-//! static library. What is unsafe of it is here alone: the calls of that library, which tests its arguments itself. That
-//! both lay `NetworkDebt` out alike `build.rs` looks at.
+//! The networks' debts, and whose turn it is by them: the proved rule of `crates/air_share` by itself, which the tests
+//! link as a static library and hold beside the queues. What is unsafe of it is here alone: the calls of that library,
+//! which tests its arguments itself. That both lay `NetworkDebt` out alike `build.rs` looks at.
 #![allow(unsafe_code)]
 
-/// The largest weight of a network; the least is 1.
-pub const MOST_WEIGHT: u8 = 16;
+use super::{Place, MOST_WEIGHT};
+
 /// A common multiple of all weights: over a weight it is what a microsecond adds to a debt.
 const SCALE: u32 = 720_720;
-
-/// A network by its number, in the order of the configuration.
-pub type Place = usize;
 
 /// A network as the library sees it. The bridge writes `waits` alone once it is made.
 #[repr(C)]
@@ -20,6 +17,7 @@ struct NetworkDebt {
     waits: bool,
 }
 
+#[link(name = "air_share_c", kind = "static")]
 extern "C" {
     fn air_share_choose(debts: *const NetworkDebt, number: usize) -> usize;
     fn air_share_served(debts: *mut NetworkDebt, number: usize, place: usize, cost: u32) -> bool;

@@ -1,29 +1,50 @@
-//! What waits of each network: how much may, and which frame is dropped if more would (rules 2 to 6 of `air`).
+//! What waits of each network: how much may, and which frame is dropped if more would (rules 2 to 6 of `air`). What
+//! goes next, what goes once more and what goes back the proved library decides (`downlink`): a frame that it names
+//! goes or leaves, and no other one. Of those who aren't associated it decides that one goes or leaves, and not which.
+use std::collections::VecDeque;
+
 use crate::formats::frames::Address;
 use crate::os::clock::Instant;
 use crate::outbound::air::account::{Account, Unsent};
 use crate::outbound::air::backlog::Backlogs;
+use crate::outbound::air::downlink::{Downlink, Ticket};
 use crate::outbound::air::frame::{FrameKind, OutboundFrame, Receiver};
 use crate::outbound::air::notices::Notices;
+use crate::outbound::air::proved_queues::{Change, Fate};
 use crate::outbound::air::scheduler::{Place, Scheduler};
 
-/// The most frames that wait of a network for one station, and for its groups or for all who aren't associated.
-pub const MOST_FOR_STATION: usize = 64;
-const MOST_FOR_OTHERS: usize = 256;
 /// The most octets that wait of a network.
 pub const MOST_OCTETS: usize = 2 << 20;
 /// How many frames wait for a station before what was kept for it waits apart.
 const MOST_BEFORE_BACKLOG: usize = 16;
 
-/// The frames of all networks that wait. By the calls here they come and go; the scheduler says whose turn it is, and
-/// holds receivers.
+/// A frame that waits, by the ticket by which the library knows it. Of those who aren't associated any ticket is any
+/// frame's.
+#[derive(Debug)]
+pub struct Ticketed {
+    pub ticket: Ticket,
+    pub frame: OutboundFrame,
+}
+
+/// A frame that came and doesn't wait, since its station dozes or left.
+#[derive(Debug)]
+pub struct Returned {
+    pub frame: OutboundFrame,
+    /// Whether it goes back to the program.
+    pub goes_back: bool,
+}
+
+/// The frames of all networks that wait. By the calls here they come and go.
 #[derive(Debug)]
 pub struct Queue {
-    pub(super) scheduler: Scheduler<Receiver, OutboundFrame>,
+    pub(super) downlink: Downlink,
+    pub(super) scheduler: Scheduler<Receiver, Ticketed>,
     pub(super) accounts: Vec<Account>,
     /// Of each network.
     backlogs: Vec<Backlogs>,
     pub(super) notices: Notices,
+    /// What had no room, and goes back to the program, as the library decided.
+    without_room: VecDeque<(Place, OutboundFrame)>,
 }
 
 impl Queue {
@@ -32,23 +53,158 @@ impl Queue {
         let networks = weights.len();
         let backlogs = (0..networks).map(|_| Backlogs::default()).collect();
         let (accounts, notices) = (vec![Account::default(); networks], Notices::new(networks));
-        Queue { accounts, backlogs, notices, scheduler: Scheduler::new(weights) }
+        let (downlink, scheduler) = (Downlink::new(weights), Scheduler::new(networks));
+        Queue { downlink, scheduler, accounts, backlogs, notices, without_room: VecDeque::new() }
     }
 
     pub fn is_empty(&self) -> bool {
         self.scheduler.is_empty() && self.notices.is_empty() && self.backlogs.iter().all(Backlogs::is_empty)
     }
 
+    // ---- whose turn it is
+
+    /// Whose frame goes next, with the frame; `None` if none may go.
+    pub fn first(&self) -> Option<(Place, Receiver, &Ticketed)> {
+        let place = self.downlink.turn()?;
+        let (receiver, waiting) = self.scheduler.first(place)?;
+        Some((place, receiver, waiting))
+    }
+
+    /// The network whose turn it is, if all that waits of it is held: no other one's frame goes before.
+    pub fn held(&self) -> Option<Place> {
+        self.downlink.turn().filter(|place| !self.scheduler.has_ready(*place))
+    }
+
+    /// Whether a frame may go.
+    pub fn has_ready(&self) -> bool {
+        self.downlink.turn().map_or(false, |place| self.scheduler.has_ready(place))
+    }
+
+    /// A network of which all that waits is held has no turn any more while that is so, until a frame of it goes.
+    pub fn pass_over(&mut self, place: Place) {
+        self.scheduler.pass_over(place);
+        self.tell_whether_it_waits(place);
+    }
+
+    pub fn hold(&mut self, place: Place, receiver: Receiver) {
+        self.scheduler.hold(place, receiver);
+        self.tell_whether_it_waits(place);
+    }
+
+    pub fn release(&mut self, place: Place, receiver: Receiver) {
+        self.scheduler.release(place, receiver);
+        self.tell_whether_it_waits(place);
+    }
+
+    /// The library learns whether a network is passed over, after each call by which that may have changed.
+    fn tell_whether_it_waits(&mut self, place: Place) {
+        self.downlink.set_paused(place, self.scheduler.is_passed_over(place));
+    }
+
+    /// The frame that is next goes, if it is its network's turn. Answers which one goes: `serve` takes it out then.
+    pub fn goes(&mut self, place: Place, next: Ticket, now: Instant) -> Option<Ticket> {
+        self.downlink.goes(place, next, now)
+    }
+
+    /// A frame goes that the library has go, and costs so many microseconds of air.
+    pub fn serve(
+        &mut self,
+        place: Place,
+        receiver: Receiver,
+        ticket: Ticket,
+        cost: u32,
+        now: Instant,
+    ) -> Option<OutboundFrame> {
+        self.downlink.used(place, cost);
+        let served = self.scheduler.serve(place, receiver, cost, |waiting| is_meant(receiver, waiting, ticket));
+        debug_assert!(served.is_some(), "what the library has go waits");
+        let frame = served?.frame;
+        self.count_out(place, &frame);
+        self.refill(place, receiver, now);
+        self.tell_whether_it_waits(place);
+        Some(frame)
+    }
+
+    /// A frame of a network for a receiver took so many more microseconds of air than was reckoned.
+    pub fn charge(&mut self, place: Place, receiver: Receiver, microseconds: u32) {
+        if microseconds > 0 {
+            self.downlink.used(place, microseconds);
+            self.scheduler.charge(place, receiver, microseconds);
+        }
+    }
+
+    // ---- what becomes of frames that went
+
+    /// The radio told what became of a frame.
+    pub fn told(&mut self, place: Place, ticket: Ticket, is_acknowledged: bool) -> Option<Fate> {
+        self.downlink.told(place, ticket, is_acknowledged)
+    }
+
+    /// A unit goes once more, as the library decided: it waits before all others for its receiver.
+    pub fn push_first(&mut self, place: Place, receiver: Receiver, again: Ticketed, now: Instant) {
+        self.count_in(place, &again.frame);
+        self.scheduler.push_first(place, receiver, again);
+        self.drop_excess(place, now);
+        self.tell_whether_it_waits(place);
+    }
+
+    /// A frame went, and the radio was never given it. Answers whether it goes back to the program.
+    pub fn never_went(&mut self, place: Place, receiver: Receiver, ticket: Ticket) -> bool {
+        let fate = match self.downlink.told(place, ticket, false) {
+            Some(Fate::WaitsAgain) => self.downlink.gives_up(place, receiver).map(|(_, fate)| fate),
+            fate => fate,
+        };
+        fate == Some(Fate::HandedBack)
+    }
+
+    // ---- what stations do
+
+    /// A station joins, wakes or polls, or it is settled that it dozes.
+    pub fn change(&mut self, place: Place, station: Address, change: Change) {
+        self.downlink.change(place, station, change);
+    }
+
+    /// Whether the library may have something of a station.
+    pub fn knows(&self, place: Place, station: Address) -> bool {
+        self.downlink.knows(place, station)
+    }
+
+    pub fn polls(&mut self, place: Place, station: Address, now: Instant) {
+        self.downlink.polls(place, station, now);
+    }
+
+    /// A station dozes or leaves: answers its units, in their order. None of them waits any more.
+    pub fn take_units(&mut self, place: Place, station: Address, change: Change) -> Vec<OutboundFrame> {
+        self.downlink.change(place, station, change);
+        let receiver = Receiver::Station(station);
+        let mut units = Vec::new();
+        while let Some((ticket, _)) = self.downlink.returns(place, receiver) {
+            let taken = self.scheduler.take_first(place, receiver, |waiting| waiting.ticket == ticket);
+            units.extend(taken.map(|waiting| waiting.frame));
+        }
+        units.iter().for_each(|frame| self.count_out(place, frame));
+        let behind = self.backlogs[place].take_all(station);
+        self.accounts[place].waiting -= behind.len();
+        units.extend(behind);
+        self.tell_whether_it_waits(place);
+        units
+    }
+
+    // ---- what comes
+
     /// A frame waits for its receiver; management frames don't wait for units that were kept. What is too
-    /// much by it is dropped.
-    pub fn push(&mut self, place: Place, receiver: Receiver, frame: OutboundFrame) {
+    /// much by it is dropped. Answers the frame if it doesn't wait, since its station dozes or left.
+    pub fn push(&mut self, place: Place, receiver: Receiver, frame: OutboundFrame, now: Instant) -> Option<Returned> {
         let is_unit = frame.kind.is_unit() && matches!(receiver, Receiver::Station(_));
         if is_unit && self.backlogs[place].waits(frame.address) {
-            return self.push_behind(place, frame);
+            self.push_behind(place, frame);
+            return None;
         }
         self.count_in(place, &frame);
-        self.enter(place, receiver, frame);
-        self.drop_excess(place);
+        let returned = self.enter(place, receiver, frame, now);
+        self.drop_excess(place, now);
+        self.tell_whether_it_waits(place);
+        returned
     }
 
     /// A frame of a network waits. Units that were kept have room of their own.
@@ -71,18 +227,18 @@ impl Queue {
     }
 
     /// What is more than may wait of a network in all is dropped.
-    fn drop_excess(&mut self, place: Place) {
+    fn drop_excess(&mut self, place: Place, now: Instant) {
         while self.accounts[place].octets > MOST_OCTETS {
             match self.scheduler.longest(place) {
-                Some(longest) => self.drop_longest(place, longest),
-                None => break,
+                Some(longest) if self.drop_longest(place, longest, now) => {}
+                _ => break,
             }
         }
     }
 
     /// A unit waits that the program kept for its station until now, behind all for that. It drops none; if it has
     /// no room itself, it is dropped.
-    pub fn push_kept(&mut self, place: Place, frame: OutboundFrame) {
+    pub fn push_kept(&mut self, place: Place, frame: OutboundFrame, now: Instant) {
         let (receiver, backlog) = (Receiver::Station(frame.address), &mut self.backlogs[place]);
         if !backlog.has_room_for_kept(frame.octets.len()) {
             return self.accounts[place].count_unsent(Unsent::Full);
@@ -90,7 +246,7 @@ impl Queue {
         backlog.count_kept(frame.octets.len());
         self.count_in(place, &frame);
         if !self.backlogs[place].waits(frame.address) && self.has_room_before_backlog(place, receiver) {
-            self.scheduler.push(place, receiver, frame);
+            self.enter_awake(place, receiver, frame, now);
         } else {
             self.backlogs[place].push_kept(frame.address, frame);
         }
@@ -109,39 +265,35 @@ impl Queue {
         }
     }
 
-    /// The first frame for the receiver for which most wait is dropped. What waits apart for it still waits.
-    fn drop_longest(&mut self, place: Place, longest: Receiver) {
-        self.drop_one(place, longest, Unsent::Full);
+    /// The first frame for the receiver for which most wait is dropped. What waits apart for it still waits. Answers
+    /// whether one was.
+    fn drop_longest(&mut self, place: Place, longest: Receiver, now: Instant) -> bool {
+        let is_dropped = self.drop_one(place, longest, Unsent::Full);
         if self.scheduler.waiting(place, longest) == 0 {
-            self.refill(place, longest);
+            self.refill(place, longest, now);
         }
+        is_dropped
     }
 
     /// One frame for a receiver is gone: if more wait apart and few in its queue, the next one waits in its place.
-    fn refill(&mut self, place: Place, receiver: Receiver) {
+    fn refill(&mut self, place: Place, receiver: Receiver, now: Instant) {
         let address = match receiver {
             Receiver::Station(address) if self.backlogs[place].waits(address) => address,
             _ => return,
         };
-        let may_wait = self.has_room_before_backlog(place, receiver);
-        if let Some(frame) = may_wait.then(|| self.backlogs[place].pop(address)).flatten() {
+        let before = self.scheduler.waiting(place, receiver);
+        // If the library has no memory for one, the next one is tried: else nothing goes by which others had room.
+        while before < MOST_BEFORE_BACKLOG && self.scheduler.waiting(place, receiver) == before {
+            let frame = match self.backlogs[place].pop(address) {
+                Some(frame) => frame,
+                None => return,
+            };
             // It is counted as one that waits already.
             if frame.kind != FrameKind::Kept {
                 self.accounts[place].octets += frame.octets.len();
             }
-            self.scheduler.push(place, receiver, frame);
+            self.enter_awake(place, receiver, frame, now);
         }
-    }
-
-    /// Takes out all units that wait for a station, in their order.
-    pub fn take_units(&mut self, place: Place, address: Address) -> Vec<OutboundFrame> {
-        let is_unit = |frame: &OutboundFrame| frame.kind.is_unit();
-        let mut units = self.scheduler.take_all(place, Receiver::Station(address), is_unit);
-        units.iter().for_each(|frame| self.count_out(place, frame));
-        let behind = self.backlogs[place].take_all(address);
-        self.accounts[place].waiting -= behind.len();
-        units.extend(behind);
-        units
     }
 
     /// All units that wait for a station apart are dropped.
@@ -161,12 +313,23 @@ impl Queue {
     /// What was to tell this address to go is dropped, since it is answered.
     pub fn drop_notices(&mut self, place: Place, address: Address) {
         let waiting = self.notices.take_of(place, address);
-        let is_meant = |frame: &OutboundFrame| frame.address == address && frame.kind == FrameKind::Notice;
         self.count_dropped(place, waiting, Unsent::Left);
-        if self.scheduler.waiting(place, Receiver::Others) > 0 {
-            let in_turn = self.scheduler.take_all(place, Receiver::Others, is_meant);
-            self.count_dropped(place, in_turn, Unsent::Left);
+        let is_meant = |frame: &OutboundFrame| frame.address == address && frame.kind == FrameKind::Notice;
+        let in_turn = self.take_from_others(place, is_meant);
+        self.count_dropped(place, in_turn, Unsent::Left);
+    }
+
+    /// Takes out what waits for those who aren't associated and of which this is true.
+    fn take_from_others(&mut self, place: Place, is_meant: impl Fn(&OutboundFrame) -> bool) -> Vec<OutboundFrame> {
+        if self.scheduler.waiting(place, Receiver::Others) == 0 {
+            return Vec::new();
         }
+        let taken = self.scheduler.take_all(place, Receiver::Others, |waiting| is_meant(&waiting.frame));
+        taken.iter().for_each(|_| {
+            self.downlink.gives_up(place, Receiver::Others);
+        });
+        self.tell_whether_it_waits(place);
+        taken.into_iter().map(|waiting| waiting.frame).collect()
     }
 
     /// The notice whose turn it is waits among the answers of its network from now on, if none of these waits.
@@ -177,7 +340,7 @@ impl Queue {
         let scheduler = &self.scheduler;
         let next = self.notices.next(now, |place| scheduler.waiting(place, Receiver::Others) == 0);
         if let Some((place, notice)) = next {
-            self.scheduler.push(place, Receiver::Others, notice);
+            self.enter_awake(place, Receiver::Others, notice, now);
         }
     }
 
@@ -189,81 +352,102 @@ impl Queue {
     }
 
     /// A frame that is counted waits for this receiver from now on. Of those who aren't associated each is answered
-    /// first who asked last: who asked before may have given up.
-    fn enter(&mut self, place: Place, receiver: Receiver, frame: OutboundFrame) {
-        let waiting = match receiver {
-            Receiver::Others => {
-                let urgency = frame.urgency();
-                self.scheduler.push_behind(place, receiver, frame, |other| other.urgency() < urgency)
+    /// first who asked last: who asked before may have given up. Answers the frame if it doesn't wait.
+    fn enter(&mut self, place: Place, receiver: Receiver, frame: OutboundFrame, now: Instant) -> Option<Returned> {
+        let is_unit = receiver != Receiver::Others && (frame.kind.is_unit() || frame.kind == FrameKind::GroupUnit);
+        let came = match self.downlink.comes(place, receiver, is_unit, now) {
+            Some(came) => came,
+            None => {
+                self.count_dropped(place, [frame], Unsent::Full);
+                return None;
             }
-            Receiver::Groups | Receiver::Station(_) => self.scheduler.push(place, receiver, frame),
         };
-        if waiting > most_for(receiver) {
-            self.drop_one(place, receiver, Unsent::Crowded);
+        let waiting = Ticketed { ticket: came.ticket, frame };
+        match receiver {
+            Receiver::Others => {
+                let urgency = waiting.frame.urgency();
+                self.scheduler.push_behind(place, receiver, waiting, |other| other.frame.urgency() < urgency);
+            }
+            Receiver::Groups | Receiver::Station(_) => self.scheduler.push(place, receiver, waiting),
         }
+        if let Some(crowded_out) = came.crowded_out {
+            self.drop_ticket(place, receiver, crowded_out, Unsent::Crowded);
+        }
+        let (ticket, fate) = came.may_return.then(|| self.downlink.returns(place, receiver)).flatten()?;
+        let Ticketed { frame, .. } = self.scheduler.take_first(place, receiver, |waiting| waiting.ticket == ticket)?;
+        self.count_out(place, &frame);
+        Some(Returned { frame, goes_back: fate == Fate::HandedBack })
     }
 
-    /// A frame is sent once more: it waits before all others for its receiver, of which the oldest is dropped if
-    /// there is no room for one more.
-    pub fn push_first(&mut self, place: Place, receiver: Receiver, frame: OutboundFrame) {
-        if self.scheduler.waiting(place, receiver) >= most_for(receiver) {
-            self.drop_one(place, receiver, Unsent::Crowded);
+    /// The same of a frame that isn't for a station that dozes or left; if it is, it is dropped.
+    fn enter_awake(&mut self, place: Place, receiver: Receiver, frame: OutboundFrame, now: Instant) {
+        if self.enter(place, receiver, frame, now).is_some() {
+            self.accounts[place].count_unsent(Unsent::Left);
         }
-        self.accounts[place].count_in(frame.octets.len());
-        self.drop_excess(place);
-        self.scheduler.push_first(place, receiver, frame);
+        self.tell_whether_it_waits(place);
     }
 
-    /// A station is associated: what waits for it among the others' frames waits with what waits for the station, each
-    /// in the order in which it came.
-    pub fn join(&mut self, place: Place, address: Address) {
-        let mut frames = self.scheduler.take_all(place, Receiver::Others, |frame| frame.address == address);
-        if frames.is_empty() {
-            return;
-        }
+    /// A station is associated: what waits for it among the others' frames waits behind what waits for the station, in
+    /// the order in which it came.
+    pub fn join(&mut self, place: Place, address: Address, now: Instant) {
+        let mut frames = self.take_from_others(place, |frame| frame.address == address);
         // They are in the order in which they would go, of each kind the newest first. Several have come at one time.
         frames.reverse();
-        let station = Receiver::Station(address);
-        frames.extend(self.scheduler.take_all(place, station, |_| true));
-        frames.sort_by_key(|frame| (frame.kind != FrameKind::Again, frame.since));
-        frames.into_iter().for_each(|frame| self.enter(place, station, frame));
+        frames.sort_by_key(|frame| frame.since);
+        frames.into_iter().for_each(|frame| self.enter_awake(place, Receiver::Station(address), frame, now));
     }
 
-    /// The frame of a network that goes next goes, and is reckoned to cost so many microseconds; answers whether it is
-    /// that network's turn.
-    pub fn serve(&mut self, place: Place, receiver: Receiver, cost: u32) -> bool {
-        match self.scheduler.serve(place, cost) {
-            Some(frame) => {
-                self.count_out(place, &frame);
-                self.refill(place, receiver);
+    /// The next frame for a receiver is given up.
+    pub fn take_first(&mut self, place: Place, receiver: Receiver, now: Instant) -> Option<OutboundFrame> {
+        let (ticket, _) = self.downlink.gives_up(place, receiver)?;
+        let taken = self.scheduler.take_first(place, receiver, |waiting| is_meant(receiver, waiting, ticket));
+        let frame = taken?.frame;
+        self.count_out(place, &frame);
+        self.refill(place, receiver, now);
+        self.tell_whether_it_waits(place);
+        Some(frame)
+    }
+
+    /// The oldest frame for a receiver is dropped, of others the one that would go last; the answer to a poll goes back.
+    /// Answers whether there was one.
+    fn drop_one(&mut self, place: Place, receiver: Receiver, why: Unsent) -> bool {
+        match self.downlink.gives_up(place, receiver) {
+            Some((ticket, Fate::HandedBack)) => {
+                let taken = self.scheduler.take_first(place, receiver, |waiting| waiting.ticket == ticket);
+                if let Some(Ticketed { frame, .. }) = taken {
+                    self.count_out(place, &frame);
+                    self.without_room.push_back((place, frame));
+                }
+                true
+            }
+            Some((ticket, _)) => {
+                self.drop_ticket(place, receiver, ticket, why);
                 true
             }
             None => false,
         }
     }
 
-    pub fn take_first(&mut self, place: Place, receiver: Receiver) -> Option<OutboundFrame> {
-        let frame = self.scheduler.drop_first(place, receiver)?;
-        self.count_out(place, &frame);
-        self.refill(place, receiver);
-        Some(frame)
+    /// Takes out what had no room, and goes back to the program.
+    pub fn take_without_room(&mut self) -> Option<(Place, OutboundFrame)> {
+        self.without_room.pop_front()
     }
 
-    /// The oldest frame for a receiver is dropped, of others the one that would go last.
-    fn drop_one(&mut self, place: Place, receiver: Receiver, why: Unsent) {
+    /// A frame is dropped that the library doesn't have any more: of others the one that would go last.
+    fn drop_ticket(&mut self, place: Place, receiver: Receiver, ticket: Ticket, why: Unsent) {
         let dropped = match receiver {
             Receiver::Others => self.scheduler.drop_last(place, receiver),
-            Receiver::Groups | Receiver::Station(_) => self.scheduler.drop_first(place, receiver),
+            Receiver::Groups | Receiver::Station(_) => {
+                self.scheduler.take_first(place, receiver, |waiting| waiting.ticket == ticket)
+            }
         };
-        self.count_dropped(place, dropped, why);
+        self.count_dropped(place, dropped.map(|waiting| waiting.frame), why);
     }
 }
 
-fn most_for(receiver: Receiver) -> usize {
-    match receiver {
-        Receiver::Station(_) => MOST_FOR_STATION,
-        Receiver::Groups | Receiver::Others => MOST_FOR_OTHERS,
-    }
+/// Whether a frame that waits is the one of this ticket: of those who aren't associated any is.
+fn is_meant(receiver: Receiver, waiting: &Ticketed, ticket: Ticket) -> bool {
+    receiver == Receiver::Others || waiting.ticket == ticket
 }
 
 #[cfg(test)]

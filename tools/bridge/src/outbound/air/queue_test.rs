@@ -5,6 +5,7 @@ use std::rc::Rc;
 use super::*;
 use crate::os::clock::Instant;
 use crate::outbound::air::backlog::MOST_KEPT;
+use crate::outbound::air::downlink::MOST_FOR_STATION;
 use crate::outbound::air::frame::{FrameKind, Urgency};
 use crate::testing::samples::{made_up, Seeded, OTHER, OURS, STATION, STRANGER};
 
@@ -88,6 +89,19 @@ impl Model {
         *self.dropped.entry(why).or_default() += 1;
     }
 
+    /// Rules 2 and 4: of too many for a station the first is dropped that isn't sent once more.
+    fn drop_crowded(&mut self, receiver: Receiver) {
+        let is_first = |frame: &ModelFrame| frame.receiver == receiver && frame.room == Room::Queue && !frame.is_again;
+        match receiver {
+            Receiver::Others => self.drop_one(receiver, Unsent::Crowded),
+            _ => {
+                let found = self.frames.iter().position(is_first).unwrap();
+                self.frames.remove(found);
+                self.count(Unsent::Crowded);
+            }
+        }
+    }
+
     /// Rule 2: of others the last one is dropped, of any other receiver the first.
     fn drop_one(&mut self, receiver: Receiver, why: Unsent) {
         let last = self.frames.iter().rposition(|frame| frame.receiver == Receiver::Others);
@@ -115,8 +129,9 @@ impl Model {
         };
         let place = self.frames.iter().position(is_behind).unwrap_or(self.frames.len());
         self.frames.insert(place, frame);
-        if self.waiting(receiver) > most {
-            self.drop_one(receiver, Unsent::Crowded);
+        let is_again = |frame: &&ModelFrame| frame.receiver == receiver && frame.is_again;
+        if self.waiting(receiver) - self.frames.iter().filter(is_again).count() > most {
+            self.drop_crowded(receiver);
         }
     }
 
@@ -127,12 +142,12 @@ impl Model {
             return self.push_behind(ModelFrame { room: Room::Apart, ..frame });
         }
         self.enter(frame);
-        self.drop_excess(0);
+        self.drop_excess();
     }
 
-    /// Rule 3, if so many octets come.
-    fn drop_excess(&mut self, more: usize) {
-        while self.octets() + more > 2 << 20 {
+    /// Rule 3.
+    fn drop_excess(&mut self) {
+        while self.octets() > 2 << 20 {
             let longest = self.longest().unwrap();
             self.drop_one(longest, Unsent::Full);
             if self.waiting(longest) == 0 {
@@ -143,11 +158,8 @@ impl Model {
 
     /// Rules 3 and 4.
     fn push_first(&mut self, frame: ModelFrame) {
-        if self.waiting(frame.receiver) >= 64 {
-            self.drop_one(frame.receiver, Unsent::Crowded);
-        }
-        self.drop_excess(frame.octets);
         self.frames.insert(0, frame);
+        self.drop_excess();
     }
 
     fn push_behind(&mut self, frame: ModelFrame) {
@@ -188,21 +200,15 @@ impl Model {
         marks
     }
 
-    /// Rules 2 and 16: what waits for a station among the others' frames waits for it in the order in which all came.
+    /// Rules 2 and 16: what waits for a station among the others' frames waits behind its own, in the order in which it
+    /// came.
     fn join(&mut self, address: Address) {
         let station = Receiver::Station(address);
         let is_meant = |frame: &ModelFrame| frame.receiver == Receiver::Others && frame.address == address;
-        if !self.frames.iter().any(is_meant) {
-            return;
-        }
-        let waits = |frame: &ModelFrame| is_meant(frame) || frame.receiver == station && frame.room == Room::Queue;
-        let (mut joined, rest): (Vec<_>, Vec<_>) = std::mem::take(&mut self.frames).into_iter().partition(waits);
-        joined.iter_mut().for_each(|frame| frame.receiver = station);
-        joined.sort_by_key(|frame| (!frame.is_again, frame.mark));
-        self.frames = joined.into_iter().chain(rest).collect();
-        while self.waiting(station) > 64 {
-            self.drop_one(station, Unsent::Crowded);
-        }
+        let (mut joined, rest): (Vec<_>, Vec<_>) = std::mem::take(&mut self.frames).into_iter().partition(is_meant);
+        self.frames = rest;
+        joined.sort_by_key(|frame| frame.mark);
+        joined.into_iter().for_each(|frame| self.enter(ModelFrame { receiver: station, ..frame }));
     }
 }
 
@@ -218,6 +224,31 @@ fn any_receiver(seeded: &mut Seeded) -> (Receiver, Address) {
 /// A frame of 40 octets that came at this time.
 fn frame_for_station(kind: FrameKind, since: u64) -> OutboundFrame {
     OutboundFrame { octets: Rc::new(vec![0; 40]), address: STATION, kind, since: Instant::from_nanos(since) }
+}
+
+/// A frame comes that waits.
+fn push(queue: &mut Queue, receiver: Receiver, frame: OutboundFrame) {
+    let since = frame.since;
+    assert!(queue.push(0, receiver, frame, since).is_none());
+}
+
+/// The frame that is next goes.
+fn send_next(queue: &mut Queue) -> Ticketed {
+    let (place, receiver, Ticketed { ticket, .. }) = queue.first().unwrap();
+    let ticket = queue.goes(place, *ticket, Instant::START).unwrap();
+    Ticketed { ticket, frame: queue.serve(place, receiver, ticket, 1, Instant::START).unwrap() }
+}
+
+/// The next unit for a station goes, nobody acknowledges it, and it waits to go once more. Answers when it came.
+fn lose_one(queue: &mut Queue, station: Receiver) -> u64 {
+    queue.hold(0, Receiver::Others);
+    let Ticketed { ticket, frame } = send_next(queue);
+    queue.release(0, Receiver::Others);
+    assert_eq!(queue.told(0, ticket, false), Some(Fate::WaitsAgain));
+    let since = frame.since;
+    let again = OutboundFrame { kind: FrameKind::Again, ..frame };
+    queue.push_first(0, station, Ticketed { ticket, frame: again }, Instant::START);
+    since.as_nanos()
 }
 
 /// A queue, its model, and frames of some lengths.
@@ -251,16 +282,17 @@ impl Both {
             urgency: Urgency::Rest,
         };
         let since = Instant::from_nanos(mark);
-        self.queue.push_kept(place, OutboundFrame { octets, address, kind: FrameKind::Kept, since });
+        self.queue.push_kept(place, OutboundFrame { octets, address, kind: FrameKind::Kept, since }, since);
         self.models[place].push_kept(in_model);
         self.apart += usize::from(self.models[place].is_apart(receiver));
     }
 
     fn take_units(&mut self, seeded: &mut Seeded, place: Place) {
         let address = STATIONS[seeded.below(2)];
-        let taken = self.queue.take_units(place, address).into_iter().map(|frame| frame.since.as_nanos());
-        let taken: Vec<u64> = taken.collect();
+        let taken = self.queue.take_units(place, address, Change::Dozes);
+        let taken: Vec<u64> = taken.into_iter().map(|frame| frame.since.as_nanos()).collect();
         assert_eq!(taken, self.models[place].take_units(Receiver::Station(address)));
+        self.queue.change(place, address, Change::Wakes);
     }
 
     fn push(&mut self, seeded: &mut Seeded, place: Place, mark: u64) {
@@ -278,54 +310,60 @@ impl Both {
         let in_model = ModelFrame { mark, receiver, address, octets: octets.len(), is_again, room, is_kept, urgency };
         self.models[place].push(in_model);
         let frame = OutboundFrame { octets, address, kind, since: Instant::from_nanos(mark) };
-        self.queue.push(place, receiver, frame);
+        let since = frame.since;
+        assert!(self.queue.push(place, receiver, frame, since).is_none());
     }
 
-    /// A unit is sent once more, unless one is already for its station.
-    fn push_first(&mut self, seeded: &mut Seeded, place: Place, mark: u64) {
-        let address = STATIONS[seeded.below(STATIONS.len())];
-        let (receiver, octets) = (Receiver::Station(address), Rc::clone(&self.octets[seeded.below(4)]));
-        if !self.models[place].frames.iter().any(|frame| frame.receiver == receiver && frame.is_again) {
-            let (room, is_kept, is_again, urgency) = (Room::Queue, false, true, Urgency::Rest);
-            let octets_len = octets.len();
-            let in_model = ModelFrame { mark, receiver, address, octets: octets_len, is_again, room, is_kept, urgency };
-            self.models[place].push_first(in_model);
-            let frame = OutboundFrame { octets, address, kind: FrameKind::Again, since: Instant::from_nanos(mark) };
-            self.queue.push_first(place, receiver, frame);
-        }
-    }
-
-    fn serve(&mut self, cost: u32) {
-        let first =
-            self.queue.scheduler.first().map(|(place, receiver, frame)| (place, receiver, frame.since.as_nanos()));
-        match first {
-            Some((place, receiver, mark)) => {
-                let serves = [1 - place, place].map(|place| self.queue.serve(place, receiver, cost));
-                assert_eq!(serves, [false, true]);
-                assert_eq!(self.models[place].take_first(receiver).map(|frame| frame.mark), Some(mark));
-            }
-            None => assert!(self.models.iter().all(|model| model.frames.is_empty())),
+    /// The next frame goes. Nobody acknowledges some of those for stations: they are sent once more.
+    fn serve(&mut self, seeded: &mut Seeded, cost: u32) {
+        let (place, receiver, mark, next) = match self.queue.first() {
+            Some((place, receiver, next)) => (place, receiver, next.frame.since.as_nanos(), next.ticket),
+            None => return assert!(self.models.iter().all(|model| model.frames.is_empty())),
+        };
+        let now = Instant::from_nanos(mark);
+        assert_eq!(self.queue.goes(1 - place, next, now), None);
+        let ticket = self.queue.goes(place, next, now).unwrap();
+        assert!(ticket == next || receiver == Receiver::Others);
+        let frame = self.queue.serve(place, receiver, ticket, cost, now).unwrap();
+        let in_model = self.models[place].take_first(receiver).unwrap();
+        assert_eq!((frame.since.as_nanos(), in_model.mark), (mark, mark));
+        let may_be_lost = matches!(receiver, Receiver::Station(_)) && frame.kind.is_unit();
+        let is_lost = may_be_lost && seeded.below(4) == 0;
+        let fate = self.queue.told(place, ticket, !is_lost);
+        let expected = match (is_lost, in_model.is_again) {
+            (false, _) => Fate::Acknowledged,
+            (true, false) => Fate::WaitsAgain,
+            (true, true) => Fate::Lost,
+        };
+        assert_eq!(fate, Some(expected));
+        if expected == Fate::WaitsAgain {
+            let kind = FrameKind::Again;
+            self.models[place].push_first(ModelFrame { is_again: true, is_kept: false, ..in_model });
+            self.queue.push_first(place, receiver, Ticketed { ticket, frame: OutboundFrame { kind, ..frame } }, now);
         }
     }
 
     fn call(&mut self, seeded: &mut Seeded, pushes: usize, mark: u64) {
         let place = seeded.below(2);
         match seeded.below(6 + pushes) {
-            0..=2 => self.serve(1 + seeded.below(1000) as u32),
+            0..=2 => {
+                let cost = 1 + seeded.below(1000) as u32;
+                self.serve(seeded, cost);
+            }
             3 => {
                 let (receiver, _) = any_receiver(seeded);
-                let taken = self.queue.take_first(place, receiver).map(|frame| frame.since.as_nanos());
+                let taken = self.queue.take_first(place, receiver, Instant::from_nanos(mark));
+                let taken = taken.map(|frame| frame.since.as_nanos());
                 assert_eq!(taken, self.models[place].take_first(receiver).map(|frame| frame.mark));
             }
             4 if seeded.below(8) == 0 => {
                 let address = STATIONS[seeded.below(STATIONS.len())];
                 let is_kept = |frame: &ModelFrame| frame.is_kept && frame.address == address;
                 if !self.models[place].frames.iter().any(is_kept) {
-                    self.queue.join(place, address);
+                    self.queue.join(place, address, Instant::from_nanos(mark));
                     self.models[place].join(address);
                 }
             }
-            5 if seeded.below(4) == 0 => self.push_first(seeded, place, mark),
             5 if seeded.below(40) == 0 => self.take_units(seeded, place),
             5 => (0..4).for_each(|more| self.push_kept(seeded, place, mark + more)),
             _ => self.push(seeded, place, mark),
@@ -358,7 +396,7 @@ fn any_calls_leave_what_the_rules_say() {
         }
         both.agree();
         while !both.queue.scheduler.is_empty() {
-            both.serve(7);
+            both.serve(&mut seeded, 7);
         }
         apart += both.apart;
         let counts = both.models.iter().flat_map(|model| &model.dropped);
@@ -374,28 +412,27 @@ fn any_calls_leave_what_the_rules_say() {
 #[test]
 fn no_more_waits_for_a_station_that_joins_than_for_any_other() {
     let mut queue = Queue::new([1].into_iter());
-    (0..100).for_each(|since| queue.push(0, Receiver::Others, frame_for_station(FrameKind::Answer, since)));
-    queue.join(0, STATION);
+    (0..100).for_each(|since| push(&mut queue, Receiver::Others, frame_for_station(FrameKind::Answer, since)));
+    queue.join(0, STATION, Instant::START);
     assert_eq!(queue.scheduler.waiting(0, Receiver::Station(STATION)), MOST_FOR_STATION);
-    assert_eq!(queue.scheduler.first().map(|(_, _, frame)| frame.since), Some(Instant::from_nanos(36)));
+    assert_eq!(queue.first().map(|(_, _, next)| next.frame.since), Some(Instant::from_nanos(36)));
     assert_eq!((queue.accounts[0].waiting, queue.accounts[0].octets), (64, 64 * 40));
     assert_eq!(queue.accounts[0].unsent, [(Unsent::Crowded, 36)].into());
 }
 
 /// As a request may be answered before a unit for the station came, and its association after that.
 #[test]
-fn what_waits_for_a_station_that_joins_goes_in_the_order_in_which_it_came() {
-    let mut queue = Queue::new([1].into_iter());
-    queue.push(0, Receiver::Others, frame_for_station(FrameKind::Answer, 1));
-    (2..4).for_each(|since| queue.push(0, Receiver::Station(STATION), frame_for_station(FrameKind::Unit, since)));
-    queue.push_first(0, Receiver::Station(STATION), frame_for_station(FrameKind::Again, 4));
-    queue.join(0, STATION);
+fn what_waits_for_a_station_that_joins_goes_behind_its_own_frames() {
+    let (mut queue, station) = (Queue::new([1].into_iter()), Receiver::Station(STATION));
+    push(&mut queue, Receiver::Others, frame_for_station(FrameKind::Answer, 1));
+    (2..5).for_each(|since| push(&mut queue, station, frame_for_station(FrameKind::Unit, since)));
+    assert_eq!(lose_one(&mut queue, station), 2);
+    queue.join(0, STATION, Instant::START);
     let mut since = Vec::new();
-    while let Some((place, receiver, frame)) = queue.scheduler.first() {
-        since.push(frame.since.as_nanos());
-        queue.serve(place, receiver, 1);
+    while queue.first().is_some() {
+        since.push(send_next(&mut queue).frame.since.as_nanos());
     }
-    assert_eq!(since, [4, 1, 2, 3]);
+    assert_eq!(since, [2, 3, 4, 1]);
 }
 
 /// The program answers several frames at one time.
@@ -404,11 +441,11 @@ fn answers_of_one_time_go_in_their_order_to_a_station_that_joins() {
     let mut queue = Queue::new([1].into_iter());
     for octets in [40, 41, 42] {
         let frame = frame_for_station(FrameKind::Answer, 1);
-        queue.push(0, Receiver::Others, OutboundFrame { octets: Rc::new(vec![0; octets]), ..frame });
+        push(&mut queue, Receiver::Others, OutboundFrame { octets: Rc::new(vec![0; octets]), ..frame });
     }
-    queue.join(0, STATION);
+    queue.join(0, STATION, Instant::START);
     let of_station = queue.scheduler.take_all(0, Receiver::Station(STATION), |_| true);
-    assert_eq!(of_station.iter().map(|frame| frame.octets.len()).collect::<Vec<_>>(), [40, 41, 42]);
+    assert_eq!(of_station.iter().map(|waiting| waiting.frame.octets.len()).collect::<Vec<_>>(), [40, 41, 42]);
 }
 
 /// However many stations wake, and none of what was kept drops anything, nor does what comes then drop any of it.
@@ -420,16 +457,16 @@ fn what_was_kept_for_many_stations_is_bounded() {
         for _ in 0..2 {
             let frame = frame_for_station(FrameKind::Kept, 1);
             let (octets, address) = (Rc::new(vec![0; LONGEST]), made_up(number));
-            queue.push_kept(0, OutboundFrame { octets, address, ..frame });
+            queue.push_kept(0, OutboundFrame { octets, address, ..frame }, Instant::START);
         }
     }
     let Account { waiting, unsent, .. } = &queue.accounts[0];
     assert_eq!((*waiting, unsent[&Unsent::Full]), (MOST_KEPT, 4014 - MOST_KEPT as u64));
-    queue.push(0, Receiver::Groups, frame_for_station(FrameKind::GroupUnit, 1));
+    push(&mut queue, Receiver::Groups, frame_for_station(FrameKind::GroupUnit, 1));
     assert_eq!((queue.accounts[0].waiting, queue.accounts[0].octets), (MOST_KEPT + 1, 40));
-    (0..2007).for_each(|number| drop(queue.take_units(0, made_up(number))));
+    (0..2007).for_each(|number| drop(queue.take_units(0, made_up(number), Change::Leaves)));
     assert_eq!(queue.accounts[0].waiting, 1);
-    queue.push_kept(0, frame_for_station(FrameKind::Kept, 2));
+    queue.push_kept(0, frame_for_station(FrameKind::Kept, 2), Instant::START);
     assert_eq!(queue.accounts[0].waiting, 2);
 }
 
@@ -437,25 +474,87 @@ fn what_was_kept_for_many_stations_is_bounded() {
 #[test]
 fn management_frames_that_go_fill_no_queue_with_what_was_kept() {
     let (mut queue, station) = (Queue::new([1].into_iter()), Receiver::Station(STATION));
-    (0..100).for_each(|since| queue.push_kept(0, frame_for_station(FrameKind::Kept, since)));
+    (0..100).for_each(|since| queue.push_kept(0, frame_for_station(FrameKind::Kept, since), Instant::START));
     for _ in 0..40 {
-        queue.push(0, station, frame_for_station(FrameKind::Word, 100));
-        queue.push(0, station, frame_for_station(FrameKind::Word, 100));
-        queue.serve(0, station, 1);
-        queue.take_first(0, station);
+        push(&mut queue, station, frame_for_station(FrameKind::Word, 100));
+        push(&mut queue, station, frame_for_station(FrameKind::Word, 100));
+        send_next(&mut queue);
+        queue.take_first(0, station, Instant::START);
     }
-    let kept = queue.scheduler.count_first(0, station, |frame| frame.kind == FrameKind::Kept);
+    let kept = queue.scheduler.count_first(0, station, |waiting| waiting.frame.kind == FrameKind::Kept);
     assert!(kept <= MOST_BEFORE_BACKLOG, "{kept}");
     assert!(queue.accounts[0].unsent.is_empty());
 }
 
 #[test]
-fn a_unit_that_is_sent_once_more_has_the_place_of_the_oldest_where_no_more_may_wait() {
+fn a_unit_that_is_sent_once_more_waits_beside_as_many_as_may_wait() {
     let (mut queue, station) = (Queue::new([1].into_iter()), Receiver::Station(STATION));
-    (0..64).for_each(|since| queue.push(0, station, frame_for_station(FrameKind::Unit, since)));
-    queue.push_first(0, station, frame_for_station(FrameKind::Again, 64));
-    assert_eq!(queue.scheduler.waiting(0, station), MOST_FOR_STATION);
-    assert_eq!(queue.scheduler.first().map(|(_, _, frame)| frame.kind), Some(FrameKind::Again));
-    assert_eq!((queue.accounts[0].waiting, queue.accounts[0].octets), (64, 64 * 40));
-    assert_eq!(queue.accounts[0].unsent, [(Unsent::Crowded, 1)].into());
+    (0..65).for_each(|since| push(&mut queue, station, frame_for_station(FrameKind::Unit, since)));
+    assert_eq!(lose_one(&mut queue, station), 1);
+    push(&mut queue, station, frame_for_station(FrameKind::Unit, 65));
+    assert_eq!(queue.scheduler.waiting(0, station), MOST_FOR_STATION + 1);
+    push(&mut queue, station, frame_for_station(FrameKind::Unit, 66));
+    assert_eq!(queue.first().map(|(_, _, next)| next.frame.kind), Some(FrameKind::Again));
+    assert_eq!((queue.accounts[0].waiting, queue.accounts[0].octets), (65, 65 * 40));
+    assert_eq!(queue.accounts[0].unsent, [(Unsent::Crowded, 2)].into());
+}
+
+/// So strangers who come and go, doze or stay take no number for good.
+#[test]
+fn numbers_of_stations_for_which_nothing_waits_are_those_of_others() {
+    let mut queue = Queue::new([1].into_iter());
+    for number in 0..9000 {
+        let station = made_up(number);
+        let frame = OutboundFrame { address: station, ..frame_for_station(FrameKind::Unit, 1) };
+        let receiver = Receiver::Station(station);
+        push(&mut queue, receiver, frame);
+        let Ticketed { ticket, .. } = send_next(&mut queue);
+        let (change, fate) = match number % 3 {
+            0 => (Change::Leaves, Fate::Lost),
+            1 => (Change::Dozes, Fate::HandedBack),
+            _ => (Change::Joins, Fate::Acknowledged),
+        };
+        queue.change(0, station, change);
+        assert_eq!(queue.told(0, ticket, number % 3 == 2), Some(fate));
+    }
+    assert!(queue.accounts[0].unsent.is_empty());
+    let known = |number| queue.knows(0, made_up(number));
+    assert!((0..9000).filter(|number| number % 3 == 1).all(known));
+    assert!((0..9000).filter(|number| number % 3 != 1 && known(*number)).count() < 8000 / 3);
+}
+
+/// Units for stations that doze go back, also if others had their numbers meanwhile.
+#[test]
+fn a_station_that_gets_a_number_anew_is_as_it_said() {
+    let mut queue = Queue::new([1].into_iter());
+    let unit = |number| OutboundFrame { address: made_up(number), ..frame_for_station(FrameKind::Unit, 1) };
+    for number in 0..6 {
+        queue.change(0, made_up(number), Change::Dozes);
+    }
+    queue.change(0, made_up(1), Change::Settles);
+    queue.change(0, made_up(2), Change::Wakes);
+    queue.polls(0, made_up(3), Instant::START);
+    [1, 4].map(|number| queue.change(0, made_up(number), Change::Settles));
+    for number in 100..4000 {
+        push(&mut queue, Receiver::Station(made_up(number)), unit(number));
+        queue.take_units(0, made_up(number), Change::Leaves);
+    }
+    queue.polls(0, made_up(1), Instant::START);
+    let goes_back = |number| {
+        let returned = queue.push(0, Receiver::Station(made_up(number)), unit(number), Instant::START);
+        returned.map(|returned| returned.goes_back)
+    };
+    assert_eq!([0, 1, 2, 3, 4, 5].map(goes_back), [Some(true), None, None, Some(true), Some(true), Some(true)]);
+}
+
+/// More than can be associated have no number while frames of all wait, and a frame for one is dropped.
+#[test]
+fn stations_beyond_those_that_can_be_associated_have_no_room() {
+    let mut queue = Queue::new([1].into_iter());
+    for number in 0..3000 {
+        let frame = OutboundFrame { address: made_up(number), ..frame_for_station(FrameKind::Unit, 1) };
+        push(&mut queue, Receiver::Station(frame.address), frame);
+    }
+    let Account { waiting, unsent, .. } = &queue.accounts[0];
+    assert!(*waiting >= 2007 && unsent[&Unsent::Full] == 3000 - *waiting as u64, "{waiting} {unsent:?}");
 }

@@ -1,40 +1,34 @@
-//! Shares of the air: which frame goes next of several networks that send by one radio.
+//! Which receiver of a network a frame goes to next, of several networks that send by one radio, and what waits for
+//! each. Whose turn it is among networks the proved library decides (`downlink`).
 //!
 //! The rule is start-time fair queueing (Goyal, Vin and Cheng, 1996), written as debts. It has no clock, no quantum and
-//! no round. Each network has a weight and a debt. Of those that have a frame waiting, the one of least debt goes next,
-//! and of several the one of the lowest place. What that one owed is taken off every debt, as far as there is any. Its
-//! own debt becomes the cost of its frame over its weight. What the radio used beyond that cost is added when it is
-//! told. Within a network its receivers take turns by the same rule, all of one weight; of several that owe the same,
-//! the lowest goes. Whose turn it is among networks is decided by a proved library (`proved_rule`); what waits is kept
-//! here.
+//! no round. Each receiver has a debt. Of those for which a frame waits, the one of least debt is next, and of several
+//! the lowest. What that one owed is taken off every debt, as far as there is any. Its own debt becomes what its frame
+//! cost, and what the radio used beyond that is added when it is told.
 //!
 //! So for any order of calls:
 //!
-//! 1. While a network has frames waiting, no other one gets more than its share and one frame beyond it, unless it is
-//!    passed over (9).
-//! 2. A frame that comes to a network with no debt and nothing waiting goes once each other network has sent one frame.
-//! 3. Idle time earns nothing: a network that was idle owes at least nothing when it comes back.
-//! 4. Frames for one receiver leave in the order in which they came; one that is sent again goes first, and who pushes
+//! 1. Idle time earns nothing: a receiver that was idle owes at least nothing when something comes for it again.
+//! 2. Frames for one receiver wait in the order in which they came; one that is sent again goes first, and who pushes
 //!    one may put it behind the first ones alone.
-//! 5. Each frame that came waits, was served or was dropped: one of them, once.
-//! 6. The work of a call doesn't grow with the frames that wait. It grows with the number of networks, and with the
-//!    logarithm of the number of receivers. The first `longest` of a network with many receivers puts them in order by
-//!    how many frames wait. The order is kept until half of the network's frames are gone.
-//! 7. Of receivers for which nothing waits no more than some thousands are known for what they owe. If more of a
+//! 3. Each frame that came waits, was served or was taken out: one of them, once.
+//! 4. The work of a call doesn't grow with the frames that wait. It grows with the logarithm of the number of
+//!    receivers. The first `longest` of a network with many receivers puts them in order by how many frames wait. The
+//!    order is kept until half of the network's frames are gone.
+//! 5. Of receivers for which nothing waits no more than some thousands are known for what they owe. If more of a
 //!    network owe, all of them are forgotten, and owe nothing.
-//! 8. What waits for a receiver when it is hurried goes before all else of its network, and is charged to the receiver.
-//!    No debt of its network's receivers is lowered for it. Which network goes next isn't changed.
-//!
-//! 9. A receiver may be held: its next frame waits for what becomes of the one before. A network whose receivers with
-//!    waiting frames are all held counts as one that waits. If it's its turn, no frame goes, until one of them is
-//!    released, or until it is passed over. From then on it doesn't count, until a frame of it goes.
+//! 6. What waits for a receiver when it is hurried goes before all else of its network, and is charged to the receiver.
+//!    No debt is lowered for it.
+//! 7. A receiver may be held: its next frame waits for what becomes of the one before. A network whose receivers with
+//!    waiting frames are all held has its turn all the same, until it is passed over. From then on it doesn't wait for
+//!    a turn while all are held, until a frame of it goes.
 use std::collections::{BTreeSet, HashMap, VecDeque};
 use std::hash::Hash;
 
 use crate::hashing::Seeds;
-use crate::outbound::air::proved_rule::NetworkDebts;
 
-pub use crate::outbound::air::proved_rule::{Place, MOST_WEIGHT};
+/// A network by its number, in the order of the configuration.
+pub type Place = usize;
 
 /// The most receivers of a network that are known for what they owe alone, and so few that nobody looks.
 const MOST_RESTING: usize = 4096;
@@ -45,43 +39,31 @@ const FEW_TO_LOOK_AT: usize = 4;
 /// The frames that wait, of several networks to several receivers.
 #[derive(Debug)]
 pub(super) struct Scheduler<R, T> {
-    debts: NetworkDebts,
     networks: Vec<NetworkQueues<R, T>>,
 }
 
 impl<R: Copy + Ord + Hash, T> Scheduler<R, T> {
-    /// Networks of these weights, from 1 to `MOST_WEIGHT`, with no debts and nothing that waits.
-    pub fn new(weights: impl IntoIterator<Item = u8>) -> Scheduler<R, T> {
-        let weights: Vec<u8> = weights.into_iter().collect();
-        Scheduler {
-            networks: weights.iter().map(|_| NetworkQueues::new()).collect(),
-            debts: NetworkDebts::new(weights),
-        }
+    /// So many networks, of which nothing waits.
+    pub fn new(networks: usize) -> Scheduler<R, T> {
+        Scheduler { networks: (0..networks).map(|_| NetworkQueues::new()).collect() }
     }
 
     fn change<A>(&mut self, place: Place, receiver: R, change: impl FnOnce(&mut ReceiverQueue<T>) -> A) -> A {
-        let answer = self.networks[place].change(receiver, change);
-        self.debts.set_waits(place, self.networks[place].waits());
-        answer
+        self.networks[place].change(receiver, change)
     }
 
-    /// A frame of a network waits for a receiver, behind all that wait for it; answers how many do with it.
-    pub fn push(&mut self, place: Place, receiver: R, frame: T) -> usize {
-        self.change(place, receiver, |queue| {
-            queue.waiting.push_back(frame);
-            queue.waiting.len()
-        })
+    /// A frame of a network waits for a receiver, behind all that wait for it.
+    pub fn push(&mut self, place: Place, receiver: R, frame: T) {
+        self.change(place, receiver, |queue| queue.waiting.push_back(frame));
     }
 
-    /// A frame of a network waits for a receiver, behind the first ones of which this is true; answers how many wait
-    /// with it.
-    pub fn push_behind(&mut self, place: Place, receiver: R, frame: T, go_before: impl Fn(&T) -> bool) -> usize {
+    /// A frame of a network waits for a receiver, behind the first ones of which this is true.
+    pub fn push_behind(&mut self, place: Place, receiver: R, frame: T, go_before: impl Fn(&T) -> bool) {
         self.change(place, receiver, |queue| {
             let behind = queue.waiting.partition_point(go_before);
             queue.waiting.insert(behind, frame);
             queue.urgent += usize::from(behind < queue.urgent);
-            queue.waiting.len()
-        })
+        });
     }
 
     /// A frame is sent again: it waits before all others for its receiver.
@@ -97,43 +79,30 @@ impl<R: Copy + Ord + Hash, T> Scheduler<R, T> {
         self.change(place, receiver, |queue| queue.urgent = queue.waiting.len());
     }
 
-    /// Whose turn it is, if frames of any network wait.
-    fn turn(&self) -> Option<Place> {
-        self.debts.any_waits().then(|| self.debts.choose()).flatten()
+    /// For whom the next frame of a network is, with the frame; `None` if none may go.
+    pub fn first(&self, place: Place) -> Option<(R, &T)> {
+        self.networks[place].first()
     }
 
-    /// Whose frame goes next, with the frame; `None` if none may go.
-    pub fn first(&self) -> Option<(Place, R, &T)> {
-        let place = self.turn()?;
-        let (receiver, frame) = self.networks[place].first()?;
-        Some((place, receiver, frame))
+    /// Whether a frame of a network may go.
+    pub fn has_ready(&self, place: Place) -> bool {
+        !self.networks[place].ready.is_empty()
     }
 
-    /// The network whose turn it is, if all that waits of it is held: no other one's frame goes before.
-    pub fn held(&self) -> Option<Place> {
-        self.turn().filter(|place| self.networks[*place].ready.is_empty())
-    }
-
-    /// A network of which all that waits is held doesn't count as one that waits, until a frame of it goes.
+    /// A network of which all that waits is held doesn't wait for a turn, until a frame of it goes.
     pub fn pass_over(&mut self, place: Place) {
         self.networks[place].is_passed_over = true;
-        self.debts.set_waits(place, self.networks[place].waits());
     }
 
-    /// The frame of a network that goes next goes, and is reckoned to cost so many microseconds; `None`, and nothing
-    /// changes, if it is another network's turn, or all that waits of this one is held.
-    pub fn serve(&mut self, place: Place, cost: u32) -> Option<T> {
-        let has_ready = self.networks.get(place).map_or(false, |network| !network.ready.is_empty());
-        if !has_ready || !self.debts.serve(place, cost) {
-            return None;
-        }
-        let frame = self.networks[place].serve(u64::from(cost));
-        self.debts.set_waits(place, self.networks[place].waits());
-        frame
+    /// Whether a network doesn't wait for a turn, though frames of it wait: it is passed over.
+    pub fn is_passed_over(&self, place: Place) -> bool {
+        self.networks[place].is_passed_over && self.networks[place].ready.is_empty()
     }
 
-    pub fn drop_first(&mut self, place: Place, receiver: R) -> Option<T> {
-        self.change(place, receiver, ReceiverQueue::pop)
+    /// The first frame for a receiver goes of which this is true, and costs so many microseconds; `None` if none may go
+    /// for that.
+    pub fn serve(&mut self, place: Place, receiver: R, cost: u32, is_meant: impl FnMut(&T) -> bool) -> Option<T> {
+        self.networks[place].serve(receiver, u64::from(cost), is_meant)
     }
 
     pub fn drop_last(&mut self, place: Place, receiver: R) -> Option<T> {
@@ -144,25 +113,32 @@ impl<R: Copy + Ord + Hash, T> Scheduler<R, T> {
         })
     }
 
-    /// A frame of a network for a receiver cost so many microseconds more than was reckoned.
-    pub fn correct(&mut self, place: Place, receiver: R, more: u32) {
-        if more > 0 {
-            self.debts.correct(place, more);
-            self.change(place, receiver, |queue| queue.start = queue.start.saturating_add(u64::from(more)));
+    /// Takes out the first frame for a receiver of which this is true.
+    pub fn take_first(&mut self, place: Place, receiver: R, is_meant: impl FnMut(&T) -> bool) -> Option<T> {
+        self.change(place, receiver, |queue| queue.take_first(is_meant))
+    }
+
+    /// A frame of a network for a receiver cost so many microseconds.
+    pub fn charge(&mut self, place: Place, receiver: R, cost: u32) {
+        if cost > 0 {
+            self.change(place, receiver, |queue| queue.start = queue.start.saturating_add(u64::from(cost)));
         }
     }
 
     /// A receiver is held: none of its frames goes next until it is released.
     pub fn hold(&mut self, place: Place, receiver: R) {
-        self.change(place, receiver, |queue| queue.is_held = true);
+        let was_held = self.change(place, receiver, |queue| std::mem::replace(&mut queue.is_held, true));
+        self.networks[place].held += usize::from(!was_held);
     }
 
     pub fn release(&mut self, place: Place, receiver: R) {
-        self.change(place, receiver, |queue| queue.is_held = false);
+        let was_held = self.change(place, receiver, |queue| std::mem::take(&mut queue.is_held));
+        self.networks[place].held -= usize::from(was_held);
     }
 
     pub fn is_held(&self, place: Place, receiver: R) -> bool {
-        self.networks[place].receivers.get(&receiver).map_or(false, |queue| queue.is_held)
+        let NetworkQueues { receivers, held, .. } = &self.networks[place];
+        *held > 0 && receivers.get(&receiver).map_or(false, |queue| queue.is_held)
     }
 
     /// How many frames of a network wait for a receiver.
@@ -198,11 +174,6 @@ impl<R: Copy + Ord + Hash, T> Scheduler<R, T> {
         self.networks[place].longest()
     }
 
-    /// Whether a frame may go.
-    pub fn has_ready(&self) -> bool {
-        self.turn().map_or(false, |place| !self.networks[place].ready.is_empty())
-    }
-
     /// Whether a frame waits that isn't held.
     pub fn any_ready(&self) -> bool {
         self.networks.iter().any(|network| !network.ready.is_empty())
@@ -221,6 +192,8 @@ struct NetworkQueues<R, T> {
     receivers: HashMap<R, ReceiverQueue<T>, Seeds>,
     /// Those that wait for a turn.
     ready: BTreeSet<(Turn, R)>,
+    /// How many of them are held.
+    held: usize,
     /// How many frames wait for all of them.
     waiting: usize,
     /// The start of the one that was served last.
@@ -274,9 +247,13 @@ impl<T> ReceiverQueue<T> {
         (!self.is_held && !self.waiting.is_empty()).then_some(turn)
     }
 
-    fn pop(&mut self) -> Option<T> {
-        self.urgent = self.urgent.saturating_sub(1);
-        self.waiting.pop_front()
+    fn take_first(&mut self, is_meant: impl FnMut(&T) -> bool) -> Option<T> {
+        let number = self.waiting.iter().position(is_meant)?;
+        self.urgent -= usize::from(number < self.urgent);
+        match number {
+            0 => self.waiting.pop_front(),
+            _ => self.waiting.remove(number),
+        }
     }
 }
 
@@ -285,6 +262,7 @@ impl<R: Copy + Ord + Hash, T> NetworkQueues<R, T> {
         NetworkQueues {
             receivers: HashMap::default(),
             ready: BTreeSet::new(),
+            held: 0,
             waiting: 0,
             begun: 0,
             many: FEW,
@@ -317,25 +295,20 @@ impl<R: Copy + Ord + Hash, T> NetworkQueues<R, T> {
         }
     }
 
-    /// Whether it counts as a network that waits.
-    fn waits(&self) -> bool {
-        !self.ready.is_empty() || self.waiting > 0 && !self.is_passed_over
-    }
-
     fn first(&self) -> Option<(R, &T)> {
         let (_, receiver) = self.ready.iter().next()?;
         Some((*receiver, self.receivers.get(receiver)?.waiting.front()?))
     }
 
-    fn serve(&mut self, cost: u64) -> Option<T> {
-        let (turn, receiver) = self.ready.iter().next().copied()?;
+    fn serve(&mut self, receiver: R, cost: u64, is_meant: impl FnMut(&T) -> bool) -> Option<T> {
+        let (turn, _) = self.ready.iter().next().filter(|(_, next)| *next == receiver)?;
         if let Turn::InTurn(start) = turn {
-            self.begun = start;
+            self.begun = *start;
         }
         self.is_passed_over = false;
         self.change(receiver, |queue| {
             queue.start = queue.start.saturating_add(cost);
-            queue.pop()
+            queue.take_first(is_meant)
         })
     }
 

@@ -1,5 +1,122 @@
 use super::*;
+use crate::outbound::air::proved_queues::ProvedQueues;
+use crate::outbound::air::proved_rule::NetworkDebts;
 use crate::testing::samples::Seeded;
+
+/// The receivers' turns with those of networks, by the proved queues, in which each network has one receiver here. The
+/// proved rule of shares says the same by itself.
+struct Shared<R, T> {
+    scheduler: Scheduler<R, T>,
+    queues: ProvedQueues,
+    debts: NetworkDebts,
+    ticket: u64,
+}
+
+impl<R: Copy + Ord + Hash, T> Shared<R, T> {
+    fn new(weights: impl IntoIterator<Item = u8>) -> Shared<R, T> {
+        let weights: Vec<u8> = weights.into_iter().collect();
+        let networks: Vec<_> = weights.iter().map(|weight| (*weight, vec![usize::MAX])).collect();
+        let queues = ProvedQueues::new(&networks).unwrap();
+        Shared { scheduler: Scheduler::new(weights.len()), queues, debts: NetworkDebts::new(weights), ticket: 0 }
+    }
+
+    /// Both learn whether a network waits.
+    fn tell(&mut self, place: Place) {
+        let is_passed_over = self.scheduler.is_passed_over(place);
+        self.queues.pauses(place, is_passed_over);
+        self.debts.set_waits(place, self.scheduler.networks[place].waiting > 0 && !is_passed_over);
+    }
+
+    /// A frame came.
+    fn came(&mut self, place: Place) {
+        self.ticket += 1;
+        assert_eq!(self.queues.comes((place, 0), self.ticket, false, u64::MAX, 0), Ok(None));
+    }
+
+    fn push(&mut self, place: Place, receiver: R, frame: T) {
+        self.came(place);
+        self.scheduler.push(place, receiver, frame);
+        self.tell(place);
+    }
+
+    fn push_first(&mut self, place: Place, receiver: R, frame: T) {
+        self.came(place);
+        self.scheduler.push_first(place, receiver, frame);
+        self.tell(place);
+    }
+
+    fn turn(&self) -> Option<Place> {
+        let turn = self.queues.turn();
+        assert_eq!(turn, self.debts.choose().filter(|_| self.debts.any_waits()));
+        turn
+    }
+
+    fn first(&self) -> Option<(Place, R, &T)> {
+        let place = self.turn()?;
+        let (receiver, frame) = self.scheduler.first(place)?;
+        Some((place, receiver, frame))
+    }
+
+    fn held(&self) -> Option<Place> {
+        self.turn().filter(|place| !self.scheduler.has_ready(*place))
+    }
+
+    fn has_ready(&self) -> bool {
+        self.turn().map_or(false, |place| self.scheduler.has_ready(place))
+    }
+
+    fn pass_over(&mut self, place: Place) {
+        self.scheduler.pass_over(place);
+        self.tell(place);
+    }
+
+    /// The frame of a network that goes next goes; `None` if it isn't its turn.
+    fn serve(&mut self, place: Place, cost: u32) -> Option<T> {
+        let (receiver, _) = self.scheduler.networks.get(place)?.first()?;
+        let sent = self.queues.next_of((place, 0), 0);
+        assert_eq!(self.debts.serve(place, cost), sent.is_some());
+        self.queues.told((place, 0), sent?.ticket, true);
+        self.queues.used(place, cost);
+        let frame = self.scheduler.serve(place, receiver, cost, |_| true);
+        self.tell(place);
+        frame
+    }
+
+    /// So many frames left without going.
+    fn left(&mut self, place: Place, number: usize) {
+        (0..number).for_each(|_| assert!(self.queues.gives_up((place, 0)).is_some()));
+        self.tell(place);
+    }
+
+    fn drop_first(&mut self, place: Place, receiver: R) -> Option<T> {
+        let dropped = self.scheduler.take_first(place, receiver, |_| true);
+        self.left(place, usize::from(dropped.is_some()));
+        dropped
+    }
+
+    fn take_all(&mut self, place: Place, receiver: R, is_meant: impl FnMut(&T) -> bool) -> Vec<T> {
+        let taken = self.scheduler.take_all(place, receiver, is_meant);
+        self.left(place, taken.len());
+        taken
+    }
+
+    fn correct(&mut self, place: Place, receiver: R, more: u32) {
+        self.queues.used(place, more);
+        self.debts.correct(place, more);
+        self.scheduler.charge(place, receiver, more);
+        self.tell(place);
+    }
+
+    fn hold(&mut self, place: Place, receiver: R) {
+        self.scheduler.hold(place, receiver);
+        self.tell(place);
+    }
+
+    fn release(&mut self, place: Place, receiver: R) {
+        self.scheduler.release(place, receiver);
+        self.tell(place);
+    }
+}
 
 /// The rule as its sentences say it: debts that are lowered one by one, lists that are searched.
 struct Model {
@@ -162,7 +279,7 @@ const CALLS: usize = if cfg!(debug_assertions) { 100_000 } else { 1_000_000 };
 const CALLS_OF_A_RUN: usize = 2000;
 
 /// The frame that goes next, which costs so much.
-fn next<R: Copy + Ord + Hash, T>(scheduler: &mut Scheduler<R, T>, cost: u32) -> Option<T> {
+fn next<R: Copy + Ord + Hash, T>(scheduler: &mut Shared<R, T>, cost: u32) -> Option<T> {
     let place = scheduler.first()?.0;
     scheduler.serve(place, cost)
 }
@@ -177,7 +294,7 @@ fn any_calls_go_by_the_rule() {
         let number = 1 + seeded.below(4);
         let weights: Vec<u8> = (0..number).map(|_| 1 + seeded.below(16) as u8).collect();
         let (mut scheduler, mut model, mut watch) =
-            (Scheduler::new(weights.clone()), Model::new(&weights), Watch::new(&weights));
+            (Shared::new(weights.clone()), Model::new(&weights), Watch::new(&weights));
         let (mut pushed, mut gone, pushes) = (0u32, 0u32, 1 + seeded.below(6));
         for _ in 0..CALLS_OF_A_RUN {
             let (place, receiver) = (seeded.below(number), seeded.below(RECEIVERS) as u8);
@@ -230,7 +347,7 @@ fn any_calls_go_by_the_rule() {
                     pushed += 1;
                 }
                 10 => {
-                    scheduler.hurry(place, receiver);
+                    scheduler.scheduler.hurry(place, receiver);
                     model.of(place, receiver).waiting.iter_mut().for_each(|(_, is_urgent)| *is_urgent = true);
                 }
                 11 => {
@@ -248,14 +365,14 @@ fn any_calls_go_by_the_rule() {
             }
             watch.look(&model);
             assert_eq!((scheduler.held(), scheduler.has_ready()), (model.held(), model.first().is_some()));
-            assert_eq!(scheduler.any_ready(), (0..number).any(|place| model.has_ready(place)));
-            assert_eq!(scheduler.waiting(place, receiver), model.of(place, receiver).waiting.len());
-            assert_eq!(scheduler.is_held(place, receiver), model.of(place, receiver).is_held);
-            assert_eq!(scheduler.longest(place), model.longest(place));
+            assert_eq!(scheduler.scheduler.any_ready(), (0..number).any(|place| model.has_ready(place)));
+            assert_eq!(scheduler.scheduler.waiting(place, receiver), model.of(place, receiver).waiting.len());
+            assert_eq!(scheduler.scheduler.is_held(place, receiver), model.of(place, receiver).is_held);
+            assert_eq!(scheduler.scheduler.longest(place), model.longest(place));
         }
         let waiting: usize =
             model.networks.iter().flat_map(|network| &network.receivers).map(|one| one.waiting.len()).sum();
-        assert_eq!((pushed, scheduler.is_empty()), (gone + waiting as u32, waiting == 0), "{run}");
+        assert_eq!((pushed, scheduler.scheduler.is_empty()), (gone + waiting as u32, waiting == 0), "{run}");
     }
     assert!(served > CALLS as u64 / 10 && passed_over > CALLS as u64 / 200, "{served} {passed_over}");
 }
@@ -263,7 +380,7 @@ fn any_calls_go_by_the_rule() {
 /// Networks that all want all get what their weights say, whatever their frames cost.
 #[test]
 fn who_wants_all_gets_its_share() {
-    let mut scheduler = Scheduler::new([1, 2, 3]);
+    let mut scheduler = Shared::new([1, 2, 3]);
     let (costs, mut got) = ([12_000, 500, 1700], [0u64; 3]);
     for _ in 0..30_000 {
         [0, 1, 2].map(|place| scheduler.push(place, 0u8, place));
@@ -280,7 +397,7 @@ fn who_wants_all_gets_its_share() {
 
 #[test]
 fn what_was_told_later_counts_too() {
-    let mut scheduler = Scheduler::new([1, 1]);
+    let mut scheduler = Shared::new([1, 1]);
     let mut turns = [0u64; 2];
     for _ in 0..10_000 {
         [0, 1].map(|place| scheduler.push(place, 0u8, place));
@@ -295,7 +412,7 @@ fn what_was_told_later_counts_too() {
 
 #[test]
 fn receivers_of_a_network_take_turns_by_time() {
-    let mut scheduler = Scheduler::new([1]);
+    let mut scheduler = Shared::new([1]);
     [(); 9].map(|_| scheduler.push(0, 'a', 3));
     [(); 9].map(|_| scheduler.push(0, 'b', 1));
     let order: Vec<u32> = std::iter::from_fn(|| {
@@ -308,7 +425,7 @@ fn receivers_of_a_network_take_turns_by_time() {
 
 #[test]
 fn idle_time_earns_nothing() {
-    let mut scheduler = Scheduler::new([1, 1]);
+    let mut scheduler = Shared::new([1, 1]);
     [(); 50].map(|_| scheduler.push(0, 'a', 'a'));
     (0..40).for_each(|_| assert_eq!(next(&mut scheduler, 10), Some('a')));
     [(); 50].map(|_| scheduler.push(1, 'b', 'b'));
@@ -318,20 +435,20 @@ fn idle_time_earns_nothing() {
 
 #[test]
 fn a_held_receiver_waits_and_keeps_its_order() {
-    let mut scheduler = Scheduler::new([1]);
+    let mut scheduler = Shared::new([1]);
     [1, 2].map(|frame| scheduler.push(0, 'a', frame));
     scheduler.hold(0, 'a');
-    assert_eq!((scheduler.first(), scheduler.has_ready(), scheduler.is_empty()), (None, false, false));
+    assert_eq!((scheduler.first(), scheduler.has_ready(), scheduler.scheduler.is_empty()), (None, false, false));
     scheduler.push_first(0, 'a', 0);
     scheduler.release(0, 'a');
     assert_eq!([(); 4].map(|_| next(&mut scheduler, 1)), [Some(0), Some(1), Some(2), None]);
-    assert!(scheduler.is_empty());
+    assert!(scheduler.scheduler.is_empty());
 }
 
 /// Its turn isn't another one's: what that one gets meanwhile is what it would get beside one that waits.
 #[test]
 fn while_it_is_the_turn_of_a_network_that_is_held_no_other_one_goes() {
-    let mut scheduler = Scheduler::new([1, 1]);
+    let mut scheduler = Shared::new([1, 1]);
     for _ in 0..9 {
         scheduler.push(0, 'a', 'a');
         scheduler.push(1, 'b', 'b');
@@ -339,7 +456,7 @@ fn while_it_is_the_turn_of_a_network_that_is_held_no_other_one_goes() {
     assert_eq!(next(&mut scheduler, 10), Some('a'));
     scheduler.hold(0, 'a');
     assert_eq!([next(&mut scheduler, 10), next(&mut scheduler, 10)], [Some('b'), None]);
-    assert_eq!((scheduler.held(), scheduler.has_ready(), scheduler.any_ready()), (Some(0), false, true));
+    assert_eq!((scheduler.held(), scheduler.has_ready(), scheduler.scheduler.any_ready()), (Some(0), false, true));
     assert_eq!([0, 1].map(|place| scheduler.serve(place, 10)), [None, None]);
     scheduler.correct(0, 'a', 20);
     assert_eq!([(); 3].map(|_| next(&mut scheduler, 10)), [Some('b'), Some('b'), None]);
@@ -357,13 +474,13 @@ fn while_it_is_the_turn_of_a_network_that_is_held_no_other_one_goes() {
 /// It is charged: who had to wait meanwhile catches up afterwards. Other networks have their turns as ever.
 #[test]
 fn what_is_hurried_goes_before_all_else_of_its_network() {
-    let mut scheduler = Scheduler::new([1, 1]);
+    let mut scheduler = Shared::new([1, 1]);
     for _ in 0..4 {
         scheduler.push(0, 'a', 'a');
         scheduler.push(0, 'g', 'g');
         scheduler.push(1, 'o', 'o');
     }
-    scheduler.hurry(0, 'g');
+    scheduler.scheduler.hurry(0, 'g');
     scheduler.push(0, 'g', 'h');
     let order: String = std::iter::from_fn(|| next(&mut scheduler, 10)).collect();
     assert_eq!(order, "gogogogoaaaah");
@@ -371,12 +488,12 @@ fn what_is_hurried_goes_before_all_else_of_its_network() {
 
 #[test]
 fn frames_are_taken_out_by_what_they_are() {
-    let mut scheduler = Scheduler::new([1]);
+    let mut scheduler = Shared::new([1]);
     [0, 1, 2, 3, 4, 5].map(|frame| scheduler.push(0, 'a', frame));
-    assert_eq!(scheduler.longest(0), Some('a'));
+    assert_eq!(scheduler.scheduler.longest(0), Some('a'));
     assert_eq!(scheduler.take_all(0, 'a', |frame| frame % 2 == 0), [0, 2, 4]);
     assert_eq!([(); 4].map(|_| next(&mut scheduler, 1)), [Some(1), Some(3), Some(5), None]);
-    assert_eq!((scheduler.take_all(0, 'b', |_| true), scheduler.longest(0)), (vec![], None));
+    assert_eq!((scheduler.take_all(0, 'b', |_| true), scheduler.scheduler.longest(0)), (vec![], None));
 }
 
 thread_local! {
@@ -405,14 +522,14 @@ impl PartialOrd for Counted {
 fn the_longest_queue_of_many_is_found_without_a_look_at_all() {
     const RECEIVERS: u32 = 2007;
     const PUSHES: u32 = 10_000;
-    let mut scheduler = Scheduler::new([1]);
-    (0..RECEIVERS).for_each(|receiver| assert_eq!(scheduler.push(0, Counted(receiver), ()), 1));
-    assert_eq!(scheduler.longest(0), Some(Counted(RECEIVERS - 1)));
+    let mut scheduler = Shared::new([1]);
+    (0..RECEIVERS).for_each(|receiver| scheduler.push(0, Counted(receiver), ()));
+    assert_eq!(scheduler.scheduler.longest(0), Some(Counted(RECEIVERS - 1)));
     COMPARED.with(|compared| compared.set(0));
     for number in 0..PUSHES {
         let receiver = Counted(number % RECEIVERS);
         scheduler.push(0, receiver, ());
-        assert_eq!(scheduler.longest(0), Some(receiver));
+        assert_eq!(scheduler.scheduler.longest(0), Some(receiver));
         assert_eq!(scheduler.drop_first(0, receiver), Some(()));
     }
     let compared = COMPARED.with(std::cell::Cell::get) / u64::from(PUSHES);
@@ -422,30 +539,31 @@ fn the_longest_queue_of_many_is_found_without_a_look_at_all() {
 /// The order is forgotten once it isn't asked for: what comes and goes then costs nothing for it.
 #[test]
 fn the_order_by_length_is_kept_while_many_frames_wait() {
-    let mut scheduler = Scheduler::new([1]);
-    (0..1000u32).for_each(|receiver| assert_eq!(scheduler.push(0, receiver, ()), 1));
-    assert!(scheduler.networks[0].by_length.is_none());
-    scheduler.longest(0);
-    assert!(scheduler.networks[0].by_length.is_some());
+    let mut scheduler = Shared::new([1]);
+    (0..1000u32).for_each(|receiver| scheduler.push(0, receiver, ()));
+    assert!(scheduler.scheduler.networks[0].by_length.is_none());
+    scheduler.scheduler.longest(0);
+    assert!(scheduler.scheduler.networks[0].by_length.is_some());
     (0..499).for_each(|_| assert!(next(&mut scheduler, 1).is_some()));
-    assert!(scheduler.networks[0].by_length.is_some());
+    assert!(scheduler.scheduler.networks[0].by_length.is_some());
     next(&mut scheduler, 1);
-    assert!(scheduler.networks[0].by_length.is_none());
-    assert_eq!(scheduler.longest(0), Some(999));
+    assert!(scheduler.scheduler.networks[0].by_length.is_none());
+    assert_eq!(scheduler.scheduler.longest(0), Some(999));
 }
 
 /// What is kept of receivers doesn't grow with those that were.
 #[test]
 fn receivers_that_owe_nothing_are_forgotten() {
-    let mut scheduler = Scheduler::new([1]);
+    let mut scheduler = Shared::new([1]);
     for receiver in 0..30_000u32 {
         scheduler.push(0, receiver, ());
         next(&mut scheduler, 5);
     }
     let most = 2 * MOST_RESTING + FEW + 1;
-    assert!((FEW..=most).contains(&scheduler.networks[0].receivers.len()), "{}", scheduler.networks[0].receivers.len());
+    let known = scheduler.scheduler.networks[0].receivers.len();
+    assert!((FEW..=most).contains(&known), "{known}");
     [(); 2].map(|_| scheduler.push(0, 7, ()));
     assert_eq!([(); 2].map(|_| next(&mut scheduler, 5)), [Some(()); 2]);
-    scheduler.networks[0].forget_rested();
-    assert_eq!(scheduler.networks[0].receivers.len(), 1);
+    scheduler.scheduler.networks[0].forget_rested();
+    assert_eq!(scheduler.scheduler.networks[0].receivers.len(), 1);
 }

@@ -120,6 +120,8 @@ pub struct Sleepers {
     /// The stations that fall asleep.
     falling: Vec<(Place, Address)>,
     steps: VecDeque<Step>,
+    /// The stations that doze from now on, and fell asleep before.
+    settled: Vec<(Place, Address)>,
     /// Of each network how many units were lost, since too many went back.
     over_quota: Vec<u64>,
 }
@@ -139,6 +141,7 @@ impl Sleepers {
             marks: VecDeque::new(),
             falling: Vec::new(),
             steps: VecDeque::new(),
+            settled: Vec::new(),
         }
     }
 
@@ -343,6 +346,11 @@ impl Sleepers {
         !self.steps.is_empty()
     }
 
+    /// A station that dozes from now on, and fell asleep before.
+    pub fn take_settled(&mut self) -> Option<(Place, Address)> {
+        self.settled.pop()
+    }
+
     /// How many units of each network were lost since this was asked last, as too many went back.
     pub fn take_over_quota(&mut self, place: Place) -> u64 {
         std::mem::take(&mut self.over_quota[place])
@@ -375,6 +383,7 @@ impl Sleepers {
                 }
             }
             self.steps.push_back(Step::GoOn { place, station });
+            self.settled.push((place, station));
             self.falling.retain(|falling| *falling != (place, station));
         }
     }
