@@ -7,7 +7,7 @@
 #![tactic(auto)]
 
 ghost use Rattle.std.specs.Prelude.{◌≡◌, ◌+◌, ◌*◌, ◌<◌, ◌≤◌, ◌^◌, ◌↔◌, [], length, true, false, is_some};
-ghost use Rattle.std.specs.Prelude.{IsTrue, IsSome};
+ghost use Rattle.std.specs.Prelude.{IsTrue, IsSome, None};
 ghost use Rattle.std.specs.Bool.{OnTrue, OnFalse};
 ghost use Rattle.std.specs.Option.{option_map};
 ghost use Rattle.air_share.specs.Lanes.{chosen, lane_at};
@@ -70,6 +70,7 @@ pub extern "C" fn downlink_add(
     requires made { radio.old.is_made ≡ true }
     ensures handle { IsSameHandle radio.old radio.new }
     ensures allowed { IsTrue result.is_allowed ↔ ((1 ≤ weight) × (weight ≤ 16)) }
+    ensures allows { IsTrue result.is_added → IsTrue result.is_allowed }
     ensures added { OnTrue result.is_added
         (radio.new.radio ≡ with_network radio.old.radio weight (new_network mosts.now)) }
     ensures refused { OnFalse result.is_added (radio.new.radio ≡ radio.old.radio) }
@@ -133,11 +134,13 @@ pub extern "C" fn downlink_comes(
     requires made { radio.old.is_made ≡ true }
     ensures handle { IsSameHandle radio.old radio.new }
     ensures there { IsTrue result.is_there ↔ IsSome (receiver_at radio.old.radio network receiver) }
+    ensures taken { IsTrue result.is_taken → IsTrue result.is_there }
     ensures after { OnTrue result.is_taken (radio.new.radio
         ≡ radio_step radio.old.radio (Of network receiver (Comes ticket is_unit until now))) }
     ensures answer { OnTrue result.is_taken (result.told ≡ frame_told (option_map network_answer_of
         (radio_answer radio.old.radio (Of network receiver (Comes ticket is_unit until now))))) }
     ensures refused { OnFalse result.is_taken (radio.new.radio ≡ radio.old.radio) }
+    ensures nothing { OnFalse result.is_taken (result.told ≡ frame_told None) }
 {
     match lend(radio).comes(network, receiver, ticket, is_unit, until, now) {
         Ok(dropped) => Taken {
@@ -162,6 +165,7 @@ pub extern "C" fn downlink_next(radio: &mut RadioHandle, now: u64) -> Turn
     ensures answer { OnTrue result.is_taken
         (result.told ≡ frame_told (option_map network_answer_of (radio_answer radio.old.radio (Next now)))) }
     ensures refused { OnFalse result.is_taken (radio.new.radio ≡ radio.old.radio) }
+    ensures nothing { OnFalse result.is_taken (result.told ≡ frame_told None) }
 {
     match lend(radio).next(now) {
         Ok(next) => Turn {
@@ -190,6 +194,7 @@ pub extern "C" fn downlink_next_of(
     ensures answer { OnTrue result.is_taken (result.told ≡ frame_told (option_map network_answer_of
         (radio_answer radio.old.radio (NextOf network receiver now)))) }
     ensures refused { OnFalse result.is_taken (radio.new.radio ≡ radio.old.radio) }
+    ensures nothing { OnFalse result.is_taken (result.told ≡ frame_told None) }
 {
     match lend(radio).next_of(network, receiver, now) {
         Ok(next) => Turn {
@@ -292,6 +297,7 @@ pub extern "C" fn downlink_change(
     ensures known { IsTrue result.is_known ↔ IsSome (change_of change until) }
     ensures there { OnTrue result.is_known
         (IsTrue result.is_there ↔ IsSome (receiver_at radio.old.radio network receiver)) }
+    ensures unknown { IsTrue result.is_there → IsTrue result.is_known }
     ensures after { radio.new.radio ≡ after_change radio.old.radio network receiver (change_of change until) }
 {
     match change_of(change, until) {
