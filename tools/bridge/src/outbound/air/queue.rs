@@ -408,8 +408,8 @@ impl Queue {
         Some(frame)
     }
 
-    /// The oldest frame for a receiver is dropped, of others the one that would go last; the answer to a poll goes back.
-    /// Answers whether there was one.
+    /// The oldest frame for a receiver is dropped, of others the one that would go last. The answer to a
+    /// poll goes back. Answers whether there was one.
     fn drop_one(&mut self, place: Place, receiver: Receiver, why: Unsent) -> bool {
         match self.downlink.gives_up(place, receiver) {
             Some((ticket, Fate::HandedBack)) => {
