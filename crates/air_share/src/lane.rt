@@ -65,7 +65,7 @@ pub fn served(lanes: &mut [Lane], place: usize, cost: u32) -> bool
 }
 
 /// Serves the lane whose turn it is with a frame of this cost in time units of air, as [`served`] does. The caller has
-/// its place from [`choose`], so nothing is refused, and it isn't looked for again.
+/// its place from [`choose`], so nothing is refused, and it isn't looked for again (*profile*).
 pub fn serve_chosen(lanes: &mut [Lane], place: usize, cost: u32)
     requires turn { chosen lanes.old ≡ Some place }
     requires within { place < length lanes.old }

@@ -145,7 +145,7 @@ impl NetworkQueue {
     /// It is the turn of a receiver that the caller chose: its next frame goes, unless that is too late, and then it
     /// leaves. The next turn of the network is looked for where it was before, and a pause doesn't hold this up. `None`
     /// where no frame of it would go, or there is no such receiver, and then nothing changes. After an error all is as
-    /// it was.
+    /// it was (*profile*).
     pub fn turn_to(
         &mut self,
         receiver: usize,

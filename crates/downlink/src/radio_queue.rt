@@ -98,7 +98,7 @@ impl RadioQueue {
     }
 
     /// The place of the network whose turn it is: of those of which a frame may go the one that owes least, and of
-    /// several the one of lowest place. `None` where no frame may go.
+    /// several the one of lowest place. `None` where no frame may go (*profile*).
     pub fn turn_of(&self) -> Option<usize>
         ensures { result ≡ chosen self.now.lanes }
     {
@@ -160,7 +160,7 @@ impl RadioQueue {
     /// The same as [`next`](RadioQueue::next), where the caller says which receiver of the network has the turn. The
     /// rule of shares still says which network: `None` where it isn't the turn of this one, and then nothing changes.
     /// `None` also where no frame of the receiver would go, or there is no such receiver. After an error all is as it
-    /// was.
+    /// was (*profile*).
     pub fn next_of(
         &mut self,
         network: usize,
