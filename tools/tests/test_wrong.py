@@ -57,7 +57,7 @@ class SmallCrate(ToolTest):
         self.write("crates/part/must-fail/known.edit", "file: src/lib.rt\nold: walk(1)\nnew: walk(3)\n")
         self.write("wrong/part.toml", BODY.format("twice", "walk(1)", "walk(2)"))
         os.makedirs(self.path(".ci"))
-        for name in ("wrong/bodies.py", "wrong/functions.py", "wrong/check", "wrong/try", ".ci/build"):
+        for name in ("wrong/bodies.py", "wrong/functions.py", "wrong/check", "wrong/try", ".ci/proving.py"):
             shutil.copy(os.path.join(ROOT, name), self.path(name))
 
 
