@@ -41,13 +41,14 @@ try: ## runs the program without any proof on an example or on INPUT=FILE, in a 
 try-check: ## reads the configuration CONFIG=FILE without any proof
 	@.ci/try "$$CONFIG_NAME"
 
-# The gate. Proves every crate from nothing, tries each edit of crates/*/must-fail, runs each test, runs the program
-# that was built of what was proved over examples/ and tests/, with more and more memory, over files and streams that
-# fail and over lines and records that it answers as they come, lets each allocation of some calls fail in turn, holds it
-# against two models over hostile input that the commit draws, plays four traces at once, twice, and finds edits of wrong/
-# that can't be applied, names in the documents that aren't there, and scripts that don't say how they are used. It runs
-# the tests of the bridge, of the guest's air and of the tools, and what clippy, pyflakes and mypy find in them fails it.
-# Takes Debian's packages of .ci/packages, and installs those that are missing. The last line is 'N passed, M failed'.
+# The gate, whose parts run beside each other (.ci/gate). Proves every crate from nothing, tries each edit of
+# crates/*/must-fail, runs each test, runs the program that was built of what was proved over examples/ and tests/, with
+# more and more memory, over files and streams that fail and over lines and records that it answers as they come, lets
+# each allocation of some calls fail in turn, holds it against two models over hostile input that the commit draws,
+# plays four traces at once, twice, and finds edits of wrong/ that can't be applied, names in the documents that aren't
+# there, and scripts that don't say how they are used. It runs the tests of the bridge, of the guest's air and of the
+# tools, and what clippy, pyflakes and mypy find in them fails it. Takes Debian's packages of .ci/packages, and installs
+# those that are missing. The last line is 'N passed, M failed'.
 test: ## the gate: proves all from nothing, tries wrong bodies, runs all tests
 	@.ci/gate
 
@@ -56,8 +57,8 @@ test: ## the gate: proves all from nothing, tries wrong bodies, runs all tests
 wrong: ## tries the wrong bodies beside the gate, all or those of NAME=CRATE
 	@JOBS="$(JOBS)" wrong/try $(NAME)
 
-# Lets each allocation of some calls fail in turn, one in each run: those of which the gate does so, and those of lines
-# that are answered as they come. The last line is 'N passed, M failed'.
+# Lets each allocation of some calls fail in turn, one in each run. The gate does so for what the access point calls, and
+# for others makes the runs that the commit draws. The last line is 'N passed, M failed'.
 refused: apctl ## lets each allocation of some calls fail in turn
 	@.ci/refused build/apctl
 

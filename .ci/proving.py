@@ -1,5 +1,5 @@
-"""How crates are proved and built: what crates.txt says of them, what of them was proved before and still holds, and how
-the prover is called. The scripts beside this one, wrong/try and tools/bridge/build do so by it.
+"""How crates are proved and built: what crates.txt says of them, what of them was proved before and still holds, and
+how the prover is called. The scripts beside this one, wrong/try and tools/bridge/build do so by it.
 
 A crate that was proved before is proved again only where its files have changed, or one that it stands on has. Crates
 that don't stand on each other are proved side by side, as many as there are processors and as far as memory allows,
@@ -50,8 +50,8 @@ begun = time.monotonic()
 
 
 class Machine(NamedTuple):
-    """What is built for: its name among the compiler's targets, and what the linker takes, below the toolchain's folder:
-    its own tools, the libraries of the C library's memory and of the system's calls."""
+    """What is built for: its name among the compiler's targets, and what the linker takes, below the toolchain's
+    folder: its own tools, the libraries of the C library's memory and of the system's calls."""
     target: str
     tools: str
     memory: str
@@ -109,7 +109,7 @@ def text_of(path):
 
 
 class Listed(NamedTuple):
-    """What a line of crates.txt says: the line itself, whether the crate is a static library, and on which it stands."""
+    """What a line of crates.txt says: the line itself, whether the crate is a static library, on which it stands."""
     line: str
     is_static: bool
     stands_on: list
@@ -347,8 +347,8 @@ def build_program(crates):
 
 
 def is_older(crates, name):
-    """Whether the static library of a crate is missing, or older than a file of it or of what it stands on. One that was
-    brought here from another machine counts by its time too, so it is told by no sum."""
+    """Whether the static library of a crate is missing, or older than a file of it or of what it stands on. One that
+    was brought here from another machine counts by its time too, so it is told by no sum."""
     try:
         built = os.stat(static_library(name)).st_mtime_ns
     except FileNotFoundError:
@@ -391,7 +391,7 @@ def in_turn():
 
 
 def say_logic():
-    """Says whether the sum of the toolchain's logic is the one by which all was proved; what it proves hangs on that."""
+    """Says whether the sum of the toolchain's logic is the one by which all was proved: what it proves hangs on it."""
     found = re.search(rb"\blogic (\w+)", text_of(of_kit("KIT-ID")))
     logic = found[1].decode() if found else "unknown"
     say(f"the sum of the toolchain's logic is {logic}: " + ("it matches" if logic == LOGIC else
