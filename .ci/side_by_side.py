@@ -181,6 +181,7 @@ class Parts:
         self.there, self.running, self.ended, self.not_run = {*given}, {}, [], []
         self.came, self.place = queue.Queue(), tempfile.mkdtemp(prefix="gate-")
         self.made = 0
+        os.chmod(self.place, 0o755)
         os.makedirs(folder, exist_ok=True)
 
     def is_ready(self, part):
@@ -197,10 +198,11 @@ class Parts:
         return others == 0 if filling else others == 0 or others + part.lanes <= self.lanes
 
     def begin(self, part):
-        """Begins a part, in a folder of its own."""
+        """Begins a part, with a folder of its own, which is all users' as /tmp is."""
         self.made += 1
         folder = os.path.join(self.place, str(self.made))
         os.mkdir(folder)
+        os.chmod(folder, 0o1777)
         log = os.path.join(self.folder, part.name.replace(":", "-") + ".log")
         gives_way = any(it.part.fills for it in self.running.values())
         self.output.show(f"{self.output.time()} begun: {part.name}")

@@ -32,12 +32,14 @@ ci)
 esac
 """
 RATTLE = f"""#!/bin/bash
-[[ $* =~ ^build\\ --crate-name\\ ([a-z]+)\\ (.*)\\ -o\\ ([^ ]+)$ ]] || exit 2
+[[ $* =~ ^build\\ --crate-name\\ ([a-z_]+)\\ (.*)\\ -o\\ ([^ ]+)$ ]] || exit 2
 echo "${{BASH_REMATCH[1]}}" >>"$STATES/proved"
+echo "$*" >"$STATES/words"
 [ ! -e "$STATES/fails" ] || {{ echo 'not proved: a goal'; exit 1; }}
 [ ! -e "$STATES/waits" ] || {{ : >"$STATES/waiting"; sleep {SECONDS}; }}
 case "${{BASH_REMATCH[3]}}" in
 *.rlib) mkdir "${{BASH_REMATCH[3]}}" && cksum src/* >"${{BASH_REMATCH[3]}}/format" ;;
+*.a.part) cp src/lib.rt "${{BASH_REMATCH[3]}}" ;;
 *) cp src/main.rt "${{BASH_REMATCH[3]}}" ;;
 esac
 [ -e "$STATES/says_nothing" ] || echo 'logic=proved functions=1'

@@ -31,6 +31,7 @@ class Packages(ToolTest):
         """Runs `.ci/packages` in a folder of its own, where nothing is installed: its status, its lines, and what was
         asked of apt-get."""
         self.write(".ci/packages", text_of(".ci", "packages"), 0o755)
+        self.write("tools/lib/words.sh", text_of("tools", "lib", "words.sh"))
         for name, text in (("bin/apt-get", APT), ("bin/dpkg-query", QUERY), ("bin/sudo", SUDO),
                            ("bin/sleep", "#!/bin/sh\n"), ("log", ""), ("there", "")):
             self.write(name, text, 0o755)

@@ -159,6 +159,77 @@ class ProvedAnew(SmallRepository):
         self.assertEqual(self.proved(), [])
 
 
+class StaticLibrary(SmallRepository):
+    """What .ci/library builds of a crate that is one."""
+
+    def setUp(self):
+        super().setUp()
+        self.write("crates.txt", "low:\nlow_c staticlib: low\napctl: low\n")
+        self.write("crates/low_c/src/lib.rt", "of C\n")
+        self.write("c/liblibc_c.a", "memory\n")
+        self.library = self.path_of("crates/low_c/out/liblow_c.a")
+
+    def builds(self, *proved, words=()):
+        """It ends well, for which these crates alone are proved: what it says."""
+        status, said = self.run_there(".ci/library", *words)
+        self.assertEqual((status, self.proved()), (0, [*proved]), said)
+        self.assertEqual(self.read("small/crates/low_c/out/liblow_c.a"), self.read("small/crates/low_c/src/lib.rt"))
+        return said
+
+    def changed(self, name, text):
+        """A source is newer than the library."""
+        self.write(name, text)
+        later = os.stat(self.library).st_mtime + 5
+        os.utime(self.path_of(name), (later, later))
+
+    def test_one_that_is_missing_or_older_is_built(self):
+        """What is below it is proved where that has changed, as .ci/build does; what is newer is left."""
+        self.builds("low", "low_c")
+        self.assertEqual(self.read("small/crates/low_c/out/liblibc_c.a"), "memory\n")
+        self.builds()
+        self.changed("crates/low_c/src/lib.rt", "of C, two\n")
+        self.builds("low_c", words=("low_c",))
+        os.remove(self.path_of("crates/low_c/src/lib.rt"))
+        self.write("crates/low_c/src/lib.rt", "of C, three\n")
+        self.changed("crates/low/proofs/new.antt", "two\n")
+        self.builds("low", "low_c")
+
+    def test_after_ci_it_is_built_over_what_ci_proved(self):
+        """Anew, and nothing below it is proved; the last line counts."""
+        self.builds("low", "low_c")
+        said = self.builds("low_c", words=("--after-ci",))
+        self.assertIn("1 passed, 0 failed\n", said)
+        rlib = self.path_of("crates/low/out/rlib")
+        self.assertIn(f" --extern low={rlib}/low.rlib ", self.read("states/words"))
+        self.assertIn(f" -L dependency={rlib} ", self.read("states/words"))
+
+    def test_what_is_not_proved_leaves_no_library(self):
+        """Nor an earlier one."""
+        self.builds("low", "low_c")
+        self.state("fails", True)
+        status, said = self.run_there(".ci/library", "--after-ci")
+        self.assertEqual(status, 1)
+        self.assertIn("0 passed, 1 failed\n", said)
+        self.assertIn("not proved: a goal", said)
+        self.assertFalse(os.path.exists(self.library))
+
+    def test_without_a_toolchain(self):
+        """One that stands built does; else that is said."""
+        self.builds("low", "low_c")
+        os.symlink(sys.executable, self.path("python3"))
+        alone = {**self.environment(), "PATH": self.folder}
+        self.assertEqual(run_to_end([self.path_of(".ci/library")], env=alone).returncode, 0)
+        os.remove(self.library)
+        ran = run_to_end([self.path_of(".ci/library")], env=alone)
+        self.assertEqual(ran.returncode, 1)
+        self.assertIn("isn't there, or older than its sources, and there is no command rt to build it", ran.stderr)
+
+    def test_words(self):
+        """A crate that is no static library, and other words."""
+        for words in (("low",), ("--no-such-word",)):
+            self.assertEqual(self.run_there(".ci/library", *words)[0], 2, words)
+
+
 class EarlierProgram(SmallRepository):
     """What becomes of a program that stands built while another is built."""
 

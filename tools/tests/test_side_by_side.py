@@ -125,8 +125,9 @@ class OfEachPart(PartsTest):
         self.assertEqual(self.read("written/one.log"), "one 1\none 2\none 3\n2 passed, 0 failed\n")
 
     def test_folder_and_network_are_its_own(self):
-        """Each has an empty folder that is gone at the end; root's parts have a network each."""
-        look = 'ls -A "$TMPDIR" | grep . || { : >"$TMPDIR/mine"; echo "$TMPDIR" >HERE/NAME; readlink /proc/self/ns/net ' \
+        """Each has an empty folder for all users that is gone at the end; root's parts have a network each."""
+        look = '[ "$(stat -c %a "$TMPDIR" "$TMPDIR/.." | tr -d "\\n")" = 1777755 ] || exit; ' \
+               'ls -A "$TMPDIR" | grep . || { : >"$TMPDIR/mine"; echo "$TMPDIR" >HERE/NAME; readlink /proc/self/ns/net ' \
                ">>HERE/NAME; " + WELL + "; }"
         self.run_parts(*(self.part(name, look.replace("NAME", name)) for name in ("one", "two")))
         self.assertEqual((self.parts.passed(), self.parts.failed()), (4, 0))
