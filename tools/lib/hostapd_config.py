@@ -128,6 +128,9 @@ def written_of(config: Config) -> str:
     channel = config.radio["channel"].value
     interval = number_of(config, config.radio, "beacon_int", "interval", INTERVAL)
     lines = [f"# Made of {config.name}. hostapd.conf says nothing of queue, max_known, quota, max_events and aging.",
+             "# aging = false: what is kept for a station that sleeps waits until it comes, or is forgotten.",
+             "# With hostapd Linux drops it after two listen intervals, and ten seconds at least; `aging = true` would",
+             "# drop it after one.",
              "version = 2", f"channel = {int(channel)}", f"interval = {interval}", f"queue = {QUEUE}"]
     rates = rates_for(config)
     bssids = addresses_of(config)
@@ -140,7 +143,7 @@ def written_of(config: Config) -> str:
                   f"max_stations = {stations}",
                   f"max_known = {min(KNOWN_FOR_A_STATION * stations, NETWORK_LIMITS['max_known'][1])}",
                   f"quota = {QUOTA}", f"max_events = {MOST_EVENTS}", relay.text() if relay else "relay = true",
-                  "aging = true"]
+                  "aging = false"]
     return "\n".join(lines) + "\n"
 
 

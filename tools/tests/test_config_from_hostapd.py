@@ -81,10 +81,16 @@ class FromHostapd(ToolTest):
         self.assertEqual(found, {"version": 2, "channel": 6, "interval": 200, "queue": 64})
         self.assertEqual(guests, {
             "bssid": CHOSEN[0], "ssid": "guests", "rates": "82848b960c1218243048606c", "dtim": 3, "max_stations": 40,
-            "max_known": 160, "quota": 256, "max_events": 1_000_000, "relay": False, "aging": True})
+            "max_known": 160, "quota": 256, "max_events": 1_000_000, "relay": False, "aging": False})
         self.assertEqual([office[key] for key in ("bssid", "ssid", "dtim", "max_stations", "max_known", "relay")],
                          [OFFICE, 'the "office" \\ \u00e4', 2, 2007, 8028, True])
         self.assertEqual([devices[key] for key in ("bssid", "ssid", "dtim", "relay")], [CHOSEN[1], "devices", 1, True])
+
+    def test_aging(self):
+        """No network loses units of a station that sleeps for long; the text says what hostapd does."""
+        written = converted(FILE)[1]
+        self.assertEqual([network["aging"] for network in tomllib.loads(written)["network"]], [False] * 3)
+        self.assertIn("Linux drops it after two listen intervals, and ten seconds at least", written)
 
     def test_each_line_is_told(self):
         """Each line is taken, or told with its number."""
