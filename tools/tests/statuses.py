@@ -100,11 +100,13 @@ def free_port(address="127.0.0.1"):
         return free.getsockname()[1]
 
 
-def answer_of(port, path="/metrics", address="127.0.0.1", method="GET", host=None):
-    """What a server answers to a request, which names this host: the status, the headers, and the text."""
+def answer_of(port, path="/metrics", address="127.0.0.1", method="GET", host=None, site=None):
+    """What a server answers to a request, which names this host, and of which a browser says that it is of this site:
+    the status, the headers, and the text."""
     connection = http.client.HTTPConnection(address, port, timeout=20)
+    named = {"Host": host, "Sec-Fetch-Site": site}
     with contextlib.closing(connection):
-        connection.request(method, path, headers={"Host": host} if host else {})
+        connection.request(method, path, headers={name: value for name, value in named.items() if value is not None})
         answer = connection.getresponse()
         return answer.status, answer.headers, answer.read().decode()
 

@@ -245,9 +245,9 @@ class Serving(unittest.TestCase):
             raise self.told
         return self.told
 
-    def get(self, path, method="GET", host=None):
+    def get(self, path, method="GET", host=None, site=None):
         """Asks for something: the status, the headers, and the text."""
-        return answer_of(self.port, path, method=method, host=host)
+        return answer_of(self.port, path, method=method, host=host, site=site)
 
     def raw(self, octets):
         """Sends octets, and reads until the connection is closed."""
@@ -301,6 +301,23 @@ class Serving(unittest.TestCase):
             answer = self.raw(b"GET /metrics HTTP/1.1\r\n" + head + b"\r\n")
             self.assertTrue(answer.startswith(b"HTTP/1.1 421 "), answer[:60])
         self.assertEqual(self.asked, asked)
+
+    def test_what_a_page_of_another_site_has_a_browser_ask(self):
+        """Nothing is told, the page itself included, and the bridge isn't asked. A request that says nothing is
+        answered."""
+        self.enterContext(mock.patch.object(server, "FRESH_SECONDS", 0))
+        for path in ("/", "/status.json", "/history.json", "/metrics"):
+            for site in ("same-origin", "none", None):
+                self.assertEqual(self.get(path, site=site)[0], 200, (path, site))
+        asked = self.asked
+        for path in ("/", "/status.json", "/history.json", "/metrics", "/none"):
+            for site in ("cross-site", "same-site", "", "Same-Origin", "same-origin, cross-site"):
+                status, _, text = self.get(path, site=site)
+                self.assertEqual((status, text.partition(" ")[0]), (403, "403"), (path, site))
+        head = b"Host: localhost\r\nSec-Fetch-Site: none\r\nSec-Fetch-Site: cross-site\r\n"
+        answer = self.raw(b"GET / HTTP/1.1\r\n" + head + b"\r\n")
+        self.assertTrue(answer.startswith(b"HTTP/1.1 403 "), answer[:60])
+        self.assertEqual((asked, self.asked), (6, 6))
 
     def test_each_answer_keeps_a_browser_from_what_is_not_of_here(self):
         for path, status in (("/", 200), ("/status.json", 200), ("/metrics", 200), ("/none", 404)):

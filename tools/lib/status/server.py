@@ -1,8 +1,9 @@
 """The server: a page, the status document as JSON and in the text format of Prometheus, and the last ten minutes.
 
 It listens at one address, 127.0.0.1 unless another one is asked for, and reads only. It answers requests alone that name
-that address, or a name that was given, as their host: a page of elsewhere, whose name leads here, is told nothing.
-Requests are bounded in number, length and time. What it serves everybody can read who reaches that address.
+that address, or a name that was given, as their host: a page of elsewhere, whose name leads here, is told nothing. Nor
+is a request answered of which a browser says that a page of another site has it made. Requests are bounded in number,
+length and time. What it serves everybody can read who reaches that address.
 """
 import hashlib
 import io
@@ -32,6 +33,9 @@ FRESH_SECONDS = 0.5  # so long an answer serves whoever asks
 MOST_PART = 0.02  # of the time is taken by asking for the history, where an access point of many stations answers slowly
 END_OF_HEAD = re.compile(rb"\n\r?\n")
 ALLOWED = ("GET", "HEAD")
+# By this header a browser says who has it make a request (W3C, Fetch Metadata Request Headers): the page itself, or the
+# person. It leaves it out where it speaks plain HTTP to another address than its own machine's.
+SITE, OWN_SITES = "Sec-Fetch-Site", ("same-origin", "none")
 PLAIN, JSON, HTML = "text/plain; charset=utf-8", "application/json", "text/html; charset=utf-8"
 # How a browser shall take each answer: from here alone, as what it is called, and kept nowhere.
 FIXED_HEADERS = {"Connection": "close", "Cache-Control": "no-store", "X-Content-Type-Options": "nosniff",
@@ -110,6 +114,8 @@ class Handler(BaseHTTPRequestHandler):
         endpoint = self.server.endpoint
         if len(hosts) != 1 or not endpoint.answers(hosts[0].strip()):
             self.send_error(HTTPStatus.MISDIRECTED_REQUEST, f"ask for {' or '.join(endpoint.hosts)}")
+        elif any(site.strip() not in OWN_SITES for site in self.headers.get_all(SITE, [])):
+            self.send_error(HTTPStatus.FORBIDDEN, "a page of another site asked for this: write the address yourself")
         elif self.command not in ALLOWED:
             self.send_error(HTTPStatus.METHOD_NOT_ALLOWED)
         elif self.path.partition("?")[0] == "/":
