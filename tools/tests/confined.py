@@ -257,7 +257,7 @@ def main():
     ended.set()
     attacker.join()
     found |= {"left": [name for name, path in (("bridge", bridge), ("program", program)) if process_of(path)],
-              "log": read(os.path.join(folder, "log")), "made": os.listdir(os.path.join(folder, "run")),
+              "log": read(os.path.join(folder, "log")), "made": sorted(os.listdir(os.path.join(folder, "run"))),
               "record": oct(os.stat(os.path.join(folder, "record")).st_mode & 0o777)}
     print(json.dumps(found))
 

@@ -149,7 +149,7 @@ def main():
         thread.join()
     else:
         case.outcome["fault"] = fault
-    print(json.dumps(case.outcome | {"log": read(case.log), "made": os.listdir(os.path.join(folder, "run"))}))
+    print(json.dumps(case.outcome | {"log": read(case.log), "made": sorted(os.listdir(os.path.join(folder, "run")))}))
 
 
 if __name__ == "__main__":

@@ -76,7 +76,7 @@ class Machine(OnMachine):
         made, taken_back, _ = self.changed(self.plan())
         self.assertEqual(made, self.RADIO)
         self.assertEqual(taken_back, ["iw dev mon0n2 del", "iw dev mon0n1 del", "iw dev mon0 del"])
-        self.assertEqual(os.listdir(self.folder), ["phy9.lock"])
+        self.assertEqual(sorted(os.listdir(self.folder)), ["phy9.held", "phy9.lock"])
 
     def test_ways(self):
         """The interfaces of networks are of the kind that the plan names; each that isn't of that kind is set up anew."""
@@ -190,7 +190,7 @@ class Machine(OnMachine):
         self.assertEqual((made[0], taken_back[-1]), ("reload, True", "reload, False"))
         self.assertEqual(written, ["[device-waltigon-mon0]\nmatch-device=interface-name:mon0*,interface-name:wlan3\n"
                                    "managed=0\n"])
-        self.assertEqual(os.listdir(self.folder), ["phy9.lock"])
+        self.assertEqual(sorted(os.listdir(self.folder)), ["phy9.held", "phy9.lock"])
 
     def test_network_manager_without_a_place(self):
         """Where the file can't be written that is told, and stations are served all the same."""
@@ -335,7 +335,7 @@ class HandedOn(OnMachine):
             "iw dev mon0n2 del", "iw dev mon0n1 del", "iw dev mon0 del", "ip link set nowire1 down",
             "ethtool -K nowire1 gro on", "iw reg set 00"])
         self.assertIn("going on with what the start before for phy9 has left: mon0, mon0n1, mon0n2", told)
-        self.assertEqual(os.listdir(self.folder), ["phy9.lock"])
+        self.assertEqual(sorted(os.listdir(self.folder)), ["phy9.held", "phy9.lock"])
 
     def test_goes_on_twice(self):
         """Each start may leave all for the next."""
@@ -377,7 +377,7 @@ class HandedOn(OnMachine):
             self.assertIn(f"iw dev {wanted.monitor} del", ended)
             self.assertNotIn("going on with", told)
             self.assertRegex(told, "an earlier start for phy9 (was killed|left its radio set up in another way); taking back")
-            self.assertEqual(os.listdir(self.folder), ["phy9.lock"])
+            self.assertEqual(sorted(os.listdir(self.folder)), ["phy9.held", "phy9.lock"])
 
     def test_fault_before_it_is_set_up(self):
         """What was handed on is taken back where the next start ends before it goes on with it."""
@@ -1145,7 +1145,7 @@ class Running(WithFiles):
         self.assertRegex(self.told.getvalue(), "^live: 1 networks are on channel 6, by active monitor interfaces; Ctrl-C ends it, .*\nlive: the program "
                                                "ended with status 0; taking down what was set up\n$")
         self.assertEqual(len(self.followed), 1)
-        self.assertEqual(self.left(), ["phy0.lock"])
+        self.assertEqual(self.left(), ["phy0.held", "phy0.lock"])
 
     def test_ends_for_the_next_start(self):
         """Where PHY.stay is there what it set up is left, with the state of stations; the next start takes that file away."""
@@ -1155,9 +1155,9 @@ class Running(WithFiles):
         self.run_bridge(later)
         self.assertIn("; all stays as it is set up, for the next start\n", self.told.getvalue())
         self.assertEqual(self.read("phy0.stay"), "2 active-monitors 2437\n")
-        self.assertEqual(self.left(), ["phy0.lock", "phy0.state.0", "phy0.state.1", "phy0.stay"])
+        self.assertEqual(self.left(), ["phy0.held", "phy0.lock", "phy0.state.0", "phy0.state.1", "phy0.stay"])
         self.run_bridge(self.end)
-        self.assertEqual(self.left(), ["phy0.lock"])
+        self.assertEqual(self.left(), ["phy0.held", "phy0.lock"])
 
     def test_ends_by_a_fault(self):
         """Then all is taken down, whoever asks for what."""
@@ -1343,7 +1343,7 @@ class Running(WithFiles):
                         modes[name] = os.stat(self.path(name)).st_mode & 0o777
                 self.end()
             self.run_bridge(later)
-            self.assertLessEqual({"phy0.lock", "phy0.run", "phy0.state.0"}, set(modes))
+            self.assertLessEqual({"phy0.held", "phy0.lock", "phy0.run", "phy0.state.0"}, set(modes))
             self.assertEqual({name: mode for name, mode in modes.items() if mode & 0o022}, {}, oct(mask))
             os.umask(before)
 

@@ -47,7 +47,7 @@ class Confined(ToolTest):
         done = run_to_end(words, timeout=120)
         self.assertEqual(done.returncode, 0, done.stderr)
         found = json.loads(done.stdout)
-        self.assertEqual((found["left"], found["made"]), ([], ["phy0.lock"]), found["log"])
+        self.assertEqual((found["left"], found["made"]), ([], ["phy0.held", "phy0.lock"]), found["log"])
         return found
 
     def test_rights(self):

@@ -33,7 +33,7 @@ class Staying(ToolTest):
         found = json.loads(done.stdout)
         log = found.pop("log")
         self.assertNotIn("fault", found, log)
-        self.assertEqual(found.pop("made"), ["phy0.lock"])
+        self.assertEqual(found.pop("made"), ["phy0.held", "phy0.lock"])
         same, gone = {OURS: STAY, OTHER: [FIFTH]}, {OURS: STAY, OTHER: []}
         wanted = {"joined": (same, []), "killed 2": (same, []), "killed 3": (same, []), "nothing": (same, []),
                   "name": (gone, [[ALL, OTHER]]),

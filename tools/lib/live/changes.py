@@ -1,6 +1,5 @@
 """What is changed on this machine, each with how it is taken back; and the file under /run by which a start knows what
 an earlier one left that was killed."""
-import fcntl
 import json
 import os
 import shutil
@@ -11,6 +10,7 @@ from dataclasses import astuple, dataclass
 import called
 from live import machine
 from live.faults import Fault
+from live.locks import Lock
 from live.machine import Interface
 from live.telling import WARNING, tell
 
@@ -96,7 +96,7 @@ def reload_network_manager() -> None:
 
 class Changes:
     """The changes for one radio, as the file PHY.made lists them: each before it is made, and until it is taken back.
-    So the next start finds all that one left that was killed. PHY.lock is locked as long as one runs.
+    So the next start finds all that one left that was killed. It has the radio's lock as long as it runs.
 
     Where the file PHY.stay is there when a start ends, nothing is taken back: the next start goes on with it. The one that
     ends writes into that file how the radio is set up, and the next one takes the file away."""
@@ -111,14 +111,9 @@ class Changes:
         self.handed: list[Change] = []  # made by the start before, and not taken over yet
         try:
             os.makedirs(folder, exist_ok=True)
-            self.lock = open(os.path.join(folder, f"{phy}.lock"), "a", encoding="ascii")
         except OSError as fault:
             raise Fault(f"{folder}: {fault.strerror}") from None
-        try:
-            fcntl.flock(self.lock, fcntl.LOCK_EX | fcntl.LOCK_NB)
-        except OSError:
-            self.close()
-            raise Fault(f"{phy}: another {called.fellow('live')} serves this radio") from None
+        self.lock = Lock(folder, phy)
         try:
             self.left = read_changes(self.path)
             self.handed_on = self.take_away_stay()

@@ -9,11 +9,11 @@ from contextlib import ExitStack, suppress
 from live import asking, changes
 from live.checks import Wanted, check_config
 from live.faults import Fault
+from live.processes import start_of
 
 SECONDS = 60.0
 LOOK_SECONDS = 0.05
 MODE = 0o600
-STARTED = 19  # its place behind the name in /proc/PID/stat (proc(5))
 
 
 def run_path(phy: str) -> str:
@@ -51,12 +51,6 @@ class RunFile:
         """Takes it away."""
         with suppress(FileNotFoundError):
             os.unlink(self.path)
-
-
-def start_of(process: int) -> int:
-    """When a process began, in ticks since the machine did: with its number that is one process alone."""
-    with open(f"/proc/{process}/stat", encoding="utf-8", errors="replace") as file:
-        return int(file.read().rpartition(")")[2].split()[STARTED])
 
 
 def read_run(phy: str) -> dict:
