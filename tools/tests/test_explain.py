@@ -7,6 +7,7 @@ import subprocess
 import tomllib
 import zlib
 from collections import Counter
+from unittest import mock
 
 import mistakes
 import mistakes_by_cause
@@ -361,6 +362,20 @@ class Mistakes(ToolTest):
             self.assertEqual("use `live`" in found, said == "fault memory")
         self.assertNotIn("use `live`", self.run_tool(*program, "fault memory", "live", "my.toml")[1])
         self.assertEqual(whole.explain_config(self.path("wrong.toml"), "fault C1")[0], "fault C1")
+
+    def test_a_configuration_that_is_too_long_to_be_explained_at_once(self):
+        """Where somebody waits for it the fault of a long text, or of one with a long line, stands alone."""
+        head, path = "version = 2\nchannel = 6\n", self.path("long.toml")
+        for text in (head + "x" * 10_000 + "\n", head + "a." * 5_000 + "b = 1\n", head + "a=" * 5_000,
+                     head + "".join(f"key{number} = {number}\n" for number in range(2_000)), head + "#" * 1_001):
+            self.write("long.toml", text.encode())
+            with self.subTest(text=text[20:60]), mock.patch.object(whole, "explain") as explained:
+                self.assertEqual(whole.explain_config(path, "fault C1"),
+                                 ["fault C1", f"`tools/explain --said 'fault C1' check {path}` looks for the reason"])
+                explained.assert_not_called()
+        for text in ("#" * 1_000 + "\n" + "x\n", ("#" * 15 + "\n") * 1_023 + "x" * 16):
+            self.write("long.toml", text.encode())
+            self.assertIn(":1", whole.explain_config(path, "fault C1")[1])
 
     def test_a_network_refuses_a_line(self):
         """Memory that ran out for a line or record is told with the network that refused it, and else is no fault."""

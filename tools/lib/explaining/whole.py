@@ -17,6 +17,9 @@ from explaining.toml_scan import NoToml
 from texts import TextError
 
 SEPARATOR = b"---"
+# A configuration that has more octets, or more in a line, isn't explained where somebody waits for it: that may take a
+# time that grows with the square of a text's length.
+MOST_OCTETS, MOST_IN_LINE = 16_384, 1_000
 STANDARD_INPUT, ENDED_WELL = "standard input", "the program ended well"
 # How many faults of lines are looked at, how many causes are told of them, and how many numbers behind each.
 MOST_LIVE_FAULTS, MOST_LIVE_GROUPS, MOST_NUMBERS = 200, 5, 10
@@ -321,9 +324,26 @@ def numbers_text(what: str, faults: list[Fault]) -> str:
 
 
 def explain_config(name: str, said: str) -> list[str]:
-    """What is said of a configuration's file in which the program found this fault: for who ran it already."""
+    """What is said of a configuration's file in which the program found this fault: for who ran it already, and waits
+    for it. Of a long text the fault stands alone."""
     answer = said_already(said)
-    return [said] if answer.fault is None else explain(texts_of(["check", name], None), answer)
+    if answer.fault is None:
+        return [said]
+    return explain(texts_of(["check", name], None), answer) if is_short(name) else unexplained(name, said)
+
+
+def unexplained(name: str, said: str) -> list[str]:
+    """A fault that isn't explained in the time that there is, and what explains it."""
+    return [said, f"`{called.fellow('explain')} {shlex.join(['--said', said, 'check', name])}` looks for the reason"]
+
+
+def is_short(name: str) -> bool:
+    """Whether a file has no more than what may be explained in little time."""
+    if not os.path.isfile(name):
+        return True
+    with open(name, "rb") as file:
+        text = file.read(MOST_OCTETS + 1)
+    return len(text) <= MOST_OCTETS and all(len(line) <= MOST_IN_LINE for line in text.split(b"\n"))
 
 
 def is_joined_file(name: str) -> bool:

@@ -8,10 +8,11 @@ from contextlib import ExitStack
 from dataclasses import dataclass
 
 import called
-from explaining.whole import explain_config
+from explaining.whole import explain_config, unexplained
 from frames import address_of, address_text
 from live import changes, machine
 from live.changes import Change, Changes
+from live.children import text_of_child
 from live.faults import Fault
 from live.machine import Interface
 from live.other_programs import advice, in_the_way
@@ -27,6 +28,9 @@ Shares = tuple[tuple[bytes, int], ...]
 MOST_WEIGHT = 16
 MOST_NAME = 15
 COUNTRY_SECONDS = 3.0
+# For the program to read a configuration, which takes it some milliseconds, and to explain one that has a fault: the
+# watchdog is told nothing meanwhile.
+PROGRAM_SECONDS, EXPLAIN_SECONDS = 5.0, 1.0
 SET_UP = 2  # the number of the way in which `setting_up` sets up a radio; another way has another number
 # Of a checkout of the source; an installation has none.
 MAKEFILE = os.path.join(os.path.dirname(os.path.realpath(__file__)), "..", "..", "..", "Makefile")
@@ -162,13 +166,22 @@ def check_program(program: str) -> None:
 def check_config(program: str, config: str) -> Settings:
     """The program has to find no fault in the configuration."""
     try:
-        done = subprocess.run([program, "check", config], capture_output=True, text=True, check=False)
+        done = subprocess.run([program, "check", config], capture_output=True, text=True, check=False,
+                              timeout=PROGRAM_SECONDS)
     except OSError as fault:
         raise Fault(f"{program} can't be run: {fault.strerror}") from None
+    except subprocess.TimeoutExpired:
+        raise Fault(f"{config}: the program hasn't read it within {PROGRAM_SECONDS:.0f} seconds") from None
     if done.returncode != 0:
-        said, *reasons = explain_config(config, done.stderr.strip())
-        raise Fault("\n".join([f"{config}: {said}", *reasons]))
+        raise Fault(f"{config}: {explained(config, done.stderr.strip())}")
     return read_settings(config)
+
+
+def explained(config: str, said: str) -> str:
+    """What the program said of a configuration, and what it means: that is found by a child, which can't keep this process
+    for longer than a second."""
+    found = text_of_child(lambda: "\n".join(explain_config(config, said)), EXPLAIN_SECONDS)
+    return "\n".join(unexplained(config, said)) if found is None else found
 
 
 def wire_of(text: str) -> tuple[bytes, str]:
