@@ -23,8 +23,9 @@ from unittest import mock
 from common import TOOLS, ToolTest, run_to_end, text_of, tool, wait_until
 from configurations import ONE_NETWORK
 from frames import address_of, address_text
-from live import (asking, changes, checks, machine, recording, rights, running, serving, setting_up, showing,
+from live import (asking, changes, checks, children, machine, recording, rights, running, serving, setting_up, showing,
                   state_files, telling, wires)
+from live import bridge as bridge_of
 from live import page as page_of
 from live.bridge import Bridge, FaultCode, Signals, words_of
 from live.changes import Change, Changes
@@ -547,6 +548,31 @@ class FilesAndPrograms(WithFiles):
         wanted = Wanted("", "", "", "phy0", "mon0", (), self.path("none", "record"), None)
         with self.assertRaisesRegex(Fault, "its folder isn't there"):
             check_record(wanted, read_settings(self.config))
+
+    def test_configuration_that_takes_long(self):
+        """To read and to explain one takes a bounded time: whoever reads it again has stations meanwhile."""
+        refusing = self.write("refusing", "#!/bin/sh\necho fault C4 >&2\nexit 1\n", 0o755)
+        slow = self.write("slow", "#!/bin/sh\nexec sleep 60\n", 0o755)
+        began = time.monotonic()
+        self.patch((checks, "PROGRAM_SECONDS", 0.2))
+        with self.assertRaisesRegex(Fault, "radio.toml: the program hasn't read it within 0 seconds$"):
+            check_config(slow, self.config)
+        self.patch((checks, "PROGRAM_SECONDS", 60), (checks, "EXPLAIN_SECONDS", 0.2))
+        fails = (mock.Mock(side_effect=fault) for fault in (RecursionError, MemoryError))
+        for explain in (lambda *_: time.sleep(60), *fails):
+            self.patch((checks, "explain_config", explain))
+            with self.assertRaisesRegex(Fault, "radio.toml: fault C4\n`tools/explain --said 'fault C4' check .*`"):
+                check_config(refusing, self.config)
+        self.assertLess(time.monotonic() - began, 30)
+
+    def test_explained_by_a_child(self):
+        """A long text comes whole; where no child can begin nothing comes, and nothing is left open."""
+        before = os.listdir("/proc/self/fd")
+        text = "\udcff\u00e4\n" * 100_000
+        self.assertEqual(children.text_of_child(lambda: text, 60), text)
+        with mock.patch.object(os, "fork", side_effect=BlockingIOError):
+            self.assertIsNone(children.text_of_child(lambda: text, 60))
+        self.assertEqual(os.listdir("/proc/self/fd"), before)
 
     def test_record_that_run_does_not_read_whole(self):
         """It is told where `max_events` ends it; a record that is there is no fault."""
@@ -1185,6 +1211,33 @@ class Running(WithFiles):
         self.assertEqual(self.outcomes, [None])
         self.assertIn(" --sends ", self.read("words"))
 
+    def test_watchdog_while_a_reload_waits(self):
+        """A manager of services that hears nothing for some seconds would end all: it is told again and again that all
+        is well, while stations are told to join again and while the bridge before ends."""
+        told, words = [], {"NOTIFY_SOCKET": self.path("notify"), "WATCHDOG_USEC": "1", "WATCHDOG_PID": str(os.getpid())}
+        dismisses = "[ \"$request\" != 'dismiss 0' ] || { sleep 1; echo dismissed; }"
+        does = f"[ \"$request\" != open ] || {{ echo sending; }}; {dismisses}"
+        self.patch((bridge_of, "MEANWHILE_SECONDS", 0.05))
+        with socket.socket(socket.AF_UNIX, socket.SOCK_DGRAM) as manager, mock.patch.dict(os.environ, words):
+            manager.bind(self.path("notify"))
+            hears = threading.Thread(target=lambda: told.extend(iter(lambda: manager.recv(200), b"end")))
+            hears.start()
+            try:
+                self.run_bridge(self.reload_and_end, does=does, after=self.once("third", "sleep 1"))
+            finally:
+                manager.sendto(b"end", self.path("notify"))
+                hears.join()
+        self.assertEqual(self.outcomes, [None])
+        begins, ends = (next(place for place, line in enumerate(told) if line.startswith(word)) for word in (
+            b"RELOADING=1", b"STOPPING=1"))
+        self.assertGreater(told[begins:ends].count(b"WATCHDOG=1"), 10)
+
+    def reload_and_end(self):
+        """The configuration is another one, and is read again; then all ends."""
+        self.write("radio.toml", ONE_NETWORK.replace("channel = 6", "channel = 11"))
+        os.kill(os.getpid(), signal.SIGHUP)
+        self.end_once(lambda: self.outcomes)
+
     def test_reloads_leave_no_descriptors(self):
         """However often the configuration is read again, as many are open as before."""
         self.assertEqual(self.reload_four_times(), [None] * 4)
@@ -1444,6 +1497,18 @@ class Running(WithFiles):
         timer.join()
         self.assertFalse(bridge.is_ready or bridge.has_to_go_on())
         bridge.end()
+
+    def test_networks_that_are_not_open_in_time(self):
+        """That is a fault; whoever counts on hearing of it is told meanwhile, again and again."""
+        path = self.write("slow", "#!/bin/bash\nread -r nothing\nexit 0\n", 0o755)
+        self.patch((bridge_of, "SECONDS_TO_BEGIN", 1), (bridge_of, "MEANWHILE_SECONDS", 0.05))
+        meanwhile = mock.Mock()
+        bridge = Bridge([path], Signals(self.stack), self.stack, meanwhile=meanwhile)
+        bridge.await_networks()
+        self.assertGreater(meanwhile.call_count, 5)
+        self.assertFalse(bridge.has_to_go_on())
+        with self.assertRaisesRegex(Fault, "^the program hasn't opened its networks within 1 seconds$"):
+            bridge.end()
 
     def test_bridge_that_is_not_there(self):
         """It is told how it is built, which packages that takes, and where to build it for an installation."""

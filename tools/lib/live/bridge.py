@@ -4,7 +4,7 @@ import signal
 import socket
 import subprocess
 import time
-from collections.abc import Iterable
+from collections.abc import Callable, Iterable
 from contextlib import ExitStack, suppress
 from enum import IntEnum
 from typing import Protocol
@@ -17,7 +17,8 @@ from live.rights import Rights, end
 from live.settings import Network
 from live.telling import tell
 
-SECONDS_TO_END, SECONDS_TO_DISMISS = 60, 5
+SECONDS_TO_BEGIN, SECONDS_TO_END, SECONDS_TO_DISMISS = 60, 60, 5
+MEANWHILE_SECONDS = 1.0  # how often is told, while one waits for it for so long, that this is no fault
 FIRST = ("nice", "-n", "-15")  # before this machine's other programs: stations wait for what these two send
 ENDING = (signal.SIGINT, signal.SIGTERM)
 MOST_OCTETS = 4096  # of a line that it tells, and of a piece that is read
@@ -123,11 +124,12 @@ def words_of(wanted: Wanted, plan: Plan, descriptor: int, record: tuple[int, str
 
 class Bridge:
     """tools/bridge with its program, in a group of its own, so that Ctrl-C in a terminal doesn't end it, scheduled before
-    other programs, and then with fewer rights. It is spoken to by a Unix socket, its standard input and output."""
+    other programs, and then with fewer rights. It is spoken to by a Unix socket, its standard input and output. While
+    one waits for it, `meanwhile` is called again and again."""
 
     def __init__(self, words: list[str], signals: Signals, stack: ExitStack, descriptors: tuple[int, ...] = (),
-                 rights: Rights = Rights()) -> None:
-        self.signals, self.rights = signals, rights
+                 rights: Rights = Rights(), meanwhile: Callable[[], None] = lambda: None) -> None:
+        self.signals, self.rights, self.meanwhile = signals, rights, meanwhile
         self.notices = b""
         self.is_ready = self.is_sending = self.is_over = self.was_dismissed = False
         self.alive = 0  # how often it told that the program answers
@@ -234,25 +236,29 @@ class Bridge:
         """Whether neither a signal nor a fault ended it."""
         return not (self.signals.is_ending or self.is_over or self.fault)
 
+    def await_that(self, is_so: Callable[[], bool], seconds: float) -> None:
+        """Waits until something is so, or it has ended; for so many seconds at most."""
+        until = time.monotonic() + seconds
+        while not (self.is_over or is_so()) and (left := until - time.monotonic()) > 0:
+            self.meanwhile()
+            self.wait(min(left, MEANWHILE_SECONDS))
+
     def await_networks(self) -> None:
-        """Waits until the program's networks are open."""
-        while self.has_to_go_on() and not self.is_ready:
-            self.wait(None)
+        """Waits until the program's networks are open; where they aren't in time, that is a fault."""
+        self.await_that(lambda: self.is_ready or not self.has_to_go_on(), SECONDS_TO_BEGIN)
+        if self.has_to_go_on() and not self.is_ready:
+            self.fault = f"the program hasn't opened its networks within {SECONDS_TO_BEGIN} seconds"
 
     def dismiss(self, places: list[int]) -> None:
         """Has all stations of the networks of these places told that they have to join again."""
         self.ask(" ".join((DISMISS, *map(str, places))))
-        until = time.monotonic() + SECONDS_TO_DISMISS
-        while not (self.was_dismissed or self.is_over or self.fault) and time.monotonic() < until:
-            self.wait(until - time.monotonic())
+        self.await_that(lambda: self.was_dismissed or self.fault is not None, SECONDS_TO_DISMISS)
 
     def await_end(self) -> int:
         """Waits until it has ended, which it is asked for; its status."""
         with suppress(OSError):
             self.control.shutdown(socket.SHUT_WR)
-        until = time.monotonic() + SECONDS_TO_END
-        while not self.is_over and time.monotonic() < until:
-            self.wait(until - time.monotonic())
+        self.await_that(lambda: False, SECONDS_TO_END)
         if not self.is_over:
             self.send_kill()
         self.is_over = True

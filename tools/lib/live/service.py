@@ -1,5 +1,5 @@
 """The manager of services that started this program, where one did (sd_notify(3)): it is told when stations are served,
-and that lines are still answered."""
+and that all is well."""
 import os
 import socket
 import time
@@ -40,6 +40,7 @@ class Service:
         self.tell("STOPPING=1")
 
     def alive(self) -> None:
-        """The program has answered the last beginning of a beacon interval."""
+        """All is well: the program has answered the last beginning of a beacon interval, or one waits for something
+        that takes a bounded time."""
         if self.watches:
             self.tell("WATCHDOG=1")

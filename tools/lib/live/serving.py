@@ -70,7 +70,7 @@ class AccessPoint:
         sends = self.sends_as == (plan.settings.frequency, plan.way)
         words = words_of(self.wanted, plan, handed[0], record, tells_alive, memory, sends)
         try:
-            return Bridge(words, self.signals, self.stack, tuple(handed), self.rights)
+            return Bridge(words, self.signals, self.stack, tuple(handed), self.rights, self.service.alive)
         finally:
             if record is not None:
                 os.close(record[0])
@@ -215,8 +215,9 @@ class AccessPoint:
     def reload(self) -> None:
         """Reads the configuration again: where it has a fault, or the program doesn't take it, all stays as it is; else
         the program starts anew. Stations of networks that are others now, or gone, are told to join again; all others
-        notice nothing."""
+        notice nothing. The manager of services is told meanwhile that all is well: each step's time is bounded."""
         self.service.reloading()
+        self.service.alive()
         tell(f"reading {self.wanted.config} again")
         before = self.stamp
         try:
@@ -240,6 +241,7 @@ class AccessPoint:
             predecessor.end("it begins anew")
         except Fault as fault:
             tell(str(fault), WARNING)
+        self.service.alive()
         self.open()
         self.told.reloaded(None)
 
