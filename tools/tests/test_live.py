@@ -174,6 +174,77 @@ class Machine(OnMachine):
         with mock.patch.object(machine, "run", lambda *words: said):
             self.assertEqual(machine.country(), "DE")
 
+    def start_with_country(self, phy, country):
+        """The access point of a radio begins with this country: what it has changed, and what takes it back."""
+        made, stack = Changes(phy, self.folder), ExitStack()
+        self.addCleanup(made.close)
+        stack.callback(made.close)
+        set_country(country, made, stack)
+        return made, stack
+
+    def use_country(self, country):
+        """The kernel keeps to the country that was set."""
+        held = [country]
+
+        def run(*words):
+            if words[:3] == ("iw", "reg", "set"):
+                held[0] = words[3]
+            return self.run_command(*words)
+        self.patch((machine, "run", run), (machine, "country", lambda: held[0]))
+
+    def countries_of_two(self, first, second, is_first_kept):
+        """The countries that hold where two radios begin, once one of them has ended, and once both have."""
+        self.use_country("00")
+        stacks = [self.start_with_country(phy, country)[1] for phy, country in (("phy0", first), ("phy1", second))]
+        found = [machine.country()]
+        for stack in reversed(stacks) if is_first_kept else stacks:
+            stack.close()
+            found.append(machine.country())
+        self.assertEqual([name for name in os.listdir(self.folder) if name.endswith(".made")], [])
+        return found
+
+    def test_country_of_two_radios(self):
+        """It stays as long as one of them serves by it, and the last one sets back what held before both."""
+        for is_first_kept in (False, True):
+            self.assertEqual(self.countries_of_two("DE", "DE", is_first_kept), ["DE", "DE", "00"])
+        self.assertEqual(self.commands, ["iw reg set DE", "iw reg set 00"] * 2)
+
+    def test_two_countries(self):
+        """The one of who goes on holds then."""
+        self.assertEqual(self.countries_of_two("DE", "US", False), ["US", "US", "00"])
+        self.assertEqual(self.countries_of_two("DE", "US", True), ["US", "DE", "00"])
+
+    def test_country_that_somebody_else_has_set(self):
+        """It stays, whoever of the radios begins and ends."""
+        self.use_country("DE")
+        for phy in ("phy0", "phy1"):
+            self.start_with_country(phy, "DE")[1].close()
+        self.assertEqual(self.commands, [])
+
+    def test_country_while_the_other_was_killed(self):
+        """What that one left is taken back by its next start, but not while this one serves by it."""
+        self.use_country("00")
+        killed, _ = self.start_with_country("phy0", "DE")
+        _, stack = self.start_with_country("phy1", "DE")
+        killed.close()
+        again = Changes("phy0", self.folder)
+        self.addCleanup(again.close)
+        with contextlib.redirect_stderr(io.StringIO()):
+            again.take_back_left()
+        self.assertEqual(self.commands, ["iw reg set DE"])
+        stack.close()
+        self.assertEqual(self.commands, ["iw reg set DE", "iw reg set 00"])
+
+    def test_country_beside_an_earlier_version(self):
+        """That one lists no more than what held before it: the country stays while it serves."""
+        self.use_country("DE")
+        self.write("phy0.made", json.dumps([[changes.COUNTRY, "00", []]]))
+        self.start_with_country("phy1", "DE")[1].close()
+        self.assertEqual(self.commands, [])
+        self.write("phy0.made", "{")
+        self.start_with_country("phy1", "US")[1].close()
+        self.assertEqual(self.commands, ["iw reg set US", "iw reg set DE"])
+
     def test_network_manager(self):
         """It is told to leave these interfaces alone, and the radio's other ones, before one is made, and in the end no more;
         the file is there whether it runs or not."""
@@ -336,7 +407,7 @@ class HandedOn(OnMachine):
             "iw dev mon0n2 del", "iw dev mon0n1 del", "iw dev mon0 del", "ip link set nowire1 down",
             "ethtool -K nowire1 gro on", "iw reg set 00"])
         self.assertIn("going on with what the start before for phy9 has left: mon0, mon0n1, mon0n2", told)
-        self.assertEqual(sorted(os.listdir(self.folder)), ["phy9.held", "phy9.lock"])
+        self.assertEqual(sorted(os.listdir(self.folder)), [".country", "phy9.held", "phy9.lock"])
 
     def test_goes_on_twice(self):
         """Each start may leave all for the next."""
@@ -378,7 +449,7 @@ class HandedOn(OnMachine):
             self.assertIn(f"iw dev {wanted.monitor} del", ended)
             self.assertNotIn("going on with", told)
             self.assertRegex(told, "an earlier start for phy9 (was killed|left its radio set up in another way); taking back")
-            self.assertEqual(sorted(os.listdir(self.folder)), ["phy9.held", "phy9.lock"])
+            self.assertEqual(sorted(os.listdir(self.folder)), [".country", "phy9.held", "phy9.lock"])
 
     def test_fault_before_it_is_set_up(self):
         """What was handed on is taken back where the next start ends before it goes on with it."""

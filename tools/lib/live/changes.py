@@ -1,16 +1,19 @@
 """What is changed on this machine, each with how it is taken back; and the file under /run by which a start knows what
 an earlier one left that was killed."""
+import fcntl
+import glob
 import json
 import os
 import shutil
 import subprocess
-from contextlib import suppress
+from collections.abc import Iterator
+from contextlib import AbstractContextManager, contextmanager, nullcontext, suppress
 from dataclasses import astuple, dataclass
 
 import called
 from live import machine
 from live.faults import Fault
-from live.locks import Lock
+from live.locks import FLAGS, MODE, Lock
 from live.machine import Interface
 from live.telling import WARNING, tell
 
@@ -19,11 +22,13 @@ INTERFACE, OFFLOADS, UP, ADDRESS_MODE, UNMANAGED, COUNTRY = (
     "interface", "offloads", "up", "address mode", "unmanaged", "country")
 
 OF_WIRES = (OFFLOADS, UP, ADDRESS_MODE)
+COUNTRY_LOCK = ".country"  # a file beside those of the radios
 
 
 @dataclass(frozen=True)
 class Change:
-    """A change of this kind to what has this name."""
+    """A change of this kind to what has this name. That of the country has the name of the one before, and then its
+    own."""
 
     kind: str
     name: str
@@ -102,7 +107,7 @@ class Changes:
     ends writes into that file how the radio is set up, and the next one takes the file away."""
 
     def __init__(self, phy: str, folder: str = "") -> None:
-        folder = folder or RUN
+        self.folder = folder = folder or RUN
         self.phy = phy
         self.path = os.path.join(folder, f"{phy}.made")
         self.made: list[Change] = []
@@ -195,8 +200,15 @@ class Changes:
         """Takes one back, but where the next start goes on with it."""
         if self.hands_on:
             return
-        change.take_back()
-        self.forget(change)
+        self.undo(change, self.made)
+
+    def undo(self, change: Change, found: list[Change]) -> None:
+        """Takes one of a list back, and out of that list."""
+        nobody: AbstractContextManager[list[Change]] = nullcontext([])
+        with self.countries() if change.kind == COUNTRY else nobody as others:
+            take_back(change, others)
+            found.remove(change)
+            self.write()
 
     def forget(self, change: Change) -> None:
         """It was taken back, or not made."""
@@ -222,6 +234,37 @@ class Changes:
             why = "left its radio set up in another way" if self.handed_on else "was killed"
             tell(f"an earlier start for {self.phy} {why}; taking back what it left: {names}")
         for change in left:
-            change.take_back()
+            self.undo(change, self.left)
         self.left = []
         self.write()
+
+    @contextmanager
+    def countries(self) -> Iterator[list[Change]]:
+        """The changes of the country that the access points of other radios list: they all have the same one.
+        Meanwhile no other access point looks at these, or changes it."""
+        descriptor = os.open(os.path.join(self.folder, COUNTRY_LOCK), FLAGS, MODE)
+        try:
+            fcntl.flock(descriptor, fcntl.LOCK_EX)
+            yield [change for path in sorted(glob.glob(os.path.join(glob.escape(self.folder), "*.made")))
+                   if path != self.path for change in listed(path) if change.kind == COUNTRY]
+        finally:
+            os.close(descriptor)
+
+
+def listed(path: str) -> list[Change]:
+    """What the file of another radio lists, where it can be read."""
+    try:
+        return read_changes(path)
+    except Fault:
+        return []
+
+
+def take_back(change: Change, others: list[Change]) -> None:
+    """Takes a change back. The country is set to the one before, but stays one that others go on with where there are
+    some. An earlier version doesn't list which one that is: then it stays as it is."""
+    if not others:
+        change.take_back()
+        return
+    wanted = [country for other in others for country in other.more]
+    if len(wanted) == len(others) and machine.country() not in wanted:
+        Change(COUNTRY, wanted[-1]).take_back()

@@ -178,8 +178,8 @@ def check_config(program: str, config: str) -> Settings:
 
 
 def explained(config: str, said: str) -> str:
-    """What the program said of a configuration, and what it means: that is found by a child, which can't keep this process
-    for longer than a second."""
+    """What the program said of a configuration, and what it means: that is found by a child, which can't keep this
+    process for longer than a second."""
     found = text_of_child(lambda: "\n".join(explain_config(config, said)), EXPLAIN_SECONDS)
     return "\n".join(unexplained(config, said)) if found is None else found
 
@@ -319,20 +319,28 @@ def check_left(wanted: Wanted, own: list[str]) -> None:
 
 
 def set_country(country: str | None, made: Changes, stack: ExitStack) -> None:
-    """Sets the country whose rules of the air hold, until the end."""
+    """Sets the country whose rules of the air hold, until the last access point that asked for one ends: they all have
+    the same."""
     if country is None:
         return
     handed = made.take_over_country()
     if handed is not None:
         stack.callback(made.take_back, handed)
         return
-    before = machine.country()
-    if country == before:
-        return
-    change = Change(changes.COUNTRY, before)
-    made.add(change)
-    stack.callback(made.take_back, change)
-    machine.run("iw", "reg", "set", country)
+    with made.countries() as others:
+        now = machine.country()
+        if country == now and not others:
+            return
+        change = Change(changes.COUNTRY, others[0].name if others else now, (country,))
+        made.add(change)
+        stack.callback(made.take_back, change)
+        if country != now:
+            machine.run("iw", "reg", "set", country)
+            await_country(country)
+
+
+def await_country(country: str) -> None:
+    """Waits until it holds; a fault where that takes long."""
     until = time.monotonic() + COUNTRY_SECONDS
     while machine.country() != country:
         if time.monotonic() > until:
