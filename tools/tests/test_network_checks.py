@@ -100,6 +100,17 @@ class Findings(ToolTest):
                    "`ip link set wire-guests addrgenmode none; ip address flush",
                    Behind(links(wire_guests={"addresses": ("10.9.9.1/24", "fe80::1/64")})))
 
+    def test_frames_that_no_radio_takes(self):
+        """An interface whose MTU lets them in; one that lets in what a radio takes is as it has to be."""
+        self.assertEqual(told(Behind(links(wire_guests={"mtu": 2270}, port_office={"mtu": 9000})))[1], 0)
+        for mtu in (2271, 9000):
+            self.found(f"wire-guests has an MTU of {mtu}: no radio takes more than 2270, and longer frames are lost",
+                       "`ip link set wire-guests mtu 1500`", Behind(links(wire_guests={"mtu": mtu})))
+        self.assertEqual([link.mtu for link in links_of([{"ifname": "a", "mtu": 9000}, {"ifname": "b"}]).values()],
+                         [9000, 1500])
+        source = text_of("tools", "bridge", "src", "formats", "radiotap.rs")
+        self.assertIn(f"SENDING_LEN: usize = {network_checks.RADIOTAP};", source)
+
     def test_bridged_with_another(self):
         """Two wires meet in a bridge, by one more veth between bridges, or by no bridge: each network is told."""
         behind = Behind(links(port_guests={"master": "br-office"}))

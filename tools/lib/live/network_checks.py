@@ -17,10 +17,15 @@ from live.asking import ask, socket_path
 from live.checks import Wires, check_config, check_program, read_wires
 from live.faults import Fault
 from live.machine import Interface
-from live.setting_up import RECEIVING, SENDING
+from live.setting_up import MTU, RECEIVING, SENDING
 
 PAGE = called.document("NETWORKS.md")
 TOML, WIRES = ".toml", ".wires"
+ETHERNET_MTU = 1500
+# Of a packet that goes to the air by a monitor interface: a packet socket lets through the interface's MTU and what a
+# header of Ethernet has; a header of radiotap, that of the frame, and LLC with SNAP stand before what came by the wire.
+ETHERNET_HEADER, RADIOTAP, FRAME_HEADER, LLC_AND_SNAP = 14, 16, 24, 8
+MOST_MTU = MTU + ETHERNET_HEADER - RADIOTAP - FRAME_HEADER - LLC_AND_SNAP
 
 
 @dataclass(frozen=True)
@@ -48,6 +53,7 @@ class Link:
     is_sent_back: bool = False
     is_isolated: bool = False
     filters_vlans: bool = False
+    mtu: int = ETHERNET_MTU
 
 
 @dataclass(frozen=True)
@@ -168,7 +174,7 @@ def link_of(row: dict) -> Link:
         row.get("master") if info.get("info_slave_kind") == "bridge" else None,
         row.get("link") if kind == "veth" else None, bool(info.get("info_slave_data", {}).get("hairpin")),
         bool(info.get("info_slave_data", {}).get("isolated")),
-        kind == "bridge" and bool(info.get("info_data", {}).get("vlan_filtering")))
+        kind == "bridge" and bool(info.get("info_data", {}).get("vlan_filtering")), row.get("mtu", ETHERNET_MTU))
 
 
 def served_wires() -> tuple[dict[str, Served], tuple[str, ...]]:
@@ -275,6 +281,10 @@ def of_interface(case: Case, link: Link) -> Iterator[Finding]:
         yield Finding(f"{name} has the address {link.addresses[0]}: it serves this machine", None,
                       f"`ip link set {name} addrgenmode none; ip address flush dev {name}` takes it off; the bridge "
                       "behind has the address")
+    if link.mtu > MOST_MTU:
+        yield Finding(f"{name} has an MTU of {link.mtu}: no radio takes more than {MOST_MTU}, and longer frames are "
+                      "lost", None, f"`ip link set {name} mtu {ETHERNET_MTU}`, which systemd-networkd has as "
+                      f"`MTUBytes={ETHERNET_MTU}`; and no more at what sends to stations")
 
 
 def of_other_networks(case: Case, network: Network, name: str) -> Iterator[Finding]:
