@@ -7,6 +7,8 @@ from typing import NamedTuple
 ROOT = os.path.dirname(os.path.dirname(os.path.abspath(__file__)))
 NAME = re.compile(r"[a-z0-9_]+")
 PATH = re.compile(r"(src|specs|proofs)/[A-Za-z0-9_/-]+\.(rt|antt)")
+# How many wrong bodies one check may try.
+BODIES_OF_A_CHECK = 16
 
 
 class Edit(NamedTuple):
@@ -64,3 +66,20 @@ def applied(edits, folder):
             raise NotApplied(f"the new text is the old one: {old}")
         texts[path] = texts[path].replace(old, new)
     return were, texts
+
+
+def of_gate():
+    """The wrong bodies that the gate tries, by crate: those that wrong/gate.txt names, where a line that begins with a
+    space goes on with the crate before. Refuses, by `NotApplied`, a name that stands in no file here."""
+    wanted, crate = {}, ""
+    for line in read(f"{ROOT}/wrong/gate.txt").splitlines():
+        line = line.partition("#")[0]
+        names = line.split()
+        if names and not line.startswith(" "):
+            crate = names.pop(0).removesuffix(":")
+        bodies = bodies_of(crate)
+        unknown = [name for name in names if name not in bodies]
+        if unknown:
+            raise NotApplied(f"{crate} has no wrong body {unknown[0]}")
+        wanted.setdefault(crate, {}).update({name: bodies[name] for name in names})
+    return {crate: wanted[crate] for crate in crates() if wanted.get(crate)}
