@@ -42,19 +42,19 @@ try-check: ## reads the configuration CONFIG=FILE without any proof
 	@.ci/try "$$CONFIG_NAME"
 
 # The gate, whose parts run beside each other (.ci/gate). Proves every crate from nothing, tries each edit of
-# crates/*/must-fail, runs each test, runs the program that was built of what was proved over examples/ and tests/, with
-# more and more memory, over files and streams that fail and over lines and records that it answers as they come, lets
-# each allocation of some calls fail in turn, holds it against two models over hostile input that the commit draws,
-# plays four traces at once, twice, and finds edits of wrong/ that can't be applied, names in the documents that aren't
-# there, and scripts that don't say how they are used. It runs the tests of the bridge, of the guest's air and of the
-# tools, and what clippy, pyflakes and mypy find in them fails it. Takes Debian's packages of .ci/packages, and installs
-# those that are missing. The last line is 'N passed, M failed'.
+# crates/*/must-fail and the wrong bodies that wrong/gate.txt lists, runs each test, runs the program that was built of
+# what was proved over examples/ and tests/, with more and more memory, over files and streams that fail and over lines
+# and records that it answers as they come, lets each allocation of some calls fail in turn, holds it against two models
+# over hostile input that the commit draws, plays four traces at once, twice, and finds edits of wrong/ that can't be
+# applied, names in the documents that aren't there, and scripts that don't say how they are used. It runs the tests of
+# the bridge, of the guest's air and of the tools, and what clippy, pyflakes and mypy find in them fails it. Takes
+# Debian's packages of .ci/packages, and installs those that are missing. The last line is 'N passed, M failed'.
 test: ## the gate: proves all from nothing, tries wrong bodies, runs all tests
 	@.ci/gate
 
-# Tries the wrong bodies of wrong/, which the gate doesn't try: all, or with NAME=bss_core those of one crate, as many
+# Tries the wrong bodies of wrong/, of which the gate tries few: all, or with NAME=bss_core those of one crate, as many
 # at a time as there are processors, or with JOBS=2 two. The last line is 'N refused, M not'.
-wrong: ## tries the wrong bodies beside the gate, all or those of NAME=CRATE
+wrong: ## tries the wrong bodies of wrong/, all or those of NAME=CRATE
 	@JOBS="$(JOBS)" wrong/try $(NAME)
 
 # Lets each allocation of some calls fail in turn, one in each run. The gate does so for what the access point calls, and
