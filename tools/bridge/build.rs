@@ -1,6 +1,5 @@
 //! Links the static library of the proved queues, which `tools/bridge/build` makes where it is missing, and refuses to
-//! build where the library and the bridge don't lay out alike what they hand over. Tests also link that of the rule of
-//! shares.
+//! build where the library and the bridge don't lay out alike what they hand over.
 use std::fs::read_to_string;
 use std::path::{Path, PathBuf};
 
@@ -18,10 +17,6 @@ fn main() {
         let of_bridge = fields(Path::new("src/outbound/air/proved_queues.rs"), &format!("struct {record} {{"));
         assert_eq!(of_library, of_bridge, "the library and the bridge lay {record} out differently");
     }
-    look_for("air_share_c", &crates.join("air_share_c/out"));
-    let of_library = fields(&crates.join("air_share/src/lane.rt"), "pub struct Lane {");
-    let of_bridge = fields(Path::new("src/outbound/air/proved_rule.rs"), "struct NetworkDebt {");
-    assert_eq!(of_library, of_bridge, "the library and the bridge lay the record of a network out differently");
 }
 
 /// In this folder a static library is looked for.

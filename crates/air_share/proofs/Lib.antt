@@ -3,9 +3,5 @@ pub mod Choices
 pub mod Turns
 pub mod Steps
 pub mod Runs
-pub mod Joins
-pub mod Calls
-pub mod ShareRuns
 pub mod Rows
 pub mod LaneRows
-pub mod ShareRows

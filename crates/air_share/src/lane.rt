@@ -6,6 +6,9 @@ ghost use Rattle.std.specs.Bool.{OnTrue, OnFalse};
 ghost use Rattle.air_share.specs.LaneRuns.{Serve, Tell, lane_step};
 ghost use Rattle.air_share.specs.Lanes.{chosen, after_turn, after_telling, lane_at, IsChoice};
 
+/// The greatest weight of a network.
+pub const MAX_WEIGHT: u8 = 16;
+
 /// What the rule keeps of a network. A caller lays the lanes of a radio side by side and names a lane by its place. It
 /// begins each with debt 0, and from then on writes `waits` alone.
 #[derive(Clone, Copy, Debug, PartialEq, Eq)]
@@ -48,37 +51,14 @@ fn first_that_waits(lanes: &[Lane]) -> Option<usize>
     lanes.iter().position(|lane| lane.waits)
 }
 
-/// Serves the lane at a place, whose turn it is, with a frame of this cost in time units of air. Every debt becomes
-/// itself less that lane's, not below 0. That lane's own becomes its scale times the cost, which never overflows.
-/// `false` if it is another's turn or nobody's, and then nothing changes.
-pub fn served(lanes: &mut [Lane], place: usize, cost: u32) -> bool
-    ensures turn { IsTrue result ↔ (chosen lanes.old ≡ Some place) }
-    ensures after { OnTrue result (lanes.new ≡ after_turn lanes.old place cost) }
-    ensures event { OnTrue result (lanes.new ≡ lane_step lanes.old (Serve cost)) }
-    ensures refused { OnFalse result (lanes.new ≡ lanes.old) }
-{
-    if choose(lanes) != Some(place) {
-        return false;
-    }
-    serve_chosen(lanes, place, cost);
-    true
-}
-
-/// Serves the lane whose turn it is with a frame of this cost in time units of air, as [`served`] does. The caller has
-/// its place from [`choose`], so nothing is refused, and it isn't looked for again (*profile*).
+/// Serves the lane at a place, whose turn it is as [`choose`] says, with a frame of this cost in time units of air. Every
+/// debt becomes itself less that lane's, not below 0. That lane's own becomes its scale times the cost, which never
+/// overflows.
 pub fn serve_chosen(lanes: &mut [Lane], place: usize, cost: u32)
     requires turn { chosen lanes.old ≡ Some place }
     requires within { place < length lanes.old }
     ensures after { lanes.new ≡ after_turn lanes.old place cost }
     ensures event { lanes.new ≡ lane_step lanes.old (Serve cost) }
-{
-    charge(lanes, place, cost);
-}
-
-/// Lowers every debt by that of the lane at a place, not below 0, and sets that lane's to its scale times a cost.
-pub(crate) fn charge(lanes: &mut [Lane], place: usize, cost: u32)
-    requires { place < length lanes.old }
-    ensures { lanes.new ≡ after_turn lanes.old place cost }
 {
     let least = lanes[place].debt;
     for lane in lanes.iter_mut() {

@@ -316,9 +316,6 @@ fn microseconds(time: Duration) -> u32 {
 }
 
 #[cfg(test)]
-mod proved_rule;
-
-#[cfg(test)]
 #[path = "air_test.rs"]
 mod tests;
 

@@ -309,6 +309,17 @@ mod tests {
     }
 
     #[test]
+    fn a_debt_never_turns() {
+        let mut queues = ProvedQueues::new(&[(1, vec![1]), (1, vec![1])]).unwrap();
+        let told = (0..10_000).filter(|_| queues.used(0, u32::MAX)).count() as u64;
+        assert_eq!(told, u64::MAX / (720_720 * u64::from(u32::MAX)));
+        // What was refused changed nothing: the first still owes more than the second.
+        assert!((1..told).all(|_| queues.used(1, u32::MAX)));
+        [0, 1].map(|place| assert_eq!(queues.comes((place, 0), 1, false, u64::MAX, 0), Ok(None)));
+        assert_eq!(queues.turn(), Some(1));
+    }
+
+    #[test]
     fn a_frame_goes_by_its_networks_turn_alone() {
         let mut queues = ProvedQueues::new(&[(1, vec![2, 2]), (1, vec![2])]).unwrap();
         assert_eq!(queues.comes((0, 1), 7, false, u64::MAX, 0), Ok(None));

@@ -1,14 +1,11 @@
 use super::*;
 use crate::outbound::air::proved_queues::ProvedQueues;
-use crate::outbound::air::proved_rule::NetworkDebts;
 use crate::testing::samples::Seeded;
 
-/// The receivers' turns with those of networks, by the proved queues, in which each network has one receiver here. The
-/// proved rule of shares says the same by itself.
+/// The receivers' turns with those of networks, by the proved queues, in which each network has one receiver here.
 struct Shared<R, T> {
     scheduler: Scheduler<R, T>,
     queues: ProvedQueues,
-    debts: NetworkDebts,
     ticket: u64,
 }
 
@@ -17,14 +14,12 @@ impl<R: Copy + Ord + Hash, T> Shared<R, T> {
         let weights: Vec<u8> = weights.into_iter().collect();
         let networks: Vec<_> = weights.iter().map(|weight| (*weight, vec![usize::MAX])).collect();
         let queues = ProvedQueues::new(&networks).unwrap();
-        Shared { scheduler: Scheduler::new(weights.len()), queues, debts: NetworkDebts::new(weights), ticket: 0 }
+        Shared { scheduler: Scheduler::new(weights.len()), queues, ticket: 0 }
     }
 
-    /// Both learn whether a network waits.
+    /// The queues learn whether a network is passed over.
     fn tell(&mut self, place: Place) {
-        let is_passed_over = self.scheduler.is_passed_over(place);
-        self.queues.pauses(place, is_passed_over);
-        self.debts.set_waits(place, self.scheduler.networks[place].waiting > 0 && !is_passed_over);
+        self.queues.pauses(place, self.scheduler.is_passed_over(place));
     }
 
     /// A frame came.
@@ -46,9 +41,7 @@ impl<R: Copy + Ord + Hash, T> Shared<R, T> {
     }
 
     fn turn(&self) -> Option<Place> {
-        let turn = self.queues.turn();
-        assert_eq!(turn, self.debts.choose().filter(|_| self.debts.any_waits()));
-        turn
+        self.queues.turn()
     }
 
     fn first(&self) -> Option<(Place, R, &T)> {
@@ -74,7 +67,6 @@ impl<R: Copy + Ord + Hash, T> Shared<R, T> {
     fn serve(&mut self, place: Place, cost: u32) -> Option<T> {
         let (receiver, _) = self.scheduler.networks.get(place)?.first()?;
         let sent = self.queues.next_of((place, 0), 0);
-        assert_eq!(self.debts.serve(place, cost), sent.is_some());
         self.queues.told((place, 0), sent?.ticket, true);
         self.queues.used(place, cost);
         let frame = self.scheduler.serve(place, receiver, cost, |_| true);
@@ -102,7 +94,6 @@ impl<R: Copy + Ord + Hash, T> Shared<R, T> {
 
     fn correct(&mut self, place: Place, receiver: R, more: u32) {
         self.queues.used(place, more);
-        self.debts.correct(place, more);
         self.scheduler.charge(place, receiver, more);
         self.tell(place);
     }
