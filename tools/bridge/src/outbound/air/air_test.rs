@@ -359,3 +359,38 @@ fn what_a_network_used_of_the_air_is_counted_with_all_its_tries() {
     let size = Size { octets: sent[0].frame.len(), rate: 108, is_acknowledged: true };
     assert_eq!(driver.air.queue.accounts[0].used - before, size.cost().tries(7));
 }
+
+/// How many of so many units to a station that hears 24 Mb/s at most went as samples, one every three milliseconds. Of
+/// another network the radio has a frame all that time, or none.
+fn samples_beside(is_loaded: bool) -> usize {
+    let mut driver = driver([1, 1]);
+    driver.join(0, STATION);
+    let mut samples = 0;
+    for number in 0..300 {
+        if is_loaded {
+            driver.send(1, long(OTHER, STRANGER, number));
+        }
+        let others = driver.flush();
+        driver.send(0, unit(OURS, STATION, number));
+        let sent = driver.flush();
+        driver.now += 3 * MILLISECOND;
+        others.iter().for_each(|seen| driver.reported(1, seen, 0, true));
+        for seen in &sent {
+            samples += usize::from(number >= 40 && seen.rate > 48);
+            let is_heard = seen.rate <= 48;
+            driver.reported(0, seen, if is_heard { 0 } else { seen.retries }, is_heard);
+        }
+        for again in driver.flush() {
+            driver.reported(0, &again, 0, true);
+        }
+    }
+    samples
+}
+
+/// A rate that wasn't heard before is tried again after sixteen units, whatever the radio has of other networks.
+#[test]
+fn how_often_a_faster_rate_is_sampled_does_not_hang_on_other_networks() {
+    let alone = samples_beside(false);
+    assert!((14..=18).contains(&alone), "{alone}");
+    assert_eq!(samples_beside(true), alone);
+}

@@ -6,25 +6,26 @@ use super::Transmitter;
 use crate::outbound::air::account::Unsent;
 use crate::outbound::air::scheduler::Place;
 
+/// So many beacons of a network wait at most: older ones are worth nothing beside them.
+const MOST_OF_NETWORK: usize = 2;
+
 /// The beacons that wait, as packets, with the networks that send them.
-#[derive(Debug)]
+#[derive(Debug, Default)]
 pub struct BeaconQueue {
     packets: VecDeque<(Place, Vec<u8>)>,
-    most: usize,
 }
 
 impl BeaconQueue {
-    /// None waits yet of so many networks.
-    pub fn new(networks: usize) -> BeaconQueue {
-        BeaconQueue { packets: VecDeque::new(), most: 2 * networks }
-    }
-
-    /// A beacon waits, two of each network at most: older ones are worth nothing beside it. Answers whose beacon was
-    /// dropped for it, if one was.
-    fn push(&mut self, place: Place, packet: Vec<u8>) -> Option<Place> {
-        let dropped = if self.packets.len() >= self.most { self.packets.pop_front() } else { None };
+    /// A beacon waits. If too many of its network do, their oldest is dropped; answers whether one was.
+    fn push(&mut self, place: Place, packet: Vec<u8>) -> bool {
+        let mut of_network = self.packets.iter().enumerate().filter(|(_, (sender, _))| *sender == place);
+        let oldest = of_network.next().map(|(number, _)| number);
+        let dropped = oldest.filter(|_| of_network.count() + 1 >= MOST_OF_NETWORK);
+        if let Some(number) = dropped {
+            self.packets.remove(number);
+        }
         self.packets.push_back((place, packet));
-        dropped.map(|(place, _)| place)
+        dropped.is_some()
     }
 
     pub fn is_empty(&self) -> bool {
@@ -35,7 +36,7 @@ impl BeaconQueue {
 impl Transmitter {
     /// A beacon waits. One that is dropped for it is counted.
     pub(super) fn push_beacon(&mut self, place: Place, packet: Vec<u8>) {
-        if let Some(place) = self.beacons.push(place, packet) {
+        if self.beacons.push(place, packet) {
             self.queue.accounts[place].count_unsent(Unsent::Full);
         }
     }

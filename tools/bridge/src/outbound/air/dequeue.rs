@@ -30,11 +30,12 @@ pub const MOST_TRYING_AT_ONCE: Duration = Duration::from_millis(50);
 const MOST_TRIES_BEHIND: u8 = 4;
 /// While no more frames wait for a station that loses some, the radio has one of them at a time.
 pub const FEW: usize = 8;
-/// Answers are tried twice at most while one other is sent or waits, and once while more than so many are or do.
+/// Answers are tried twice at most while one other of their network is sent or waits, and once while more than so many
+/// are or do.
 const MOST_TRIED_TWICE: usize = 8;
 /// How often the radio's socket is looked at, if the radio doesn't say what became of a frame.
 pub const LOOK_EVERY: Duration = MILLISECOND;
-/// A radio that had as much as it may have at once is busy for so long.
+/// A network is busy for so long once the radio had as much of it as it may have at once.
 const BUSY_SINCE_FULL: Duration = Duration::from_millis(100);
 
 /// The frame that is next.
@@ -132,7 +133,7 @@ impl Transmitter {
     /// Chooses the frame that goes next; false if none may go now.
     fn choose_one(&mut self, now: Instant) -> bool {
         if !self.queue.notices.is_empty() {
-            self.queue.admit_notice(now);
+            self.queue.admit_notices(now);
         }
         loop {
             let (place, receiver, Ticketed { ticket, frame }) = match self.queue.first() {
@@ -163,7 +164,9 @@ impl Transmitter {
                 let has_room = trying.is_some() && self.in_flight.has_room(cost.tries(1), now);
                 if self.intake != Intake::Unbounded && !has_room {
                     self.intake = Intake::Closed;
-                    self.busy_until = now + BUSY_SINCE_FULL;
+                    if trying.is_none() || self.in_flight.is_filled_by(place, cost.tries(1)) {
+                        self.busy_until[place] = now + BUSY_SINCE_FULL;
+                    }
                     return false;
                 }
                 self.resume();
@@ -263,7 +266,7 @@ impl Transmitter {
             FrameKind::Answer => {
                 let is_answer = |waiting: &Ticketed| waiting.frame.kind == FrameKind::Answer;
                 let waiting = self.queue.scheduler.count_first(place, Receiver::Others, is_answer);
-                let with_radio = self.in_flight.count(|sent| sent.kind == FrameKind::Answer);
+                let with_radio = self.in_flight.count(place, |sent| sent.kind == FrameKind::Answer);
                 match waiting + with_radio - usize::from(receiver == Receiver::Others) {
                     0 => u8::MAX,
                     1..=MOST_TRIED_TWICE => 1,
@@ -291,7 +294,7 @@ impl Transmitter {
             FrameKind::Own { retries } => (plainly(retries), false),
             _ if address.is_group() => (plainly(0), false),
             _ => {
-                let is_busy = now < self.busy_until || self.in_flight.is_busy();
+                let is_busy = now < self.busy_until[place] || self.in_flight.is_busy(place);
                 self.links.choose(place, address, octets, is_busy, now)
             }
         };

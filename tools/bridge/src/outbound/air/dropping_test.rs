@@ -27,8 +27,23 @@ fn of_beacons_that_find_no_room_the_last_ones_are_kept() {
     (0..50).for_each(|number| drop(driver.give([of_network(BEACON, OURS, Address::BROADCAST, number, vec![])])));
     driver.interfaces.beacons.port.room = None;
     driver.flush();
-    assert_eq!(numbers(&driver.beacons()), [46, 47, 48, 49]);
-    assert_eq!((driver.unsent(0, Unsent::Full), driver.unsent(1, Unsent::Full)), (46, 0));
+    assert_eq!(numbers(&driver.beacons()), [48, 49]);
+    assert_eq!((driver.unsent(0, Unsent::Full), driver.unsent(1, Unsent::Full)), (48, 0));
+}
+
+/// However many beacons another network sends.
+#[test]
+fn each_network_has_room_for_two_beacons() {
+    let mut driver = driver([1, 1]);
+    driver.interfaces.beacons.port.room = Some(0);
+    let beacon = |bssid, number| of_network(BEACON, bssid, Address::BROADCAST, number, vec![]);
+    driver.send(0, beacon(OURS, 1));
+    (10..60).for_each(|number| driver.send(1, beacon(OTHER, number)));
+    driver.send(0, beacon(OURS, 2));
+    driver.interfaces.beacons.port.room = None;
+    driver.flush();
+    assert_eq!(numbers(&driver.beacons()), [1, 58, 59, 2]);
+    assert_eq!((driver.unsent(0, Unsent::Full), driver.unsent(1, Unsent::Full)), (0, 48));
 }
 
 #[test]

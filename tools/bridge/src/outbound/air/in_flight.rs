@@ -34,7 +34,7 @@ use crate::outbound::air::scheduler::Place;
 
 /// How long the radio takes at most for what it has at once, unless that is one frame.
 const MOST_AT_ONCE: Duration = Duration::from_millis(8);
-/// A radio that takes longer for what it has is busy.
+/// A network is busy if what the radio has of it takes longer.
 const BUSY: Duration = Duration::from_millis(2);
 /// A frame of which nothing was told for so long is one of which nothing will be.
 pub const MOST_OUT: Duration = Duration::from_millis(200);
@@ -152,9 +152,20 @@ impl<W: Sending> InFlight<W> {
         }
     }
 
-    /// Whether the radio takes for what it has longer than for some short frames.
-    pub fn is_busy(&self) -> bool {
-        self.by_clock(self.reckoned) > BUSY
+    /// Whether the frames of a network that the radio has are reckoned to take longer than some short ones, whatever
+    /// it has of others.
+    pub fn is_busy(&self, place: Place) -> bool {
+        self.reckoned_of(place) > BUSY
+    }
+
+    /// Whether a network has as much at the radio as that may have at once, if a frame is added that is reckoned so.
+    pub fn is_filled_by(&self, place: Place, reckoned: Duration) -> bool {
+        let of_network = self.reckoned_of(place);
+        !of_network.is_zero() && of_network + reckoned > MOST_AT_ONCE
+    }
+
+    fn reckoned_of(&self, place: Place) -> Duration {
+        self.frames.iter().filter(|given| given.name.place == place).map(|given| given.reckoned).sum()
     }
 
     /// The first frame that the radio may still have.
@@ -372,8 +383,9 @@ impl<W: Sending> InFlight<W> {
         self.frames.front().map(|given| given.since + MOST_OUT)
     }
 
-    pub fn count(&self, is_such: impl Fn(&W) -> bool) -> usize {
-        self.frames.iter().filter(|given| is_such(&given.what)).count()
+    /// How many such frames of a network it has, or may have.
+    pub fn count(&self, place: Place, is_such: impl Fn(&W) -> bool) -> usize {
+        self.frames.iter().filter(|given| given.name.place == place && is_such(&given.what)).count()
     }
 
     pub fn len(&self) -> usize {

@@ -164,7 +164,11 @@ impl Model {
         for reckoned in [Duration::ZERO, MILLISECOND, 30 * MILLISECOND] {
             assert_eq!(in_flight.has_room(reckoned, now), self.has_room(reckoned, now));
         }
-        assert_eq!(in_flight.is_busy(), self.by_clock(self.reckoned()) > 2 * MILLISECOND);
+        for place in [0, 1] {
+            let of_place = self.frames.iter().filter(|frame| frame.name.place == place);
+            let reckoned = of_place.map(|frame| frame.reckoned).sum::<Duration>();
+            assert_eq!(in_flight.is_busy(place), reckoned > 2 * MILLISECOND);
+        }
         for (place, receiver) in [0, 1].into_iter().flat_map(|place| RECEIVERS.map(|receiver| (place, receiver))) {
             assert_eq!(in_flight.is_overdue(place, receiver, now), self.is_overdue((place, receiver), now));
             assert_eq!(in_flight.is_unknown(place, receiver), self.is_unknown((place, receiver)));

@@ -46,9 +46,12 @@ fn the_radio_has_what_it_sends_in_eight_milliseconds() {
     assert_eq!(fitting(of_pace(0)), 32);
     let mut busy = in_flight();
     busy.give(name(1), (), BUSY, Instant::START);
-    assert!(!busy.is_busy());
-    busy.give(name(2), (), Duration::from_nanos(PACE_UNIT), Instant::START);
-    assert!(busy.is_busy());
+    assert!(!busy.is_busy(0));
+    busy.give(FrameName { place: 1, ..name(2) }, (), 8 * MILLISECOND, Instant::START);
+    assert_eq!([0, 1].map(|place| busy.is_busy(place)), [false, true]);
+    assert_eq!([0, 1].map(|place| busy.is_filled_by(place, MILLISECOND)), [false, true]);
+    busy.give(name(3), (), Duration::from_nanos(1), Instant::START);
+    assert!(busy.is_busy(0));
 }
 
 #[test]

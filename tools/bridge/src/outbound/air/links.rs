@@ -229,7 +229,7 @@ impl Links {
         })
     }
 
-    /// How a frame is sent to a station now, if the radio is busy or isn't, and whether what comes next for it waits
+    /// How a frame is sent to a station now, if its network is busy or isn't, and whether what comes next for it waits
     /// for what becomes of it.
     pub fn choose(
         &mut self,

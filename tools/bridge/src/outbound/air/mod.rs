@@ -13,7 +13,7 @@
 //!
 //! What may wait (`queue`, `beacon_queue`):
 //!
-//! 1. A beacon waits apart from all else. At most twice as many wait as there are networks: one more drops the oldest.
+//! 1. A beacon waits apart from all else. At most two of a network wait: one more drops the oldest of its network.
 //! 2. Any other frame waits in its network for its receiver. At most 64 wait for a station, 256 for groups and 256 for
 //!    others. One more drops the oldest of its receiver, and of others the one that would go last.
 //! 3. Of a network 2 MB wait at most, without what was kept (5) or waits apart. What is beyond that is dropped: the
@@ -216,8 +216,8 @@ pub struct Transmitter {
     /// The room of frames that were sent, for those that come.
     spare: Vec<Vec<u8>>,
     intake: Intake,
-    /// Until when the radio is busy, since it had as much as it may have at once.
-    busy_until: Instant,
+    /// Until when each network is busy, since the radio had as much of it as it may have at once.
+    busy_until: Vec<Instant>,
     reports: Reports,
     /// When the radio's socket is looked at, while the radio has as much as it may have.
     look_due: Option<Instant>,
@@ -234,7 +234,7 @@ impl Transmitter {
     /// For these networks, of these weights. Nothing waits.
     pub fn new(networks: &[Network]) -> Transmitter {
         Transmitter {
-            beacons: BeaconQueue::new(networks.len()),
+            beacons: BeaconQueue::default(),
             queue: Queue::new(networks.iter().map(|network| network.weight)),
             links: Links::new(networks),
             lateness: Lateness::default(),
@@ -242,7 +242,7 @@ impl Transmitter {
             awaiting_room: VecDeque::new(),
             spare: Vec::new(),
             intake: Intake::Bounded,
-            busy_until: Instant::START,
+            busy_until: vec![Instant::START; networks.len()],
             reports: Reports::Read,
             look_due: None,
             interface: Interface::Up,

@@ -332,15 +332,17 @@ impl Queue {
         taken.into_iter().map(|waiting| waiting.frame).collect()
     }
 
-    /// The notice whose turn it is waits among the answers of its network from now on, if none of these waits.
-    pub fn admit_notice(&mut self, now: Instant) {
+    /// The notices whose time it is wait among the answers of their networks from now on, where none of these waits.
+    pub fn admit_notices(&mut self, now: Instant) {
         while let Some((place, late)) = self.notices.take_late(now) {
             self.count_dropped(place, [late], Unsent::Late);
         }
-        let scheduler = &self.scheduler;
-        let next = self.notices.next(now, |place| scheduler.waiting(place, Receiver::Others) == 0);
-        if let Some((place, notice)) = next {
-            self.enter_awake(place, Receiver::Others, notice, now);
+        loop {
+            let scheduler = &self.scheduler;
+            match self.notices.next(now, |place| scheduler.waiting(place, Receiver::Others) == 0) {
+                Some((place, notice)) => self.enter_awake(place, Receiver::Others, notice, now),
+                None => return,
+            }
         }
     }
 

@@ -36,7 +36,7 @@ const GONE_RETRIES: u8 = 1;
 /// After so many units in a row without an acknowledgement a station seems to be gone.
 const GONE: u32 = 4;
 /// If all rates were tried, a unit is a sample after so many others, or after this time. A sample keeps the units
-/// behind it waiting, and so costs turns if the radio is busy: there it comes less often.
+/// behind it waiting, and so costs turns if the network is busy: there it comes less often.
 const UNITS_PER_SAMPLE: u32 = 16;
 const UNITS_PER_SAMPLE_BUSY: u32 = 64;
 const SAMPLE_EVERY: Duration = Duration::from_millis(500);
