@@ -1,6 +1,6 @@
 //! The monitor interface gives the radio what `air` says. Of the way to the air this alone writes to sockets, asks them
 //! and looks at a clock.
-use crate::control::faults::is_down;
+use crate::control::faults::{is_down, tell};
 use crate::os::clock::{self, Instant};
 use crate::os::gate::Gate;
 use crate::os::interfaces::Interfaces;
@@ -27,6 +27,8 @@ pub fn has_unsent_beacons<P: Port>(air: &Transmitter, interfaces: &Interfaces<P>
 #[derive(Debug, Default)]
 pub struct MonitorSender {
     pub refused: Refused,
+    /// Whether it was told that a frame was dropped that the queues don't know.
+    pub(super) are_strays_told: bool,
 }
 
 impl MonitorSender {
@@ -66,6 +68,9 @@ impl MonitorSender {
             }
         }
         air.set_look(now);
+        if air.strays() > 0 && !std::mem::replace(&mut self.are_strays_told, true) {
+            tell("a frame was dropped that is unknown to the queues; more of them are counted");
+        }
     }
 
     /// Hands the frames that had their turn to the radio's socket.

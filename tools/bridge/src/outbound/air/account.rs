@@ -19,6 +19,10 @@ pub enum Unsent {
     OverQuota,
     /// Its station dozed, and as it has no wired form it couldn't go back to the program.
     NoWiredForm,
+    /// The radio had it when its interface went down.
+    Reset,
+    /// The library didn't have it, or had no memory for its turn.
+    Stray,
 }
 
 impl fmt::Display for Unsent {
@@ -31,6 +35,8 @@ impl fmt::Display for Unsent {
             Unsent::Left => "its station had left",
             Unsent::OverQuota => "more than `quota` came back in a second, as its station dozed",
             Unsent::NoWiredForm => "its station dozed, and it has no wired form",
+            Unsent::Reset => "with the radio, as its interface went down",
+            Unsent::Stray => "unknown to the queues",
         })
     }
 }

@@ -39,10 +39,13 @@ impl Transmitter {
         self.interface = Interface::Down;
     }
 
-    /// The interface is up again after so long. What had its turn before is dropped if it waited too long meanwhile;
-    /// what waits for its turn is looked at when that comes.
+    /// The interface is up again after so long. What the radio had before is lost. What had its turn before is dropped
+    /// if it waited too long meanwhile; what waits for its turn is looked at when that comes.
     pub fn came_up(&mut self, after: Duration, now: Instant) {
         self.interface = Interface::Up;
+        let awaiting_room = &self.awaiting_room;
+        let lost = self.in_flight.take_lost(|name| awaiting_room.iter().any(|(waiting, _)| *waiting == name));
+        self.was_reset(lost, now);
         if after > LONGEST {
             for (name, packet) in std::mem::take(&mut self.awaiting_room) {
                 self.lose(name, &packet, Unsent::Late, now);

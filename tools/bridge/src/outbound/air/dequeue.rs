@@ -130,7 +130,7 @@ impl Transmitter {
         overdue.unwrap_or(now).max(now + LOOK_EVERY)
     }
 
-    /// Chooses the frame that goes next; false if none may go now.
+    /// Chooses the frame that goes next, or drops one that can't go; false if none may go now.
     fn choose_one(&mut self, now: Instant) -> bool {
         if !self.queue.notices.is_empty() {
             self.queue.admit_notices(now);
@@ -150,7 +150,7 @@ impl Transmitter {
             if Self::is_worthless(&self.links, &mut self.lateness, place, frame, now) {
                 match self.queue.take_first(place, receiver, now) {
                     Some(frame) => self.give_up(place, frame, now),
-                    None => return false,
+                    None => self.queue.drop_stray(place, receiver, now),
                 }
             } else if matches!(receiver, Receiver::Station(_)) && self.awaits(place, address, outlook, now) {
                 self.queue.hold(place, receiver);
@@ -171,7 +171,8 @@ impl Transmitter {
                 }
                 self.resume();
                 let expected = Expected { size, cost, trying: trying.unwrap_or(MOST_TRYING) };
-                return self.take(next, &octets, expected, now);
+                self.take(next, &octets, expected, now);
+                return true;
             }
         }
     }
@@ -220,19 +221,21 @@ impl Transmitter {
             || goes_alone && self.in_flight.has(place, address)
     }
 
-    /// The frame that is next goes, if the library lets it: its rate and tries are chosen, and its packet is made.
-    fn take(&mut self, next: Next, octets: &Octets, expected: Expected, now: Instant) -> bool {
+    /// The frame that is next goes, if the library lets it: its rate and tries are chosen, and its packet is made. One
+    /// that either of both doesn't have is dropped, so that others go.
+    fn take(&mut self, next: Next, octets: &Octets, expected: Expected, now: Instant) {
         let Next { place, receiver, ticket, address, kind } = next;
         let most_retries = self.retries_beside_others(place, receiver, kind);
         let ticket = match self.queue.goes(place, ticket, now) {
             Some(ticket) => ticket,
-            None => return false,
+            None => return self.queue.drop_stray(place, receiver, now),
         };
         let (choice, waits, cost) = self.choice(place, address, kind, octets, expected, now);
         let choice = Choice { retries: choice.retries.min(most_retries), ..choice };
         let one_try = cost.tries(1);
         if self.queue.serve(place, receiver, ticket, microseconds(one_try), now).is_none() {
-            return false;
+            self.queue.told(place, ticket, true);
+            return;
         }
         if kind == FrameKind::Kept {
             self.links.has_kept(place, address, now);
@@ -255,7 +258,6 @@ impl Transmitter {
         let octets = Rc::clone(octets);
         self.in_flight.give(name, Sent { size, cost, retries, longest, receiver, kind, ticket, octets }, reckoned, now);
         self.awaiting_room.push_back((name, packet));
-        true
     }
 
     /// How often a frame is tried again at most that goes next, if others wait to be answered: most of them may be

@@ -141,3 +141,43 @@ fn what_waits_of_a_network_is_bounded_and_the_longest_queue_loses_its_oldest() {
     assert_eq!(driver.unsent(1, Unsent::Full), 0);
     assert_eq!(driver.air.queue.scheduler.waiting(0, Receiver::Station(STATION)), 1);
 }
+
+/// The radio has none of its frames any more once its interface was down: the last unit of a station goes once more,
+/// and the others are counted.
+#[test]
+fn what_the_radio_had_as_its_interface_went_down_goes_once_more_or_is_counted() {
+    for down in [LONGEST / 2, MOST_OUT, 2 * MOST_OUT] {
+        let mut driver = driver_at_54();
+        assert_eq!(numbers(&driver.give((9..12).map(|number| unit(OURS, STATION, number)))), [9, 10, 11]);
+        driver.send(1, of_network(0xc0, OTHER, STRANGER, 3, vec![8, 0]));
+        assert_eq!(numbers(&driver.flush()), [3]);
+        driver.air.went_down();
+        driver.pass(down);
+        driver.air.came_up(down, driver.now);
+        let again: Vec<_> = driver.flush().iter().map(|seen| (seen.number(), seen.is_again())).collect();
+        assert_eq!((again, driver.air.in_flight()), (vec![(11, true)], 1), "{down:?}");
+        assert_eq!(driver.air.unacknowledged(), Unacknowledged { again: 1, lost: 0 });
+        let unsent = [0, 1].map(|place| driver.air.accounts()[place].unsent.values().sum::<u64>());
+        assert_eq!(unsent, [2, 1], "{down:?}");
+    }
+}
+
+/// The bridge and its library should have the same frames. If one stands in the bridge's list alone, the others of its
+/// network and those of other networks go all the same.
+#[test]
+fn a_frame_that_the_library_does_not_have_is_dropped_and_counted() {
+    for wait in [Duration::ZERO, 2 * MOST_LIFETIME] {
+        let mut driver = driver_at_54();
+        // Who was sent nothing yet has its turn before one that was.
+        driver.send(0, unit(OURS, STRANGER, 9));
+        assert!(driver.air.queue.downlink.gives_up(0, Receiver::Station(STRANGER)).is_some());
+        driver.now += wait;
+        driver.send(0, unit(OURS, STATION, 10));
+        driver.send(1, unit(OTHER, STRANGER, 11));
+        let mut sent = numbers(&driver.run(usize::MAX));
+        sent.sort_unstable();
+        assert_eq!(sent, [10, 11]);
+        assert_eq!(driver.air.accounts()[0].unsent.values().sum::<u64>(), 1);
+        assert!(driver.air.is_empty() && driver.air.accounts()[0].octets == 0);
+    }
+}

@@ -97,6 +97,7 @@ impl Transmitter {
         let address = Frame::of(&octets).map_or(Address::BROADCAST, |frame| frame.receiver());
         let kind = FrameKind::Own { retries };
         self.push(place, OutboundFrame { octets: Rc::new(octets), address, kind, since: now }, now);
+        self.hand_back_without_room(now);
     }
 
     /// A station is associated: what waits for it among the others' frames goes before what comes for it from now on.

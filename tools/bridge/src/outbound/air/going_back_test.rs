@@ -144,3 +144,30 @@ fn the_answer_to_a_poll_goes_back_behind_what_is_kept() {
         assert_eq!(driver.handed_back(), wanted, "{number}");
     }
 }
+
+/// At once, also where a question of the bridge takes its room.
+#[test]
+fn the_answer_to_a_poll_whose_room_the_bridge_takes_goes_back_at_once() {
+    let mut driver = driver_at_54();
+    driver.sleeps();
+    driver.interfaces.monitor.port.room = Some(0);
+    for number in 30..32 {
+        driver.air.polls(0, STATION, driver.now);
+        driver.send(0, numbered(number, MOST_OCTETS / 5 * 2));
+    }
+    driver.air.send_own(0, of_network(0x48, OURS, STRANGER, 32, vec![0; MOST_OCTETS / 5 * 2]), 3, driver.now);
+    assert_eq!((errands(&mut driver), driver.unsent(0, Unsent::Full)), ((vec![30], false), 0));
+}
+
+/// What the radio had of a station that falls asleep goes back if the interface goes down before it is told of.
+#[test]
+fn what_the_radio_had_of_a_station_that_falls_asleep_goes_back_after_a_reset() {
+    let mut driver = driver_at_54();
+    driver.give((100..103).map(|number| numbered(number, SHORT_UNIT)));
+    driver.air.dozes(0, STATION, 5, driver.now);
+    driver.air.went_down();
+    driver.pass(20 * MILLISECOND);
+    driver.air.came_up(20 * MILLISECOND, driver.now);
+    assert!(driver.air.answered(5, driver.now));
+    assert_eq!(errands(&mut driver), (vec![100, 101, 102], true));
+}

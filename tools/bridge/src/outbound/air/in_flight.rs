@@ -366,6 +366,18 @@ impl<W: Sending> InFlight<W> {
         gone
     }
 
+    /// The radio lost all but those of which this is true: answers what it had, in the order in which it got them.
+    pub fn take_lost(&mut self, is_kept: impl Fn(FrameName) -> bool) -> Vec<(FrameName, W)> {
+        let mut lost = Vec::new();
+        for number in (0..self.frames.len()).rev() {
+            if !is_kept(self.frames[number].name) {
+                lost.extend(self.remove(number).map(|given| (given.name, given.what)));
+            }
+        }
+        lost.reverse();
+        lost
+    }
+
     /// The radio has nothing any more: answers what it had.
     pub fn clear(&mut self) -> Vec<(FrameName, W)> {
         (self.reckoned, self.done, self.doubtful) = (Duration::ZERO, Instant::START, 0);

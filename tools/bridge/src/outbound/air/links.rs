@@ -305,6 +305,16 @@ impl Links {
         next
     }
 
+    /// The radio was reset before it told of a frame for a station, which tells nothing of the rates. The frame goes
+    /// once more or doesn't, and nothing waits for it.
+    pub fn was_reset(&mut self, place: Place, address: Address, goes_again: bool, now: Instant) {
+        self.unacknowledged[place].again += u64::from(goes_again);
+        let station = self.networks[place].links.get_mut(&address);
+        if station.map_or(false, |station| station.go(now)) {
+            self.forget_ended_waits();
+        }
+    }
+
     /// The frame by which a unit for a station goes once more: the one that was lost, with Retry set.
     pub fn once_more(&mut self, place: Place, address: Address, lost: &Rc<Vec<u8>>) -> Rc<Vec<u8>> {
         let frame = Rc::new(again(lost));

@@ -53,7 +53,8 @@
 //!     nothing for 2 s; then all that waits apart for it is dropped too. For units behind it the time counts since the
 //!     last one went that was kept.
 //! 15. A frame that the interface refuses is dropped. One that had its turn before the interface went down is dropped
-//!     once that lasted for 50 ms.
+//!     once that lasted for 50 ms. Frames that the radio had then, and of which it told nothing, are lost: a unit goes
+//!     once more or back as any that is lost, and the others are dropped.
 //!
 //! In which order:
 //!
@@ -61,7 +62,7 @@
 //!     others for its station, and only where nothing was sent to that since. Management frames don't wait for units
 //!     apart. What waits for one of the others goes behind its own frames once it is associated.
 //! 17. Each frame waits, went, went back or was dropped: one of them, once. Those that were dropped are counted with
-//!     the reason.
+//!     the reason. One that waits here and that the library doesn't have is dropped at its turn.
 //!
 //! Of stations that doze (`sleeping`, `handing_back`):
 //!
@@ -272,6 +273,11 @@ impl Transmitter {
         let sum = |(again, lost), one: &Unacknowledged| (again + one.again, lost + one.lost);
         let (again, lost) = self.links.unacknowledged.iter().fold((0, 0), sum);
         Unacknowledged { again, lost }
+    }
+
+    /// How many frames were dropped that the library didn't have.
+    pub fn strays(&self) -> u64 {
+        self.queue.strays
     }
 
     /// A frame was heard that is for this network alone.

@@ -1,9 +1,10 @@
 //! The radio tells what became of a frame: who waited for that goes on, and the share of its network is corrected.
-use super::{microseconds, Intake, Reports, Sent, Transmitter};
+use super::{microseconds, Intake, Interface, Reports, Sent, Transmitter};
 use crate::formats::frames::{Address, Frame};
 use crate::formats::radiotap::Outcome;
 use crate::os::clock::{earliest, Instant};
 use crate::os::port::AT_A_TIME;
+use crate::outbound::air::account::Unsent;
 use crate::outbound::air::dequeue::LOOK_EVERY;
 use crate::outbound::air::frame::{FrameKind, OutboundFrame, Receiver};
 use crate::outbound::air::in_flight::FrameName;
@@ -141,7 +142,7 @@ impl Transmitter {
         self.take_settled();
         self.queue.notices.expire(now);
         let gone = self.in_flight.expire(now);
-        self.forget(gone);
+        self.forget_expired(gone, now);
         while let Some((place, address)) = self.links.expire(now) {
             self.release(place, address);
         }
@@ -176,6 +177,38 @@ impl Transmitter {
             self.intake = Intake::Bounded;
             self.look_due = None;
         }
+    }
+
+    /// Nothing will be told any more of these frames. The radio lost those that it was given before its interface went
+    /// down.
+    fn forget_expired(&mut self, gone: Vec<(FrameName, Sent)>, now: Instant) {
+        if self.interface == Interface::Up {
+            return self.forget(gone);
+        }
+        let awaits_room = |name: FrameName| self.awaiting_room.iter().any(|(waiting, _)| *waiting == name);
+        let (waiting, lost) = gone.into_iter().partition(|(name, _)| awaits_room(*name));
+        self.forget(waiting);
+        self.was_reset(lost, now);
+    }
+
+    /// The radio lost these frames as its interface went down. A unit goes once more or back to the program, as the
+    /// library decides; the others are dropped.
+    pub(super) fn was_reset(&mut self, lost: Vec<(FrameName, Sent)>, now: Instant) {
+        let names = lost.iter().map(|(name, _)| *name).collect();
+        for (name, sent) in lost {
+            let FrameName { place, receiver: address, number } = name;
+            let fate = self.queue.told(place, sent.ticket, false);
+            let is_awaited = self.sleepers.reported((place, address), number, false, now);
+            self.take_settled();
+            self.links.was_reset(place, address, fate == Some(Fate::WaitsAgain), now);
+            let goes_back = fate == Some(Fate::HandedBack);
+            if fate == Some(Fate::WaitsAgain) {
+                self.send_once_more(name, sent, now);
+            } else if !is_awaited && !(goes_back && self.hand_back_late(place, address, &sent.octets, now)) {
+                self.queue.accounts[place].count_unsent(Unsent::Reset);
+            }
+        }
+        self.left(names);
     }
 
     /// Nothing will be told any more of these frames: none of them goes once more.

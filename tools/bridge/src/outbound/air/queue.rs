@@ -45,6 +45,8 @@ pub struct Queue {
     pub(super) notices: Notices,
     /// What had no room, and goes back to the program, as the library decided.
     without_room: VecDeque<(Place, OutboundFrame)>,
+    /// How many frames were dropped that the library didn't have.
+    pub(super) strays: u64,
 }
 
 impl Queue {
@@ -54,7 +56,7 @@ impl Queue {
         let backlogs = (0..networks).map(|_| Backlogs::default()).collect();
         let (accounts, notices) = (vec![Account::default(); networks], Notices::new(networks));
         let (downlink, scheduler) = (Downlink::new(weights), Scheduler::new(networks));
-        Queue { downlink, scheduler, accounts, backlogs, notices, without_room: VecDeque::new() }
+        Queue { downlink, scheduler, accounts, backlogs, notices, without_room: VecDeque::new(), strays: 0 }
     }
 
     pub fn is_empty(&self) -> bool {
@@ -117,7 +119,6 @@ impl Queue {
     ) -> Option<OutboundFrame> {
         self.downlink.used(place, cost);
         let served = self.scheduler.serve(place, receiver, cost, |waiting| is_meant(receiver, waiting, ticket));
-        debug_assert!(served.is_some(), "what the library has go waits");
         let frame = served?.frame;
         self.count_out(place, &frame);
         self.refill(place, receiver, now);
@@ -408,6 +409,20 @@ impl Queue {
         self.refill(place, receiver, now);
         self.tell_whether_it_waits(place);
         Some(frame)
+    }
+
+    /// The next frame for a receiver can't go: the library doesn't have it, or has no memory. It is dropped, as all
+    /// networks would wait for it.
+    pub fn drop_stray(&mut self, place: Place, receiver: Receiver, now: Instant) {
+        let known = self.take_first(place, receiver, now);
+        let stray = if known.is_some() { None } else { self.scheduler.take_first(place, receiver, |_| true) };
+        if let Some(Ticketed { frame, .. }) = &stray {
+            self.count_out(place, frame);
+            self.refill(place, receiver, now);
+            self.tell_whether_it_waits(place);
+        }
+        self.accounts[place].count_unsent(Unsent::Stray);
+        self.strays += 1;
     }
 
     /// The oldest frame for a receiver is dropped, of others the one that would go last. The answer to a
