@@ -1,6 +1,7 @@
 //! The way to the air beside the queues of the crate `downlink`, as the proved library keeps them and as a model does:
 //! the same calls, and what all decide. The way to the air decides by such a library too. So what is compared here is
-//! what it hands in, and whether it does what the library says.
+//! what it hands in, and whether it does what the library says. Here the bridge ends, so that the radio is given all
+//! that waits; `running_test.rs` compares them while it runs.
 //!
 //! Where the way to the air has rules of its own (`docs/DECISIONS.md`, "The queues of the way to the air") the calls
 //! are such that both come to the same:
@@ -29,6 +30,8 @@ use crate::testing::samples::{at, network, Seeded, Unit};
 mod model;
 #[path = "proved_queues_test.rs"]
 mod proved_queues_tests;
+#[path = "running_test.rs"]
+mod running;
 
 use model::Model;
 use proved_queues_tests::Beside;
@@ -92,7 +95,14 @@ struct Pair {
 }
 
 impl Pair {
+    /// The bridge ends.
     fn new(seed: u64) -> Pair {
+        let mut pair = Pair::running(seed);
+        pair.air.end();
+        pair
+    }
+
+    fn running(seed: u64) -> Pair {
         let mut seeded = Seeded(seed);
         let weights: Vec<u8> = (0..NETWORKS).map(|_| 1 + seeded.below(16) as u8).collect();
         let of_weight = |(place, weight): (usize, &u8)| Network {
@@ -116,7 +126,6 @@ impl Pair {
             back: Vec::new(),
             back_beside: Vec::new(),
         };
-        pair.air.end();
         (0..NETWORKS).for_each(|place| (0..=STATIONS).for_each(|receiver| pair.join(place, receiver)));
         pair
     }
@@ -395,6 +404,10 @@ impl Pair {
     /// Both have done the same so far.
     fn agree(&mut self) {
         assert_eq!(self.air.has_next(), self.beside.has_next());
+        self.agree_on_fates();
+    }
+
+    fn agree_on_fates(&mut self) {
         for (account, fates) in self.air.accounts().iter().zip(&self.fates) {
             let unsent = |why| account.unsent.get(&why).copied().unwrap_or(0);
             assert_eq!(unsent(Unsent::Late), fates[Fate::Late as usize]);
