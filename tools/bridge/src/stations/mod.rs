@@ -130,7 +130,7 @@ impl Stations {
 
     /// When `look_who_moved` has something to do next, or before.
     pub fn moves_due(&self) -> Instant {
-        self.roaming.look_due
+        self.roaming.look_due()
     }
 
     /// What is to be done of stations that may have moved, if that is due.

@@ -19,14 +19,16 @@
 //!    otherwise.
 //! 7. Of a station that moved within the last ten seconds and turns out to be here it is told, once, that the wire
 //!    shows it elsewhere.
-//! 8. At most two stations are asked in 100 ms, and of at most 256 is it awaited whether they are here. A second
-//!    update within ten seconds waits until its station may be asked; any other hint beyond that counts for nothing,
-//!    unless 3 says otherwise. If the radio tells of no acknowledgement, nobody is asked.
+//! 8. Of each network at most two stations are asked in 100 ms, and of at most 256 is it awaited whether they are here.
+//!    A second update within ten seconds waits until its station may be asked; any other hint beyond that counts for
+//!    nothing, unless 3 says otherwise. If the radio tells of no acknowledgement, nobody is asked.
+//! 9. What the wire of one network brings changes nothing of another one's stations.
 //!
 //! Nothing is sent or timed here.
 use std::collections::{BTreeMap, VecDeque};
 
 use crate::formats::ethernet::is_update;
+use crate::formats::frames::Address;
 use crate::os::clock::{Duration, Instant, SECOND};
 use crate::stations::echoes::Echoes;
 use crate::stations::station::{Member, State, Station};
@@ -44,12 +46,12 @@ const TO_ANSWER_TO_UPDATE: Duration = Duration::from_millis(500);
 const TO_ANSWER_OF_DOZING: Duration = Duration::from_secs(5);
 /// Unasked a station moves at most once in this time.
 const BETWEEN_MOVES: Duration = Duration::from_secs(10);
-/// How many stations are asked in how long.
+/// How many stations of a network are asked in how long.
 const MOST_ASKED: u32 = 2;
 const ASKED_IN: Duration = Duration::from_millis(100);
-/// Of how many stations it is awaited at most whether they are here.
+/// Of how many stations of a network it is awaited at most whether they are here.
 const MOST_AWAITED: usize = 256;
-/// How many moves are remembered at most.
+/// How many moves away from a network are remembered at most.
 const MOST_MOVES: usize = 4096;
 
 /// What is to be done of a station.
@@ -99,7 +101,7 @@ impl Awaited {
 
 #[derive(Debug)]
 struct Moved {
-    member: Member,
+    station: Address,
     at: Instant,
     /// Whether it was told that the wire showed it elsewhere again.
     is_told: bool,
@@ -108,20 +110,60 @@ struct Moved {
 /// The stations of all networks.
 #[derive(Debug)]
 pub(super) struct Roaming {
-    /// Of each network's wire.
-    echoes: Vec<Echoes>,
-    awaited: BTreeMap<Member, Awaited>,
-    /// When `look` has something to do next, or before: none of those that are awaited is due before.
-    pub(super) look_due: Instant,
-    moved: VecDeque<Moved>,
-    asked: (Instant, u32),
+    networks: Vec<OfNetwork>,
 }
 
 impl Roaming {
     /// Nothing was put on the wires of so many networks.
     pub(super) fn new(networks: usize) -> Roaming {
-        Roaming {
-            echoes: (0..networks).map(|_| Echoes::default()).collect(),
+        Roaming { networks: (0..networks).map(OfNetwork::new).collect() }
+    }
+
+    /// A frame goes to the wire of the network of this place.
+    pub(super) fn put(&mut self, place: usize, frame: &[u8], now: Instant) {
+        self.networks[place].echoes.put(frame, now);
+    }
+
+    /// When `look` has something to do next, or before: none of those that are awaited is due before.
+    pub(super) fn look_due(&self) -> Instant {
+        self.networks.iter().map(|network| network.look_due).min().unwrap_or(Instant::NEVER)
+    }
+
+    /// A wire brought a frame from the address of a station that is associated; `answers` says whether the radio tells of
+    /// acknowledgements.
+    pub(super) fn hint(
+        &mut self,
+        member: Member,
+        station: &Station,
+        frame: &[u8],
+        answers: bool,
+        now: Instant,
+    ) -> Option<Step> {
+        self.networks[member.0].hint(member, station, frame, answers, now)
+    }
+
+    /// What is to be done of those that were awaited for long enough.
+    pub(super) fn look(&mut self, table: &StationTable, now: Instant) -> Vec<Step> {
+        self.networks.iter_mut().flat_map(|network| network.look(table, now)).collect()
+    }
+}
+
+/// The stations of one network, and what came by its wire.
+#[derive(Debug)]
+struct OfNetwork {
+    place: usize,
+    echoes: Echoes,
+    awaited: BTreeMap<Address, Awaited>,
+    look_due: Instant,
+    moved: VecDeque<Moved>,
+    asked: (Instant, u32),
+}
+
+impl OfNetwork {
+    fn new(place: usize) -> OfNetwork {
+        OfNetwork {
+            place,
+            echoes: Echoes::default(),
             awaited: BTreeMap::new(),
             look_due: Instant::NEVER,
             moved: VecDeque::new(),
@@ -129,14 +171,7 @@ impl Roaming {
         }
     }
 
-    /// A frame goes to the wire of the network of this place.
-    pub(super) fn put(&mut self, place: usize, frame: &[u8], now: Instant) {
-        self.echoes[place].put(frame, now);
-    }
-
-    /// A wire brought a frame from the address of a station that is associated; `answers` says whether the radio tells of
-    /// acknowledgements.
-    pub(super) fn hint(
+    fn hint(
         &mut self,
         member: Member,
         station: &Station,
@@ -150,7 +185,7 @@ impl Roaming {
         if is_settled && !moves && !answers {
             return self.stays(member, now);
         }
-        let is_known = self.awaited.contains_key(&member) || !is_update && self.echoes[member.0].may_be(frame, now);
+        let is_known = self.awaited.contains_key(&member.1) || !is_update && self.echoes.may_be(frame, now);
         if !moves && (is_known || !answers) {
             return None;
         }
@@ -180,17 +215,17 @@ impl Roaming {
         step
     }
 
-    /// What is to be done of those that were awaited for long enough.
-    pub(super) fn look(&mut self, table: &StationTable, now: Instant) -> Vec<Step> {
+    fn look(&mut self, table: &StationTable, now: Instant) -> Vec<Step> {
         if now < self.look_due {
             return Vec::new();
         }
         let is_over = |awaited: &Awaited| awaited.until <= now;
-        let over: Vec<(Member, Awaited)> =
-            self.awaited.iter().filter(|(_, awaited)| is_over(awaited)).map(|(member, one)| (*member, *one)).collect();
+        let over = self.awaited.iter().filter(|(_, awaited)| is_over(awaited));
+        let over: Vec<(Address, Awaited)> = over.map(|(station, awaited)| (*station, *awaited)).collect();
         let mut steps = Vec::new();
-        for (member, awaited) in over {
-            self.awaited.remove(&member);
+        for (station, awaited) in over {
+            self.awaited.remove(&station);
+            let member = (self.place, station);
             let is_associated = |station: &&Station| {
                 matches!(station.state, State::Associated(_)) && !station.is_leaving && station.since <= awaited.since
             };
@@ -222,11 +257,11 @@ impl Roaming {
     }
 
     fn moves(&mut self, member: Member, now: Instant) -> Step {
-        self.awaited.remove(&member);
+        self.awaited.remove(&member.1);
         if self.moved.len() == MOST_MOVES {
             self.moved.pop_front();
         }
-        self.moved.push_back(Moved { member, at: now, is_told: false });
+        self.moved.push_back(Moved { station: member.1, at: now, is_told: false });
         Step::Move(member)
     }
 
@@ -242,15 +277,15 @@ impl Roaming {
         while self.moved.front().map_or(false, |moved| moved.at + BETWEEN_MOVES <= now) {
             self.moved.pop_front();
         }
-        self.moved.iter_mut().rev().find(|moved| moved.member == member)
+        self.moved.iter_mut().rev().find(|moved| moved.station == member.1)
     }
 
     /// Whether there is room for one more that is awaited, which is from now on.
     fn awaits(&mut self, member: Member, awaited: Awaited) -> bool {
-        let has_room = self.awaited.len() < MOST_AWAITED || self.awaited.contains_key(&member);
+        let has_room = self.awaited.len() < MOST_AWAITED || self.awaited.contains_key(&member.1);
         if has_room {
             self.look_due = self.look_due.min(awaited.until);
-            self.awaited.insert(member, awaited);
+            self.awaited.insert(member.1, awaited);
         }
         has_room
     }

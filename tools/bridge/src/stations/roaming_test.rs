@@ -71,9 +71,9 @@ fn one_that_was_just_heard_is_asked_and_moves_soon_if_it_is_silent() {
     site.is_heard(now);
     assert_eq!(site.hint(MEMBER, &update(STATION), now + MILLISECOND), Some(Step::Ask(MEMBER)));
     let until = now + MILLISECOND + TO_ACKNOWLEDGE;
-    assert_eq!((site.roaming.look_due, site.look(until - MILLISECOND)), (until, vec![]));
+    assert_eq!((site.roaming.look_due(), site.look(until - MILLISECOND)), (until, vec![]));
     assert_eq!(site.look(until), [Step::Move(MEMBER)]);
-    assert_eq!((site.roaming.look_due, site.look(at(60 * SECOND))), (Instant::NEVER, vec![]));
+    assert_eq!((site.roaming.look_due(), site.look(at(60 * SECOND))), (Instant::NEVER, vec![]));
 }
 
 #[test]
@@ -341,4 +341,40 @@ fn few_are_awaited_at_a_time() {
     assert_eq!(asked.count(), MOST_ASKED as usize);
     assert_eq!(site.look(at(10 * SECOND + TO_ACKNOWLEDGE)).len(), MOST_ASKED as usize);
     assert_eq!(site.look(at(10 * SECOND + QUIET)).len(), MOST_AWAITED - MOST_ASKED as usize);
+}
+
+/// A station of the office goes over to another access point, of which its wire is told. It is let go in time, though
+/// the wire of the guests claims so many of theirs that no more can be asked or awaited.
+#[test]
+fn what_the_wire_of_one_network_brings_keeps_no_station_of_another() {
+    let office = (0, made_up(9999));
+    let (mut site, guests) = Site::with_many(MOST_AWAITED + MOST_ASKED as usize);
+    site.table.associate(office, 1, at(JOINED));
+    // The guests, all of them one stranger's, move and are back, and are claimed again a second later.
+    for (guest, aid) in guests.iter().zip(1..) {
+        assert_eq!(site.hint(*guest, &update(guest.1), at(2 * SECOND)), Some(Step::Move(*guest)));
+        site.table.associate(*guest, aid, at(2 * SECOND));
+    }
+    let now = at(3 * SECOND + 10 * MILLISECOND);
+    let asked = guests.iter().filter(|guest| site.hint(**guest, &update(guest.1), now).is_some());
+    assert_eq!(asked.count(), MOST_ASKED as usize);
+    let null = mode_of_station(OTHER, office.1, false);
+    site.table.heard(Frame::of(&null).unwrap(), Reception::default(), now);
+    assert_eq!(site.hint(office, &update(office.1), now + MILLISECOND), Some(Step::Ask(office)));
+    assert!(site.look(now + MILLISECOND + TO_ACKNOWLEDGE).contains(&Step::Move(office)));
+}
+
+/// Of what moved away from one network another one's moves make none forgotten: unasked a station moves once in ten
+/// seconds all the same.
+#[test]
+fn moves_of_one_network_make_none_of_another_forgotten() {
+    let office = (0, made_up(9999));
+    let (mut site, guests) = Site::with_many(MOST_MOVES);
+    site.table.associate(office, 1, at(JOINED));
+    assert_eq!(site.hint(office, &update(office.1), at(2 * SECOND)), Some(Step::Move(office)));
+    for guest in &guests {
+        assert_eq!(site.hint(*guest, &update(guest.1), at(2 * SECOND)), Some(Step::Move(*guest)));
+    }
+    site.table.associate(office, 1, at(2 * SECOND));
+    assert_eq!(site.hint(office, &update(office.1), at(4 * SECOND)), Some(Step::Ask(office)));
 }
