@@ -47,10 +47,14 @@ pub enum Priority {
     Request,
     /// A station says what holds from then on: that it leaves, dozes or is awake, be it by a unit of data.
     Notice,
+    /// A station leaves for good, or is sent away: the bridge says that by the same frame (`stations`). It is worth
+    /// more than notices, so that a station pushes it out by nothing that says that it is there.
+    Departure,
 }
 
 impl Priority {
-    pub const ALL: [Priority; 4] = [Priority::Probe, Priority::Data, Priority::Request, Priority::Notice];
+    pub const ALL: [Priority; 5] =
+        [Priority::Probe, Priority::Data, Priority::Request, Priority::Notice, Priority::Departure];
 
     /// That of a frame of the air, which changes the mode of its station or doesn't.
     fn of(frame: Frame<'_>, changes_mode: bool) -> Priority {
@@ -58,17 +62,19 @@ impl Priority {
             (FrameType::Data, _) if changes_mode || frame.is_null() => Priority::Notice,
             (FrameType::Data, _) => Priority::Data,
             (FrameType::Management, PROBE_REQUEST) => Priority::Probe,
-            (FrameType::Management, DISASSOCIATION | DEAUTHENTICATION) => Priority::Notice,
+            (FrameType::Management, DISASSOCIATION) => Priority::Notice,
+            (FrameType::Management, DEAUTHENTICATION) => Priority::Departure,
             _ => Priority::Request,
         }
     }
 
-    /// How long it is worth to let one wait. A notice has no end: what it says is as true later, and isn't said again.
+    /// How long it is worth to let one wait. A notice and a departure have no end: what they say is as true later, and
+    /// isn't said again.
     pub fn longest(self) -> Option<Duration> {
         match self {
             Priority::Probe | Priority::Data => Some(LONGEST),
             Priority::Request => Some(LONGEST_OF_REQUEST),
-            Priority::Notice => None,
+            Priority::Notice | Priority::Departure => None,
         }
     }
 }
@@ -80,6 +86,7 @@ impl fmt::Display for Priority {
             Priority::Data => "frames of data",
             Priority::Request => "other requests and polls",
             Priority::Notice => "frames by which stations leave, doze or wake",
+            Priority::Departure => "deauthentications",
         })
     }
 }

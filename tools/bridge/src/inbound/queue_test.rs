@@ -63,7 +63,7 @@ fn what_a_frame_is_is_seen() {
         (management(0), Priority::Request),
         (management(2), Priority::Request),
         (management(10), Priority::Notice),
-        (management(12), Priority::Notice),
+        (management(12), Priority::Departure),
         (management(13), Priority::Request),
     ] {
         let frame = InboundFrame::of_air(Frame::of(&octets).unwrap(), false, Instant::from_nanos(7));
@@ -89,7 +89,7 @@ fn what_waited_too_long_is_dropped_but_for_notices() {
         waiting.push(AIR, of(priority, STATION, Instant::START, mark));
         waiting.push(AIR, of(priority, STATION, at(200 * MILLISECOND), 10 + mark));
     }
-    let wanted = [(AIR, 10), (AIR, 11), (AIR, 2), (AIR, 12), (AIR, 3), (AIR, 13)];
+    let wanted = [10, 11, 2, 12, 3, 13, 4, 14].map(|mark| (AIR, mark));
     assert_eq!(marks(&mut waiting, at(200 * MILLISECOND)), wanted);
     waiting.push(AIR, request(Instant::START, 1));
     waiting.push(AIR, of(Priority::Notice, STATION, Instant::START, 2));
@@ -145,7 +145,7 @@ fn a_flood_of_one_network_takes_nothing_from_another() {
     waiting.push(other, data(STATION, Instant::START, 1));
     waiting.push(wire, data(STATION, Instant::START, 2));
     for number in 0..3 * MOST_FRAMES {
-        let priority = Priority::ALL[number % 4];
+        let priority = Priority::ALL[number % Priority::ALL.len()];
         for source in [all, AIR, Source::Wire(0)] {
             waiting.push(source, of(priority, made_up(number), Instant::START, 3));
         }
@@ -182,6 +182,11 @@ fn what_was_dropped_is_a_sentence() {
         (Priority::Request, Why::Late, "other requests and polls that had waited 200 ms"),
         (Priority::Probe, Why::Crowded, "probe requests before 32 younger ones of the same sender"),
         (Priority::Notice, Why::Full, "frames by which stations leave, doze or wake, since no more could wait"),
+        (
+            Priority::Departure,
+            Why::Held,
+            "deauthentications, since too many waited for stations to fall asleep or wake",
+        ),
     ] {
         assert_eq!(Dropped { priority, why }.to_string(), wanted);
     }
@@ -257,7 +262,7 @@ fn a_lane_is_as_its_rules_say() {
         for _ in 0..2000 {
             now += Duration::from_nanos(seeded.below(600_000) as u64);
             if seeded.below(10) < pushes {
-                let (priority, sender) = (Priority::ALL[seeded.below(4)], made_up(seeded.below(senders)));
+                let (priority, sender) = (Priority::ALL[seeded.below(5)], made_up(seeded.below(senders)));
                 let frame = InboundFrame { octets: vec![0; seeded.below(longest)], ..of(priority, sender, now, 0) };
                 queue.push(frame.clone());
                 slow.push(frame);
@@ -438,4 +443,34 @@ fn what_waits_with_a_station_that_is_held_is_bounded_and_counted() {
     assert_eq!(waiting.rest(), Some("256 frames still waited for the program".to_owned()));
     waiting.held.release(0, STATION);
     assert_eq!((marks(&mut waiting, Instant::START).len(), waiting.rest()), (256, None));
+}
+
+/// That a station was sent away is told the program, however many frames the station sends, and whether it is held.
+#[test]
+fn a_station_does_not_push_out_that_it_was_sent_away() {
+    for is_held in [false, true] {
+        let mut waiting = InboundQueue::new(1);
+        let departure = crate::stations::own_frames::departure(OURS, STATION);
+        let push = |waiting: &mut InboundQueue, octets: &[u8]| {
+            let frame = InboundFrame::of_air(Frame::of(octets).unwrap(), false, Instant::START);
+            if is_held {
+                waiting.keep(AIR, frame);
+            } else {
+                waiting.push(AIR, frame);
+            }
+        };
+        if is_held {
+            waiting.held.hold(0, STATION, Holding::Own);
+        }
+        push(&mut waiting, &departure);
+        let null = crate::stations::own_frames::mode_of_station(OURS, STATION, false);
+        let disassociation = Unit { control: [0xa0, 0], ..Unit::default() }.octets();
+        for _ in 0..MOST_FRAMES {
+            push(&mut waiting, &null);
+            push(&mut waiting, &disassociation);
+        }
+        waiting.held.release(0, STATION);
+        assert_eq!(waiting.pop(Instant::START).map(|(_, frame)| frame.octets), Some(departure), "{is_held}");
+        assert_eq!(dropped(&waiting).len(), 1);
+    }
 }

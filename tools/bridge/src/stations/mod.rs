@@ -162,10 +162,11 @@ impl Stations {
         self.roaming.put(place, frame, now);
     }
 
-    /// A person wants a station to be forgotten, which has to be known.
+    /// A person wants a station to be forgotten, which has to be known. One that should have left a while ago can be
+    /// kicked again: what was said to the program may have been dropped.
     pub fn kick(&mut self, bssid: Address, station: Address, now: Instant) -> Result<Vec<Errand>, String> {
         let place = self.table.places.of(&bssid).ok_or_else(|| format!("{bssid} is no network of these"))?;
-        let known = self.table.station(&(place, station)).filter(|station| !station.is_leaving);
+        let known = self.table.station(&(place, station)).filter(|station| !station.leaves_by(now));
         let state = known.ok_or_else(|| format!("{bssid} has no station {station}"))?.state;
         let errand = self.word((place, station), state, WORD_RETRIES);
         let errands = vec![errand, self.forget((place, station), Forgotten::Kicked, now)];

@@ -1,6 +1,9 @@
 //! A station of a network: how far it has joined, and what is known of it.
 use crate::formats::frames::Address;
-use crate::os::clock::Instant;
+use crate::os::clock::{Duration, Instant};
+
+/// By then the program has read that a station left, unless that was dropped on its way.
+const TO_LEAVE: Duration = Duration::from_secs(5);
 
 /// A network's place, and the address of a station of it.
 pub type Member = (usize, Address);
@@ -80,6 +83,9 @@ pub struct Station {
     pub asked: Asked,
     /// Whether the program is about to be told that it left.
     pub(super) is_leaving: bool,
+    pub(super) leaving_since: Instant,
+    /// The number of the program's last table that has it.
+    pub(super) listed_in: u64,
     /// Its turn among all: the order in which they were entered.
     pub turn: u64,
     /// Its listen interval, if it is associated.
@@ -96,6 +102,11 @@ pub struct Station {
 impl Station {
     pub fn is_associated(&self) -> bool {
         matches!(self.state, State::Associated(_))
+    }
+
+    /// Whether the program may still be about to read that it left.
+    pub(super) fn leaves_by(&self, now: Instant) -> bool {
+        self.is_leaving && now < self.leaving_since + TO_LEAVE
     }
 }
 

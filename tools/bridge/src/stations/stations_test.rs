@@ -224,3 +224,22 @@ fn what_happened_is_a_sentence() {
     assert_eq!(long.0, Level::Notice);
     assert!(long.1.contains("dozes too long") && long.1.ends_with("its listen interval is 5"), "{}", long.1);
 }
+
+/// What was to be said to the program may have been dropped: then the station goes on, and a person can send it away
+/// again.
+#[test]
+fn who_was_kicked_and_is_still_there_can_be_kicked_again() {
+    let mut stations = Stations::new(&[network(OTHER), network(OURS)], None);
+    stations.answered(OURS, &of_network(0xb0, STATION, 1, &[0, 0, 2, 0, 0, 0]), Instant::START);
+    stations.answered(OURS, &of_network(0x10, STATION, 2, &[1, 0, 0, 0, 1, 0xc0]), Instant::START);
+    let first = stations.kick(OURS, STATION, at(SECOND)).unwrap();
+    stations.fed(&samples::data(), at(2 * SECOND));
+    assert_eq!(stations.look(at(1000 * SECOND)), []);
+    assert!(stations.kick(OURS, STATION, at(2 * SECOND)).is_err());
+    stations.take_events();
+    assert_eq!(stations.kick(OURS, STATION, at(1001 * SECOND)), Ok(first));
+    // That it was forgotten is told once.
+    assert_eq!(stations.take_events(), []);
+    stations.fed(&departure(OURS, STATION), at(1002 * SECOND));
+    assert!(stations.kick(OURS, STATION, at(1003 * SECOND)).is_err());
+}

@@ -108,6 +108,7 @@ impl StationTable {
         }
         for (address, state) in known {
             if !self.stations[place].contains_key(address) {
+            station.leaving_since = now;
                 self.authenticate((place, *address), now);
                 self.set_state((place, *address), *state, now);
             }
