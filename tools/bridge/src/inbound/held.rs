@@ -3,16 +3,20 @@
 //! (`outbound::air::sleeping`). It is held too if it wakes and what comes of that has to wait (`run::wake_timing`).
 //!
 //! So much for one station that is held: what is taken out of the queues of it and for it keeps its order, also with
-//! what comes once it is released. Of each priority a bounded number waits; one more drops the oldest. Of a network a
-//! bounded number of octets waits; what is beyond is dropped, but for notices.
+//! what comes once it is released. Of each priority a bounded number waits with a station: few that say how it is from
+//! then on, since the last one of these holds. One more drops the oldest. Of a network a bounded number of octets
+//! waits: one more drops the oldest of what is worth least and is still held.
 use std::collections::{BTreeMap, HashMap, VecDeque};
 
 use crate::formats::frames::Address;
 use crate::inbound::frame::{InboundFrame, Priority, Source};
 use crate::inbound::source_queue::{Dropped, Why, MOST_OCTETS};
+use crate::stations::station::Member;
 
-/// How many frames of a priority wait apart at most of a station and for it.
-pub const MOST_HELD: usize = 256;
+/// How many frames of a priority wait apart at most of a station and for it, and how many that say how it is from then
+/// on.
+const MOST_HELD: usize = 256;
+const MOST_NOTICES: usize = 4;
 
 /// Which frames wait with a station that is held.
 #[derive(Debug, Clone, Copy, PartialEq, Eq, PartialOrd, Ord)]
@@ -26,35 +30,44 @@ pub enum Holding {
 #[derive(Debug)]
 struct Held {
     holding: Holding,
-    frames: VecDeque<(Source, InboundFrame)>,
+    /// In the order in which they came.
+    frames: VecDeque<Waiting>,
 }
 
-impl Held {
-    /// Takes out the oldest frame of a priority, if no more of it may wait.
-    fn take_excess(&mut self, priority: Priority) -> Option<(Source, InboundFrame)> {
-        let is_one = |(_, frame): &(Source, InboundFrame)| frame.priority == priority;
-        if self.frames.iter().filter(|frame| is_one(frame)).count() < MOST_HELD {
-            return None;
-        }
-        self.frames.iter().position(is_one).and_then(|oldest| self.frames.remove(oldest))
-    }
+/// A frame that waits with a station, with its number among all that ever did.
+#[derive(Debug)]
+struct Waiting {
+    number: u64,
+    source: Source,
+    frame: InboundFrame,
+}
+
+/// What waits apart of one network.
+#[derive(Debug, Default)]
+struct OfNetwork {
+    /// How many octets, those of stations that aren't held any more included.
+    octets: usize,
+    /// The station with which each frame is held: what is worth least first, and of that the oldest.
+    stations: BTreeMap<(Priority, u64), Address>,
 }
 
 /// The frames that wait apart.
 #[derive(Debug, Default)]
 pub struct HeldFrames {
-    /// Each station that is held, by the place of its network.
-    held: HashMap<(usize, Address), Held>,
+    /// Each station that is held.
+    held: HashMap<Member, Held>,
     /// The frames of stations that aren't held any more, and how many these are of each station.
     released: VecDeque<(Source, InboundFrame)>,
-    released_of: HashMap<(usize, Address), usize>,
-    /// Of each network how many octets wait apart.
-    octets: HashMap<usize, usize>,
+    released_of: HashMap<Member, usize>,
+    /// By the places of the networks.
+    networks: HashMap<usize, OfNetwork>,
+    /// How many frames ever waited with stations.
+    came: u64,
     dropped: BTreeMap<(Source, Dropped), u64>,
 }
 
 /// The station that a frame is of or for, and which holding it waits for.
-fn station_of(source: Source, frame: &InboundFrame) -> Option<((usize, Address), Holding)> {
+fn station_of(source: Source, frame: &InboundFrame) -> Option<(Member, Holding)> {
     match source {
         Source::AirForAll => None,
         Source::Air(place) => Some(((place, frame.flow.0), Holding::Own)),
@@ -75,6 +88,10 @@ impl HeldFrames {
         if frames.is_empty() {
             return;
         }
+        let network = self.networks.entry(place).or_default();
+        for waiting in &frames {
+            network.stations.remove(&(waiting.frame.priority, waiting.number));
+        }
         let released = self.released_of.entry((place, station)).or_default();
         let is_of_station = |(source, frame): &(Source, InboundFrame)| {
             station_of(*source, frame).map_or(false, |(found, _)| found == (place, station))
@@ -82,14 +99,14 @@ impl HeldFrames {
         let first = (*released > 0).then(|| self.released.iter().position(is_of_station)).flatten();
         let behind = first.map(|first| self.released.split_off(first)).unwrap_or_default();
         *released += frames.len();
-        self.released.extend(frames.into_iter().chain(behind));
+        self.released.extend(frames.into_iter().map(|waiting| (waiting.source, waiting.frame)).chain(behind));
     }
 
     /// The next frame that waits apart no more.
     pub fn next(&mut self) -> Option<(Source, InboundFrame)> {
         let (source, frame) = self.released.pop_front()?;
         if let Some((station, _)) = station_of(source, &frame) {
-            self.octets.get_mut(&station.0).into_iter().for_each(|octets| *octets -= frame.octets.len());
+            self.networks.entry(station.0).or_default().octets -= frame.octets.len();
             self.released_of.get_mut(&station).into_iter().for_each(|released| *released -= 1);
             if self.released_of.get(&station) == Some(&0) {
                 self.released_of.remove(&station);
@@ -115,26 +132,73 @@ impl HeldFrames {
 
     /// A frame waits apart, if its station is held; else it is given back.
     pub fn keep(&mut self, source: Source, frame: InboundFrame) -> Option<(Source, InboundFrame)> {
-        let HeldFrames { held, octets, dropped, .. } = self;
-        let station = station_of(source, &frame).filter(|_| !held.is_empty());
-        let found = station.and_then(|(station, holding)| Some((station.0, holding, held.get_mut(&station)?)));
-        let (place, held) = match found {
-            Some((place, holding, held)) if holding <= held.holding => (place, held),
-            _ => return Some((source, frame)),
+        let station = station_of(source, &frame).filter(|_| !self.held.is_empty());
+        let is_held = |(member, holding): &(Member, Holding)| {
+            self.held.get(member).map_or(false, |held| *holding <= held.holding)
         };
-        let octets = octets.entry(place).or_default();
-        let what = Dropped { priority: frame.priority, why: Why::Held };
-        if let Some((source, oldest)) = held.take_excess(frame.priority) {
-            *octets -= oldest.octets.len();
-            *dropped.entry((source, what)).or_default() += 1;
-        }
-        if *octets + frame.octets.len() <= MOST_OCTETS || frame.priority == Priority::Notice {
-            *octets += frame.octets.len();
-            held.frames.push_back((source, frame));
-        } else {
-            *dropped.entry((source, what)).or_default() += 1;
+        let member = match station.filter(is_held) {
+            Some((member, _)) => member,
+            None => return Some((source, frame)),
+        };
+        self.make_room_with(member, frame.priority);
+        let has_room = self.make_room_in(member.0, &frame);
+        match self.held.get_mut(&member).filter(|_| has_room) {
+            Some(held) => {
+                self.came += 1;
+                let network = self.networks.entry(member.0).or_default();
+                network.octets += frame.octets.len();
+                network.stations.insert((frame.priority, self.came), member.1);
+                held.frames.push_back(Waiting { number: self.came, source, frame });
+            }
+            None => self.count(source, frame.priority),
         }
         None
+    }
+
+    /// Drops the oldest frame of a priority that waits with a station, if no more of these may.
+    fn make_room_with(&mut self, member: Member, priority: Priority) {
+        let most = if priority < Priority::Notice { MOST_HELD } else { MOST_NOTICES };
+        let held = self.held.get(&member).into_iter().flat_map(|held| &held.frames);
+        let mut alike = held.filter(|waiting| waiting.frame.priority == priority).map(|waiting| waiting.number);
+        let oldest = alike.next();
+        if 1 + alike.count() >= most {
+            oldest.into_iter().for_each(|oldest| self.drop_one(member, oldest));
+        }
+    }
+
+    /// Drops what is worth no more than a frame of a network, until there is room for that; answers whether there is.
+    fn make_room_in(&mut self, place: usize, frame: &InboundFrame) -> bool {
+        loop {
+            let network = self.networks.entry(place).or_default();
+            if network.octets + frame.octets.len() <= MOST_OCTETS {
+                return true;
+            }
+            match network.stations.iter().next() {
+                Some(((priority, oldest), station)) if *priority <= frame.priority => {
+                    let (member, oldest) = ((place, *station), *oldest);
+                    self.drop_one(member, oldest);
+                }
+                _ => return false,
+            }
+        }
+    }
+
+    /// The frame of this number, which waits with this station, is dropped and counted.
+    fn drop_one(&mut self, member: Member, number: u64) {
+        let dropped = self.held.get_mut(&member).and_then(|held| {
+            let found = held.frames.binary_search_by_key(&number, |waiting| waiting.number).ok()?;
+            held.frames.remove(found)
+        });
+        if let Some(Waiting { source, frame, .. }) = dropped {
+            let network = self.networks.entry(member.0).or_default();
+            network.octets -= frame.octets.len();
+            network.stations.remove(&(frame.priority, number));
+            self.count(source, frame.priority);
+        }
+    }
+
+    fn count(&mut self, source: Source, priority: Priority) {
+        *self.dropped.entry((source, Dropped { priority, why: Why::Held })).or_default() += 1;
     }
 
     pub fn has_dropped(&self) -> bool {

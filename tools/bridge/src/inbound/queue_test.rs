@@ -402,7 +402,8 @@ fn a_station_of_which_only_its_own_frames_are_held_gets_its_units() {
     assert_eq!(marks(&mut waiting, Instant::START), [(AIR, 1), (AIR, 2), (Source::Wire(0), 3)]);
 }
 
-/// Of a network no more octets wait with all stations that are held than in a queue. Notices wait all the same.
+/// Of a network no more octets wait with all stations that are held than in a queue: what is worth least goes first,
+/// and of that the oldest.
 #[test]
 fn what_waits_with_all_stations_that_are_held_is_bounded() {
     let mut waiting = InboundQueue::new(2);
@@ -417,16 +418,61 @@ fn what_waits_with_all_stations_that_are_held_is_bounded() {
         waiting.keep(AIR, long(Priority::Notice, station, number));
     }
     let most = MOST_OCTETS / 4096;
-    assert!(waiting.len() >= most && waiting.len() <= most + 10, "{}", waiting.len());
-    assert_eq!(dropped(&waiting), [(AIR, Priority::Data, Why::Held, 1010 - waiting.len() as u64)]);
+    assert_eq!((waiting.len(), dropped(&waiting)), (most, vec![(AIR, Priority::Data, Why::Held, 1010 - most as u64)]));
     waiting.held.hold(1, STATION, Holding::Own);
     waiting.keep(Source::Air(1), long(Priority::Data, STATION, 1));
     (0..10).for_each(|number| waiting.held.release(0, made_up(number)));
     waiting.held.release(1, STATION);
-    assert!(std::iter::from_fn(|| waiting.pop(Instant::START)).count() > most);
+    let found = marks(&mut waiting, Instant::START);
+    let of_number = |number| found.iter().filter(|(source, mark)| (*source, *mark) == (AIR, number)).count();
+    assert_eq!((0..10).map(of_number).collect::<Vec<_>>(), [1, 1, 1, 1, 3, 101, 101, 101, 101, 101]);
+    assert!(found.contains(&(Source::Air(1), 1)));
     waiting.held.hold(0, STATION, Holding::Own);
     waiting.keep(AIR, long(Priority::Data, STATION, 1));
     assert_eq!(waiting.len(), 1);
+}
+
+/// Few notices wait with a station, however often it dozes and wakes meanwhile: the last ones, as those hold. So the
+/// stations of a network, however many, make notices fill no memory.
+#[test]
+fn of_notices_few_wait_with_a_station_that_is_held() {
+    let mut waiting = InboundQueue::new(1);
+    let stations: Vec<Address> = (0..200).map(made_up).collect();
+    for station in &stations {
+        waiting.held.hold(0, *station, Holding::Own);
+        for number in 0..300u16 {
+            // A unit as long as one can be, which says another mode each time.
+            let control = [0x08, if number % 2 == 0 { 0x01 } else { 0x11 }];
+            let body = vec![number as u8; 2304];
+            let unit = Unit { control, transmitter: *station, sequence: number << 4, body, ..Unit::default() };
+            waiting.keep(AIR, InboundFrame::of_air(Frame::of(&unit.octets()).unwrap(), true, Instant::START));
+        }
+    }
+    assert_eq!(dropped(&waiting), [(AIR, Priority::Notice, Why::Held, 200 * 296)]);
+    stations.iter().for_each(|station| waiting.held.release(0, *station));
+    let found = std::iter::from_fn(|| waiting.pop(Instant::START)).map(|(_, frame)| frame.octets);
+    let found: Vec<Vec<u8>> = found.collect();
+    assert!(found.iter().map(Vec::len).sum::<usize>() <= MOST_OCTETS);
+    let last: Vec<u8> = found[..4].iter().map(|octets| octets[octets.len() - 1]).collect();
+    assert_eq!((found.len(), last), (800, (296..300u16).map(|number| number as u8).collect()));
+}
+
+/// If notices alone fill the room of a network, the oldest of them go, whichever stations they are of.
+#[test]
+fn the_oldest_notice_of_a_network_goes_if_no_more_can_wait() {
+    let mut waiting = InboundQueue::new(1);
+    let most = MOST_OCTETS / 4096;
+    for number in 0..most + 10 {
+        let notice = of(Priority::Notice, made_up(number), Instant::START, 0);
+        waiting.held.hold(0, made_up(number), Holding::Own);
+        waiting.keep(AIR, InboundFrame { octets: vec![0; 4096], ..notice });
+    }
+    assert_eq!(dropped(&waiting), [(AIR, Priority::Notice, Why::Held, 10)]);
+    waiting.keep(AIR, data(made_up(0), Instant::START, 0));
+    assert_eq!(dropped(&waiting)[0], (AIR, Priority::Data, Why::Held, 1));
+    (0..most + 10).for_each(|number| waiting.held.release(0, made_up(number)));
+    let senders = std::iter::from_fn(|| waiting.pop(Instant::START)).map(|(_, frame)| frame.flow.0);
+    assert_eq!(senders.collect::<Vec<_>>(), (10..most + 10).map(made_up).collect::<Vec<_>>());
 }
 
 #[test]

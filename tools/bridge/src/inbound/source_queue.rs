@@ -4,7 +4,6 @@ use std::fmt;
 
 use crate::inbound::flow_queue::FlowQueue;
 use crate::inbound::frame::{InboundFrame, Priority};
-use crate::inbound::held::MOST_HELD;
 use crate::os::clock::Instant;
 
 /// How many frames of a priority wait at most of one sender to one receiver.
@@ -26,7 +25,7 @@ pub enum Why {
     /// Too many younger ones of its sender to its receiver waited.
     Crowded,
     Full,
-    /// Its station fell asleep or woke, and too many younger ones waited with it, or too many of its network.
+    /// Its station fell asleep or woke, and too many waited with it, or with all such stations of its network.
     Held,
 }
 
@@ -38,9 +37,7 @@ impl fmt::Display for Dropped {
             (Why::Late, None) => write!(to, "{priority} that had waited too long"),
             (Why::Crowded, _) => write!(to, "{priority} before {MOST_OF_FLOW} younger ones of the same sender"),
             (Why::Full, _) => write!(to, "{priority}, since no more could wait"),
-            (Why::Held, _) => {
-                write!(to, "{priority} before {MOST_HELD} younger ones, as a station fell asleep or woke")
-            }
+            (Why::Held, _) => write!(to, "{priority}, since too many waited for stations to fall asleep or wake"),
         }
     }
 }
