@@ -27,7 +27,7 @@ from live import (asking, changes, checks, children, machine, recording, rights,
                   state_files, telling, wires)
 from live import bridge as bridge_of
 from live import page as page_of
-from live.bridge import Bridge, FaultCode, Signals, words_of
+from live.bridge import Bridge, FaultCode, Signals, network_word, words_of
 from live.changes import Change, Changes
 from live.checks import (Plan, Wanted, check_bridge, check_config, check_left, check_names, check_program,
                          check_record, check_wires, read_wires, set_country)
@@ -667,6 +667,15 @@ class FilesAndPrograms(WithFiles):
         status, _, told = tool("live", self.config, "--phy", "phy0", "--record-limit", "5M")
         self.assertEqual(status, 2)
         self.assertIn("--record-limit says when a record ends: give --record too", told)
+
+    def test_networks_that_relay(self):
+        """The bridge is told which networks send on what their stations send to each other."""
+        for relays, said in ((True, "true"), (False, "false")):
+            network = Network(OURS, b"\x82", ssid=b"a", relays=relays)
+            self.assertEqual(network_word(network, {OURS: "wire"}, {}).split("/")[-2:], [said, "wire"])
+        for text, relays in ((ONE_NETWORK, True), (f"{ONE_NETWORK}relay = false\n", False)):
+            settings = read_settings(self.write("a.toml", text))
+            self.assertEqual([network.relays for network in settings.networks], [relays])
 
     def test_updates_of_wires(self):
         """The bridge is told where wires aren't to learn which stations join."""

@@ -18,6 +18,8 @@ pub struct Network {
     pub quota: u32,
     /// The interface of its wire, if it has one.
     pub wire: Option<String>,
+    /// Whether it sends on what its stations send to each other.
+    pub relays: bool,
     /// Its share of the air, as a part of all networks' shares: from 1 to `air::MOST_WEIGHT`.
     pub weight: u8,
 }

@@ -92,7 +92,8 @@ class Signals:
 def network_word(network: Network, wires: dict[bytes, str], shares: dict[bytes, int]) -> str:
     """What the bridge is told of a network."""
     parts = [address_text(network.bssid), network.ssid.hex(), network.rates.hex(), str(network.max_stations),
-             str(network.max_known), str(network.quota), str(shares.get(network.bssid, 1))]
+             str(network.max_known), str(network.quota), str(shares.get(network.bssid, 1)),
+             "true" if network.relays else "false"]
     return "/".join(parts + [wires[network.bssid]] if network.bssid in wires else parts)
 
 

@@ -16,7 +16,8 @@ QUOTA = 256
 @dataclass(frozen=True)
 class Network:
     """One network: its BSSID, its rates as the octets of its elements, how many stations it knows at most, how many
-    events `run` takes of it, its SSID, how many stations are associated with it at most, and how many units it keeps."""
+    events `run` takes of it, its SSID, how many stations are associated with it at most, how many units it keeps, and
+    whether it sends on what its stations send to each other."""
 
     bssid: bytes
     rates: bytes
@@ -25,6 +26,7 @@ class Network:
     ssid: bytes = b""
     max_stations: int = MOST_STATIONS
     quota: int = QUOTA
+    relays: bool = True
 
     @property
     def sending_rate(self) -> int:
@@ -59,7 +61,7 @@ def read_settings(path: str) -> Settings:
             text = tomllib.load(file)
         networks = tuple(Network(address_of(table["bssid"]), bytes.fromhex(table["rates"]), table["max_known"],
                                  table["max_events"], table["ssid"].encode(), table["max_stations"],
-                                 table["quota"])
+                                 table["quota"], table.get("relay", True))
                          for table in text["network"])
         return Settings(text["channel"], text["interval"], networks)
     except (OSError, ValueError, KeyError, TypeError, AttributeError) as fault:

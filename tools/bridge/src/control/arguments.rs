@@ -14,7 +14,7 @@ const USAGE: &str = "bridge [--name NAME] --phy NAME --channel NUMBER --monitor 
                          [--by active-monitors|managed|access-points] [--idle SECONDS] [--no-update] \
                          [--socket DESCRIPTOR] [--alive] [--sends] [--record DESCRIPTOR:NAME] \
                          [--record-limit OCTETS] [--bounds OCTETS] \
-                         --network BSSID/SSID/RATES/STATIONS/KNOWN/QUOTA/SHARE[/WIRE]... PROGRAM CONFIG";
+                         --network BSSID/SSID/RATES/STATIONS/KNOWN/QUOTA/SHARE/RELAYS[/WIRE]... PROGRAM CONFIG";
 
 /// What the words ask for.
 #[derive(Debug, Clone, PartialEq, Eq)]
@@ -154,18 +154,19 @@ fn read_network(text: &str) -> Result<Network, WrongArguments> {
     let (max_stations, max_known) = (number(), number());
     let quota: Option<u32> = parts.next().and_then(|part| part.parse().ok());
     let weight: Option<u8> = parts.next().and_then(|part| part.parse().ok()).filter(|weight| WEIGHTS.contains(weight));
+    let relays: Option<bool> = parts.next().and_then(|part| part.parse().ok());
     let wire = parts.next().map(str::to_owned);
     let read = bssid
         .zip(ssid)
         .zip(rates)
         .zip(max_stations.zip(max_known))
-        .zip(quota.zip(weight))
+        .zip(quota.zip(weight).zip(relays))
         .filter(|_| parts.next().is_none());
     match read {
-        Some(((((bssid, ssid), rates), (max_stations, max_known)), (quota, weight))) => {
-            Ok(Network { bssid, ssid, rates, max_stations, max_known, quota, wire, weight })
+        Some(((((bssid, ssid), rates), (max_stations, max_known)), ((quota, weight), relays))) => {
+            Ok(Network { bssid, ssid, rates, max_stations, max_known, quota, wire, relays, weight })
         }
-        None => Err(WrongArguments(format!("{text} is no BSSID/SSID/RATES/STATIONS/KNOWN/QUOTA/SHARE[/WIRE]"))),
+        None => Err(WrongArguments(format!("{text} is no BSSID/SSID/RATES/STATIONS/KNOWN/QUOTA/SHARE/RELAYS[/WIRE]"))),
     }
 }
 
@@ -176,8 +177,9 @@ mod tests {
 
     const GOOD: &str = "--name waltigon-live \
                         --phy phy0 --channel 6 --monitor mon0 --interval 100 --by managed --idle 60 --no-update --socket 5 \
-                        --alive --sends --record 6:r:1 --record-limit 5000 --bounds 2000000 --network 02:00:00:00:01:01/6c6162/8284/64/256/500/1/wire1 --network \
-                        02:00:00:00:01:02/20/16/2007/10000/0/16 apctl config";
+                        --alive --sends --record 6:r:1 --record-limit 5000 --bounds 2000000 --network \
+                        02:00:00:00:01:01/6c6162/8284/64/256/500/1/true/wire1 --network \
+                        02:00:00:00:01:02/20/16/2007/10000/0/16/false apctl config";
 
     fn read(text: &str) -> Result<Arguments, WrongArguments> {
         Arguments::read(text.split_whitespace().map(str::to_owned))
@@ -188,7 +190,8 @@ mod tests {
         let (rates, wire) = (vec![0x82, 0x84], Some("wire1".into()));
         let first = Network { rates, max_stations: 64, max_known: 256, quota: 500, wire, ..network(OURS) };
         let (ssid, rates, max_stations, max_known) = (b" ".to_vec(), vec![0x16], 2007, 10_000);
-        let second = Network { ssid, rates, max_stations, max_known, quota: 0, weight: 16, ..network(OTHER) };
+        let of_second = Network { relays: false, weight: 16, ..network(OTHER) };
+        let second = Network { ssid, rates, max_stations, max_known, quota: 0, ..of_second };
         let wanted = Arguments {
             name: "waltigon-live".into(),
             phy: "phy0".into(),
@@ -246,10 +249,13 @@ mod tests {
             ("limit 5000", "limit 0"),
             ("limit 5000", "limit 5M"),
             ("6:r:1", "2:r"),
-            ("64/256/500/1/wire1", ""),
-            ("/10000/0/16", ""),
-            ("10000/0/16", "10000/0"),
-            ("10000/0/16", "10000/0/17"),
+            ("64/256/500/1/true/wire1", ""),
+            ("true", ""),
+            ("true", "1"),
+            ("/10000/0/16/false", ""),
+            ("10000/0/16/", "10000/0/"),
+            ("10000/0/16/", "10000/0/17/"),
+            ("16/false", "16"),
             ("500/1/", "500/0/"),
             ("500/1/", "x/1/"),
             ("01:01", "01"),

@@ -118,6 +118,10 @@ impl InboundFrame {
         self.priority == Priority::Notice
     }
 
+    pub fn sender(&self) -> Address {
+        self.flow.0
+    }
+
     pub fn receiver(&self) -> Address {
         self.flow.1
     }

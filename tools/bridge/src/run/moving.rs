@@ -12,7 +12,7 @@ use crate::os::clock::{Duration, Instant, MILLISECOND};
 use crate::os::port::Port;
 use crate::outbound::air::handing_back::Errand;
 use crate::outbound::monitor::has_unsent_beacons;
-use crate::stations::station::{Member, Move};
+use crate::stations::station::{Member, Move, Station};
 
 /// Marks in the record around units that no wire brought: they go back to the program, which had answered them before, or
 /// ask a station that dozes whether it is there.
@@ -143,14 +143,25 @@ impl<P: Port> Running<P> {
         self.end_waits_for_beacons(waiting);
     }
 
-    /// The program was given a frame: if it has a unit for a station that dozes, the program keeps that.
+    /// The program was given a frame: if it has a unit for a station that dozes, the program keeps that. Of the air it
+    /// takes units of associated stations alone, and sends them on only if the network relays. What strangers send
+    /// counts for nothing.
     pub(super) fn note_kept(&mut self, source: Source, frame: &InboundFrame) {
         let destination = match source {
             Source::Wire(place) => Some((place, frame.receiver())),
-            Source::Air(place) => unit_to(&frame.octets).map(|station| (place, station)),
+            Source::Air(place) => {
+                let destination = unit_to(&frame.octets).filter(|_| self.relays_of(place, frame));
+                destination.map(|station| (place, station))
+            }
             Source::AirForAll => None,
         };
         destination.into_iter().for_each(|(place, station)| self.outbound.air.sleepers.was_given(place, station));
+    }
+
+    /// Whether a network sends on to its stations what the sender of a frame of the air sends.
+    fn relays_of(&self, place: usize, frame: &InboundFrame) -> bool {
+        let sender = self.stations.table.station(&(place, frame.sender()));
+        self.networks[place].relays && sender.map_or(false, Station::is_associated)
     }
 
     /// The wire of a network learns that a station is here (`stations::roaming`).

@@ -21,7 +21,7 @@ use crate::run::{Manner, IN_A_ROW};
 use crate::stations::own_frames::{association_request, departure, mode_of_station};
 use crate::stations::station::KeptStation;
 use crate::stations::Errand;
-use crate::testing::samples::{data, network, radiotap, Unit, OTHER, OURS, STATION};
+use crate::testing::samples::{data, network, radiotap, Unit, OTHER, OURS, STATION, STRANGER};
 
 /// A radio's port, which shows each frame that is sent by it as acknowledged if `shown` is. It has as many octets as
 /// `unsent` says, and counts how often it is asked that. Of the packets that are still to come it hears a batch each
@@ -266,6 +266,45 @@ fn a_wake_with_much_kept_waits_until_the_radio_has_sent_the_beacons() {
         running.look(&mut batch, after(50)).unwrap();
         assert_eq!((running.waiting.pop(after(50)).is_some(), running.next_wakes(after(50))), (!is_sent, None));
     }
+}
+
+/// Of what is sent on the air for a station that dozes the program keeps what associated stations send, and that only
+/// if its network relays. What a wire brings it keeps in any case.
+#[test]
+fn what_strangers_send_on_the_air_is_not_taken_to_be_kept() {
+    for (relays, sender, wanted) in [(true, STATION, 1), (true, STRANGER, 0), (false, STATION, 0)] {
+        let (mut running, _) = with_kept(0);
+        running.networks[0].relays = relays;
+        let mut unit = Unit { transmitter: sender, ..Unit::default() }.octets();
+        unit[16..22].copy_from_slice(STATION.octets());
+        let frame = InboundFrame::of_air(Frame::of(&unit).unwrap(), false, now());
+        running.note_kept(Source::Air(0), &frame);
+        assert_eq!(running.outbound.air.sleepers.kept_at_most(0, STATION), wanted);
+        let wired = [STATION.octets(), STRANGER.octets(), &[8, 0, 1][..]].concat();
+        running.note_kept(Source::Wire(0), &InboundFrame::of_wire(&wired, now()));
+        assert_eq!(running.outbound.air.sleepers.kept_at_most(0, STATION), wanted + 1);
+    }
+}
+
+/// A wire that ends may have brought much before that: it is read some at a time, between all else.
+#[test]
+fn what_a_wire_brought_before_it_ended_is_read_some_at_a_time() {
+    let ((monitor, _air), (beacons, _beacons)) = (RadioPort::new(None), RadioPort::new(None));
+    let (wire, _far) = RadioPort::new(None);
+    let to_come = Rc::clone(&wire.to_come);
+    let mut running = Running::new(Interfaces::new(monitor, beacons, vec![Some(wire)]), &manner());
+    let (poller, mut batch, most) = (Poller::new().unwrap(), Batch::new(), AT_A_TIME * IN_A_ROW);
+    let descriptor = running.interfaces.wires[0].as_ref().unwrap().port.descriptor();
+    poller.add(descriptor, Token::Wire(0), true, false).unwrap();
+    to_come.set(1000);
+    running.end_wire(0, &Fault::ProgramEnded, &poller, now()).unwrap();
+    assert!(to_come.get() + most >= 1000, "{}", to_come.get());
+    while running.has_backlog() {
+        let before = to_come.get();
+        running.read_backlog(&mut batch, now());
+        assert!(before - to_come.get() <= most, "{before} {}", to_come.get());
+    }
+    assert_eq!((to_come.get(), running.is_down(0)), (0, true));
 }
 
 /// The answer to a wake with few units takes hardly longer than that to any other frame.

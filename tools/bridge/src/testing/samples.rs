@@ -34,6 +34,7 @@ pub fn network(bssid: Address) -> Network {
         max_known: 100,
         quota: 100,
         wire: None,
+        relays: true,
         weight: 1,
     }
 }

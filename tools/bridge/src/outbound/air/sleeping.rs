@@ -18,7 +18,9 @@
 //! 6. A unit that comes for a station that dozes is the answer to a poll. One that comes for a station that woke was
 //!    kept, until the mark is answered. One that comes for a station that left is dropped, until the mark is answered.
 //! 7. Of a network units of 6 MB go back at a time, as many as may wait to be sent. What comes beyond is lost.
-//! 8. Once a station has left, none of its units goes back. Those that were about to are dropped.
+//! 8. The program is taken to keep for all stations of a network together no more units than the network keeps: a unit
+//!    that comes beyond that isn't counted, since the program loses it.
+//! 9. Once a station has left, none of its units goes back. Those that were about to are dropped.
 //!
 //! Nothing is sent or timed here.
 use std::collections::VecDeque;
@@ -97,6 +99,14 @@ impl Sleeper {
     fn dozes(&self) -> bool {
         matches!(self.mode, Mode::FallsAsleep | Mode::Dozes)
     }
+
+    /// The program keeps one more unit for it, unless the network has as many as it keeps.
+    fn keeps_one(&mut self, of_network: &mut u32, quota: u32) {
+        if *of_network < quota {
+            self.kept += 1;
+            *of_network += 1;
+        }
+    }
 }
 
 /// The stations of one network.
@@ -104,6 +114,8 @@ impl Sleeper {
 struct OfNetwork {
     /// How many units it keeps.
     quota: u32,
+    /// How many it may keep at the moment, for all of its stations together.
+    kept: u32,
     /// How many octets those have that go back.
     octets: usize,
     sleepers: AddressMap<Sleeper>,
@@ -131,6 +143,7 @@ impl Sleepers {
     pub fn new(networks: &[Network]) -> Sleepers {
         let of_network = |network: &Network| OfNetwork {
             quota: network.quota,
+            kept: 0,
             octets: 0,
             sleepers: AddressMap::default(),
             many: FEW,
@@ -206,33 +219,37 @@ impl Sleepers {
     fn change(&mut self, place: Place, station: Address, mode: Mode, mark: Option<Mark>, now: Instant) -> &mut Sleeper {
         self.settle(place, station, now);
         self.marks.extend(mark.map(|mark| (mark, place, station)));
-        let OfNetwork { sleepers, many, .. } = &mut self.networks[place];
+        let OfNetwork { sleepers, many, kept, .. } = &mut self.networks[place];
         if sleepers.len() > *many {
             sleepers.retain(|_, sleeper| sleeper.is_needed(now));
             *many = 2 * sleepers.len() + FEW;
         }
         let unknown = || Sleeper { mode, mark, falling: None, pace: Pace::default(), kept: 0 };
         let sleeper = sleepers.entry(station).or_insert_with(unknown);
+        *kept -= sleeper.kept;
         (sleeper.mode, sleeper.mark, sleeper.kept) = (mode, mark, 0);
         sleeper
     }
 
     /// The program was given a unit for a station that it may keep.
     pub fn was_given(&mut self, place: Place, station: Address) {
-        let sleeper = self.networks[place].sleepers.get_mut(&station).filter(|sleeper| sleeper.dozes());
-        sleeper.into_iter().for_each(|sleeper| sleeper.kept = sleeper.kept.saturating_add(1));
+        let OfNetwork { sleepers, quota, kept, .. } = &mut self.networks[place];
+        let sleeper = sleepers.get_mut(&station).filter(|sleeper| sleeper.dozes());
+        sleeper.into_iter().for_each(|sleeper| sleeper.keeps_one(kept, *quota));
     }
 
     /// The program sent a unit that it had kept for a station that dozes.
     pub fn was_sent(&mut self, place: Place, station: Address) {
-        let sleeper = self.networks[place].sleepers.get_mut(&station);
-        sleeper.into_iter().for_each(|sleeper| sleeper.kept = sleeper.kept.saturating_sub(1));
+        let OfNetwork { sleepers, kept, .. } = &mut self.networks[place];
+        if let Some(sleeper) = sleepers.get_mut(&station).filter(|sleeper| sleeper.kept > 0) {
+            sleeper.kept -= 1;
+            *kept -= 1;
+        }
     }
 
     /// How many units the program may keep for a station.
     pub fn kept_at_most(&self, place: Place, station: Address) -> u32 {
-        let OfNetwork { sleepers, quota, .. } = &self.networks[place];
-        sleepers.get(&station).map_or(0, |sleeper| sleeper.kept.min(*quota))
+        self.networks[place].sleepers.get(&station).map_or(0, |sleeper| sleeper.kept)
     }
 
     /// A unit came for a station that falls asleep. Answers whether it has room.
@@ -249,7 +266,7 @@ impl Sleepers {
 
     /// A unit of a station may go back late.
     pub fn goes_back_late(&mut self, place: Place, station: Address, octets: Octets, now: Instant) -> Late {
-        let OfNetwork { quota, octets: all, sleepers, .. } = &mut self.networks[place];
+        let OfNetwork { quota, kept, octets: all, sleepers, .. } = &mut self.networks[place];
         let sleeper = match sleepers.get_mut(&station).filter(|sleeper| sleeper.mode == Mode::Dozes) {
             Some(sleeper) => sleeper,
             None => return Late::Stays,
@@ -259,7 +276,7 @@ impl Sleepers {
             return Late::Lost;
         }
         let is_behind_others = sleeper.kept > 0;
-        sleeper.kept += 1;
+        sleeper.keeps_one(kept, *quota);
         *all += octets.len();
         self.steps.push_back(Step::HandBack { place, station, octets });
         Late::GoesBack { is_behind_others }
@@ -365,7 +382,7 @@ impl Sleepers {
 
     /// A station that falls asleep dozes: its units go back, and then the program is told what waits of it.
     fn settle(&mut self, place: Place, station: Address, now: Instant) {
-        let OfNetwork { quota, octets: all, sleepers, .. } = &mut self.networks[place];
+        let OfNetwork { quota, kept, octets: all, sleepers, .. } = &mut self.networks[place];
         let sleeper = match sleepers.get_mut(&station) {
             Some(sleeper) => sleeper,
             None => return,
@@ -375,7 +392,7 @@ impl Sleepers {
             *all -= falling.octets();
             for octets in falling.take_units() {
                 if sleeper.pace.takes(*quota, now) {
-                    sleeper.kept += 1;
+                    sleeper.keeps_one(kept, *quota);
                     *all += octets.len();
                     self.steps.push_back(Step::HandBack { place, station, octets });
                 } else {

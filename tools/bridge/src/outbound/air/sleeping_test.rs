@@ -86,11 +86,17 @@ impl Model {
         &mut self.stations[place][one]
     }
 
+    /// Rule 8.
+    fn keep_one(&mut self, place: Place, one: usize) {
+        let kept: u32 = self.stations[place].iter().map(|station| station.kept).sum();
+        self.of(place, one).kept += u32::from(kept < QUOTAS[place]);
+    }
+
     /// Answers whether others are kept, or that it is lost.
     fn hand_back(&mut self, place: Place, one: usize, unit: u32, now: Instant) -> Late {
         let is_behind_others = self.of(place, one).kept > 0;
         if self.of(place, one).takes(QUOTAS[place], now) {
-            self.of(place, one).kept += 1;
+            self.keep_one(place, one);
             self.steps.push(Step::HandBack { place, station: STATIONS[one], octets: octets(unit) });
             Late::GoesBack { is_behind_others }
         } else {
@@ -118,7 +124,7 @@ impl Model {
         }
     }
 
-    /// Rule 8.
+    /// Rule 9.
     fn drop_units(&mut self, place: Place, one: usize) -> usize {
         let before = self.steps.len();
         let is_of = |step: &Step| matches!(step, Step::HandBack { place: of, station, .. } if (*of, *station) == (place, STATIONS[one]));
@@ -273,8 +279,9 @@ impl Both {
             8..=10 => self.reported(seeded, place, one),
             12 if seeded.below(2) == 0 => {
                 self.sleepers.was_given(place, STATIONS[one]);
-                let dozes = self.model.of(place, one).dozes();
-                self.model.of(place, one).kept += u32::from(dozes);
+                if self.model.of(place, one).dozes() {
+                    self.model.keep_one(place, one);
+                }
             }
             12 if mode == Mode::Dozes => {
                 self.sleepers.was_sent(place, STATIONS[one]);
@@ -295,11 +302,10 @@ impl Both {
     }
 
     fn agree(&mut self) {
-        for (place, quota) in QUOTAS.into_iter().enumerate() {
+        for place in 0..QUOTAS.len() {
             for (one, station) in STATIONS.into_iter().enumerate() {
                 assert_eq!(self.sleepers.mode(place, station), self.model.of(place, one).mode());
-                let kept = self.model.of(place, one).kept.min(quota);
-                assert_eq!(self.sleepers.kept_at_most(place, station), kept);
+                assert_eq!(self.sleepers.kept_at_most(place, station), self.model.of(place, one).kept);
             }
             let lost = std::mem::take(&mut self.model.over_quota[place]);
             assert_eq!(self.sleepers.take_over_quota(place), lost);
@@ -366,4 +372,24 @@ fn what_goes_back_of_a_network_is_bounded() {
         assert_eq!(back, if leaves { 0 } else { most - 1 });
         assert_eq!(sleepers.networks[0].octets, 0);
     }
+}
+
+/// For all stations of a network together the program is taken to keep no more units than the network keeps, and what
+/// one station gets back makes room for another.
+#[test]
+fn a_network_is_taken_to_keep_no_more_units_than_its_quota() {
+    let mut sleepers = Sleepers::new(&[Network { quota: 100, ..network(OURS) }, network(OTHER)]);
+    let kept = |sleepers: &Sleepers, place| (0..50).map(|number| sleepers.kept_at_most(place, made_up(number))).sum();
+    for station in (0..50).map(made_up) {
+        sleepers.has_dozed(0, station, Instant::START + SECOND);
+        (0..60).for_each(|_| sleepers.was_given(0, station));
+    }
+    let found: u32 = kept(&sleepers, 0);
+    assert_eq!((found, sleepers.kept_at_most(0, made_up(1)), kept(&sleepers, 1)), (100, 40, 0));
+    sleepers.wakes(0, made_up(0), 1, Instant::START + SECOND);
+    (0..100).for_each(|_| sleepers.was_given(0, made_up(2)));
+    assert_eq!(sleepers.kept_at_most(0, made_up(2)), 60);
+    sleepers.was_sent(0, made_up(2));
+    sleepers.was_given(0, made_up(3));
+    assert_eq!((kept(&sleepers, 0), sleepers.kept_at_most(0, made_up(3))), (100, 1));
 }
