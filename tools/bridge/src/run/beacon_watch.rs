@@ -54,6 +54,13 @@ impl BeaconWatch {
         self.unseen.get_or_insert(Unseen { since: now, looked_at: 0 }).looked_at += usize::from(is_looked_at);
     }
 
+    /// The bridge itself was so much too late: it gave and read nothing meanwhile. That is no silence of the radio.
+    pub fn was_late(&mut self, late: Duration, now: Instant) {
+        if let Some(unseen) = &mut self.unseen {
+            unseen.since = (unseen.since + late).min(now);
+        }
+    }
+
     /// The radio has shown a beacon as sent.
     pub fn shown(&mut self, now: Instant) {
         self.unseen = None;
@@ -139,6 +146,25 @@ mod tests {
         let again = Told::Sending(90 * INTERVAL + MILLISECOND);
         assert_eq!(found, [(59, Told::Unsent), (100, again)]);
         assert!(!watch.wants_each(at(200 * INTERVAL)) && watch.unsent_since.is_none());
+    }
+
+    /// As a bridge that is stopped and goes on: what the radio shows of the first beacons behind that isn't drawn yet.
+    #[test]
+    fn a_bridge_that_was_late_itself_finds_no_silence() {
+        for (late, wanted) in [(Duration::ZERO, true), (5 * SECOND, false)] {
+            let mut watch = BeaconWatch::new(INTERVAL, 1, false);
+            assert_eq!(run(&mut watch, 0..10, INTERVAL, |number| number == 7), []);
+            let on = at(9 * INTERVAL + 5 * SECOND);
+            watch.was_late(late, on);
+            watch.given(on);
+            let found = [on, on + MILLISECOND].map(|now| watch.look(now));
+            watch.given(on + INTERVAL);
+            let found = found.into_iter().chain([watch.look(on + INTERVAL)]).flatten().next();
+            assert_eq!((found.is_some(), watch.unsent_since.is_some()), (wanted, wanted));
+            // A radio that goes on showing none is told all the same.
+            let found = run(&mut watch, 70..140, INTERVAL, |_| false);
+            assert_eq!(found.iter().filter(|(_, told)| *told == Told::Unsent).count(), usize::from(!wanted));
+        }
     }
 
     #[test]

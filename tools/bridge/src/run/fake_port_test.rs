@@ -7,6 +7,8 @@ pub(super) struct Shared {
     /// Whether it goes down once it is read.
     pub(super) goes_down: AtomicBool,
     pub(super) link: Mutex<Link>,
+    /// For how long its bridge is stopped once it reads it.
+    pub(super) stops_for: Mutex<Duration>,
     /// Whether a radio's sends nothing any more, and shows nothing.
     pub(super) is_silent: AtomicBool,
 }
@@ -46,7 +48,8 @@ impl FakePort {
     pub(super) fn new(interface: &'static str) -> (FakePort, FarEnd) {
         let (near, far) = UnixDatagram::pair().unwrap();
         let (sent, goes_down, is_silent) = Default::default();
-        let shared = Arc::new(Shared { sent, goes_down, link: Mutex::new(Link::Up), is_silent });
+        let (link, stops_for) = (Mutex::new(Link::Up), Mutex::default());
+        let shared = Arc::new(Shared { sent, goes_down, link, stops_for, is_silent });
         let far_end = FarEnd { socket: far.try_clone().unwrap(), shared: Arc::clone(&shared) };
         (FakePort { interface, near, far, shared, shows: false, takes: Duration::ZERO, is_closed: false }, far_end)
     }
@@ -81,6 +84,8 @@ impl Port for FakePort {
         if self.shared.goes_down.swap(false, Ordering::SeqCst) {
             return Err(io::Error::from_raw_os_error(libc::ENETDOWN));
         }
+        let stops_for = std::mem::take(&mut *self.shared.stops_for.lock().unwrap());
+        thread::sleep(stops_for);
         batch.receive(self.near.as_fd())
     }
 

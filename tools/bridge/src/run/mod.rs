@@ -51,6 +51,8 @@ const TO_END: Duration = Duration::from_secs(20);
 const TO_READY: Duration = Duration::from_secs(20);
 /// How many batches of one socket are read, and pieces of the program's output, before something else is looked at.
 const IN_A_ROW: usize = 4;
+/// A bridge that goes on so much later than it has to was stopped, or its machine was.
+const STOPPED: Duration = Duration::from_millis(500);
 /// How often `tools/live` is told at most that the program answers.
 const ALIVE_EVERY: Duration = SECOND;
 
@@ -162,6 +164,10 @@ impl<P: OfSocket> Bridge<P> {
         self.wait(self.most_wait())?;
         for place in 0..self.ready.len() {
             let ready = self.ready[place];
+        let late = self.time.since(due.max(before));
+        if late >= STOPPED {
+            self.phase.running().into_iter().for_each(|running| running.was_late(late, self.time));
+        }
             match ready.token {
                 Token::Control => self.take_requests()?,
                 Token::Output => self.take_answers()?,

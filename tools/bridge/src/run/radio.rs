@@ -94,6 +94,14 @@ impl<P: OfSocket> Bridge<P> {
 }
 
 impl<P: Port> Running<P> {
+    /// The bridge itself was so much too late: the radio has as much more time to show a beacon.
+    pub(super) fn was_late(&mut self, late: Duration, time: Instant) {
+        self.radio.beacons.was_late(late, time);
+        if let FirstBeacon::Awaited { until: Some(until) } = &mut self.first_beacon {
+            *until += late;
+        }
+    }
+
     /// A socket of the radio says that its interface is down. A fault if the interface is gone; else what is to be
     /// sent waits until it is up again, and what waits too long is dropped.
     pub(super) fn went_down(&mut self, time: Instant) -> Result<(), Fault> {

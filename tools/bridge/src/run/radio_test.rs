@@ -119,3 +119,25 @@ fn a_radio_that_hears_on_another_frequency_is_told_and_so_is_one_that_is_back() 
     });
     agree(&found);
 }
+
+/// A bridge that is stopped, and goes on after five seconds: that it was late itself is no silence of its radio.
+#[test]
+fn a_bridge_that_was_stopped_tells_of_no_silence_of_its_radio() {
+    let (unsent, _) = run(TWO, TWO_NETWORKS, |stage| {
+        let before = stage.beacons();
+        wait_until(|| stage.beacons() > before + 4);
+        *stage.air.shared.stops_for.lock().unwrap() = Duration::from_millis(5500);
+        stage.hear(&data());
+        wait_until(|| stage.air.shared.stops_for.lock().unwrap().is_zero());
+        // Meanwhile the radio shows nothing; then it shows each beacon again, but for those of the first two intervals.
+        stage.air.shared.is_silent.store(true, Ordering::SeqCst);
+        pause(5500 + 250);
+        stage.air.shared.is_silent.store(false, Ordering::SeqCst);
+        let found = ask(stage, "status");
+        pause(300);
+        (found, ask(stage, "status"))
+    });
+    for status in [unsent.0, unsent.1] {
+        assert!(status.contains(r#""unsent":null"#), "{status}");
+    }
+}
