@@ -7,8 +7,17 @@ use std::collections::VecDeque;
 use std::fmt;
 
 use crate::formats::frames::{is_tagged, Address, AddressMap, Frame, FrameType, LEAST, MOST, PROBE_REQUEST};
-use crate::formats::radiotap::{captured, Outcome, Reception};
+use crate::formats::radiotap::{captured, Outcome, Reception, SENDING_LEN};
 use crate::network::Places;
+
+/// The most octets of a packet that a radio's monitor interface takes: its MTU, which Linux sets, and the 14 of a
+/// header that the kernel allows beside it.
+const MOST_OF_RADIO: usize = 2304 + ETHERNET_HEADER_LEN;
+const ETHERNET_HEADER_LEN: usize = 14;
+/// What stands on the air in place of the header of Ethernet (IEEE Std 802.11-2016, 9.3.2.1; RFC 1042).
+const AIR_HEADER_LEN: usize = 24 + 8;
+/// The most octets of a frame of a wire that fits into such a packet.
+pub const MOST_WIRED: usize = MOST_OF_RADIO - SENDING_LEN - AIR_HEADER_LEN + ETHERNET_HEADER_LEN;
 
 /// Of how many senders a network knows the last sequence control.
 const MOST_SENDERS: usize = 4096;
@@ -26,6 +35,8 @@ pub enum LeftOut {
     Short,
     /// It has more octets than the program takes.
     Long,
+    /// A wire brought more octets than a radio takes.
+    LongForRadio,
     /// It is a control frame, and no PS-Poll: those are the radio's.
     Controls,
     /// Its transmitter is one of these networks.
@@ -48,6 +59,7 @@ impl fmt::Display for LeftOut {
             LeftOut::Damaged => write!(to, "with a bad frame check sequence"),
             LeftOut::Short => write!(to, "of fewer than {LEAST} octets"),
             LeftOut::Long => write!(to, "of more than {MOST} octets"),
+            LeftOut::LongForRadio => write!(to, "of more than {MOST_WIRED} octets, too long for a radio"),
             LeftOut::Controls => write!(to, "control frames other than PS-Poll"),
             LeftOut::Own => write!(to, "whose transmitter is one of these networks"),
             LeftOut::Others => write!(to, "for a receiver that is none of these networks"),
@@ -216,8 +228,8 @@ pub fn judge_wired(octets: &[u8], is_outgoing: bool, had_tag: bool, is_cut: bool
         Err(LeftOut::Sent)
     } else if had_tag || is_tagged(octets) {
         Err(LeftOut::Tagged)
-    } else if is_cut || octets.len() > MOST {
-        Err(LeftOut::Long)
+    } else if is_cut || octets.len() > MOST_WIRED {
+        Err(LeftOut::LongForRadio)
     } else {
         Ok(octets)
     }

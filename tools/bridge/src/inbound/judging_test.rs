@@ -178,10 +178,19 @@ fn of_a_wire_all_goes_on_but_tags_long_frames_and_what_this_machine_sent() {
     assert_eq!(judge_wired(&[], false, false, false), Ok(&[][..]));
     assert_eq!(judge_wired(&frame, true, false, false), Err(LeftOut::Sent));
     assert_eq!(judge_wired(&frame, false, true, false), Err(LeftOut::Tagged));
-    assert_eq!(judge_wired(&frame, false, false, true), Err(LeftOut::Long));
-    assert_eq!(judge_wired(&[0; 4097], false, false, false), Err(LeftOut::Long));
+    assert_eq!(judge_wired(&frame, false, false, true), Err(LeftOut::LongForRadio));
+    assert_eq!(judge_wired(&[0; MOST_WIRED], false, false, false), Ok(&[0; MOST_WIRED][..]));
+    assert_eq!(judge_wired(&[0; MOST_WIRED + 1], false, false, false), Err(LeftOut::LongForRadio));
     for tag in [[0x81, 0, 0, 7], [0x88, 0xa8, 0, 7]] {
         let tagged = [&frame[..12], &tag, &frame[12..]].concat();
         assert_eq!(judge_wired(&tagged, false, false, false), Err(LeftOut::Tagged));
     }
+}
+
+/// Linux refuses a packet of more than 2,318 octets at a monitor interface: what the wire may bring just fits.
+#[test]
+fn the_longest_frame_of_a_wire_makes_the_longest_packet_of_a_radio() {
+    assert_eq!(MOST_WIRED, 2284);
+    assert_eq!(SENDING_LEN + 24 + 8 + (MOST_WIRED - 14), 2304 + 14);
+    assert_eq!(LeftOut::LongForRadio.to_string(), "of more than 2284 octets, too long for a radio");
 }

@@ -7,6 +7,7 @@ use crate::control::clients::Question;
 use crate::control::faults::tell;
 use crate::control::status::{error, Faults, Named, Status};
 use crate::inbound::frame::Source;
+use crate::inbound::judging::LeftOut;
 use crate::os::clock::Instant;
 use crate::os::port::Port;
 
@@ -57,7 +58,7 @@ impl<P: Port> Running<P> {
         feeder: &'a Feeder,
         now: Instant,
     ) -> Status<'a> {
-        let (drops, left_out) = (self.drops(), self.left_out());
+        let (drops, left_out) = (self.drops(), self.left_out_by(|reason| reason != LeftOut::LongForRadio));
         Status {
             phy: &manner.setting.phy,
             channel: manner.setting.channel,
@@ -82,6 +83,7 @@ impl<P: Port> Running<P> {
     }
 
     /// What was dropped or lost, by what people call it.
+        found.extend(self.left_out_by(|reason| reason == LeftOut::LongForRadio));
     fn drops(&mut self) -> Named {
         let waiting = self.waiting.dropped();
         let mut found: Named =
@@ -104,9 +106,9 @@ impl<P: Port> Running<P> {
             .collect()
     }
 
-    /// What was left out, by what people call it.
-    fn left_out(&self) -> Named {
-        let counts = self.left_out.iter();
+    /// What was left out for such reasons, by what people call it.
+    fn left_out_by(&self, is_one: impl Fn(LeftOut) -> bool) -> Named {
+        let counts = self.left_out.iter().filter(|((_, reason), _)| is_one(*reason));
         counts.map(|((way, reason), number)| (format!("{}: {reason}", self.interface(*way)), *number)).collect()
     }
 
