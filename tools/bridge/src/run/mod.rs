@@ -160,14 +160,16 @@ impl<P: OfSocket> Bridge<P> {
     /// Waits for what comes first, and does what is to be done then.
     fn step(&mut self, open: &mut impl FnMut(Handed) -> Result<Interfaces<P>, Fault>) -> Result<(), Fault> {
         self.gather()?;
-        self.poller.set_due(self.due())?;
+        let due = self.due();
+        self.poller.set_due(due)?;
+        let before = self.time;
         self.wait(self.most_wait())?;
-        for place in 0..self.ready.len() {
-            let ready = self.ready[place];
         let late = self.time.since(due.max(before));
         if late >= STOPPED {
             self.phase.running().into_iter().for_each(|running| running.was_late(late, self.time));
         }
+        for place in 0..self.ready.len() {
+            let ready = self.ready[place];
             match ready.token {
                 Token::Control => self.take_requests()?,
                 Token::Output => self.take_answers()?,
@@ -185,6 +187,9 @@ impl<P: OfSocket> Bridge<P> {
             }
             Phase::Replay(_) => self.end_restoring()?,
             Phase::Opening { .. } | Phase::Running(_) => {}
+        }
+        if let Some(running) = self.phase.running().filter(|running| running.has_backlog()) {
+            running.read_backlog(&mut self.batch, self.time);
         }
         self.take_time()?;
         self.tell_alive();
@@ -258,7 +263,7 @@ impl<P: OfSocket> Bridge<P> {
     /// is written may have asked more before, and others wait for an answer of which a part is made. So does a state.
     fn most_wait(&self) -> Option<u16> {
         let waits = match &self.phase {
-            Phase::Running(running) => running.has_to_give(),
+            Phase::Running(running) => running.has_to_give() || running.has_backlog(),
             Phase::Replay(_) => true,
             _ => false,
         };

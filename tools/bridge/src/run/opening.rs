@@ -24,7 +24,7 @@ impl<P: OfSocket> Bridge<P> {
             match interfaces.wire(place) {
                 Some(wire) => self.poller.add(wire.port.descriptor(), Token::Wire(place), true, false)?,
                 None if network.wire.is_some() => {
-                    ended.insert(place, Ended { since: Some(self.time), lost: 0 });
+                    ended.insert(place, Ended { since: Some(self.time), has_backlog: false, lost: 0 });
                 }
                 None => {}
             }

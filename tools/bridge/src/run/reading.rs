@@ -30,7 +30,7 @@ impl<P: OfSocket> Bridge<P> {
             let outcome = running.receive(ready.token, &mut self.batch, self.time);
             match (outcome, ready.token) {
                 (Err(fault), Token::Wire(place)) => {
-                    running.end_wire(place, &fault, &mut self.batch, &self.poller, self.time)?;
+                    running.end_wire(place, &fault, &self.poller, self.time)?;
                     say(&Notice::Down(place));
                 }
                 (outcome, _) => outcome?,

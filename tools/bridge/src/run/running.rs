@@ -38,6 +38,8 @@ pub enum Way {
 pub struct Ended {
     /// Since when, if it isn't back.
     pub(super) since: Option<Instant>,
+    /// Whether what came by it before is still to be read.
+    pub(super) has_backlog: bool,
     /// How many frames of its network were lost while it was down.
     pub(super) lost: u64,
 }

@@ -40,6 +40,8 @@ impl<P: Port> Running<P> {
         }
         for token in std::iter::once(Token::Monitor).chain((0..self.networks.len()).map(Token::Wire)) {
             let gate = match token {
+                // Nobody waits for one that has ended, be it still open.
+                Token::Wire(place) if self.is_down(place) => None,
                 Token::Wire(place) => self.interfaces.wire(place),
                 _ => Some(&mut self.interfaces.monitor),
             };

@@ -19,7 +19,8 @@ impl<P: Port> Running<P> {
             wire.port.close();
         }
         poller.add(port.descriptor(), Token::Wire(place), true, false)?;
-        self.ended.entry(place).or_insert(Ended { since: None, lost: 0 }).since = None;
+        let ended = self.ended.entry(place).or_insert(Ended { since: None, has_backlog: false, lost: 0 });
+        (ended.since, ended.has_backlog) = (None, false);
         log::notice(format_args!(
             "{}: there, the wire of {} from now on",
             port.interface(),
@@ -36,12 +37,12 @@ impl<P: Port> Running<P> {
     }
 
     /// The interface of a wire is down, or gone: that wire ends, and nothing else does. What came by it before is still
-    /// read. What waits to be sent by it is refused and counted by the next flush, and what comes later is lost.
+    /// read, some at a time. What waits to be sent by it is refused and counted by the next flush, and what comes later
+    /// is lost.
     pub(super) fn end_wire(
         &mut self,
         place: usize,
         fault: &Fault,
-        batch: &mut Batch,
         poller: &Poller,
         time: Instant,
     ) -> Result<(), Fault> {
@@ -52,20 +53,35 @@ impl<P: Port> Running<P> {
         ));
         let wire = self.networks[place].wire.clone().unwrap_or_default();
         self.events.push(place, wall_now(), Happened::WireDown { wire });
-        let hears_no_more = match self.interfaces.wire(place) {
-            Some(wire) => wire.port.set_filter(&nothing_filter()).is_ok(),
-            None => false,
-        };
-        if hears_no_more {
-            while self.receive(Token::Wire(place), batch, time).is_ok() && batch.packets().next().is_some() {}
-        }
+        let mut has_backlog = false;
         if let Some(wire) = self.interfaces.wire(place) {
             poller.remove(wire.port.descriptor())?;
-            wire.port.close();
             wire.unblock();
             wire.settle();
+            has_backlog = wire.port.set_filter(&nothing_filter()).is_ok();
+            if !has_backlog {
+                wire.port.close();
+            }
         }
-        self.ended.entry(place).or_insert(Ended { since: None, lost: 0 }).since = Some(time);
+        let lost = self.ended.get(&place).map_or(0, |ended| ended.lost);
+        self.ended.insert(place, Ended { since: Some(time), has_backlog, lost });
         Ok(())
+    }
+
+    /// Whether something that came by wires before they ended may still be to read.
+    pub(super) fn has_backlog(&self) -> bool {
+        self.ended.values().any(|ended| ended.has_backlog)
+    }
+
+    /// Reads some of what came by wires before they ended, and closes those of which that was all.
+    pub(super) fn read_backlog(&mut self, batch: &mut Batch, time: Instant) {
+        let backlogs = self.ended.iter().filter(|(_, ended)| ended.has_backlog);
+        for place in backlogs.map(|(place, _)| *place).collect::<Vec<_>>() {
+            if self.receive(Token::Wire(place), batch, time).is_ok() && batch.packets().next().is_some() {
+                continue;
+            }
+            self.interfaces.wire(place).into_iter().for_each(|wire| wire.port.close());
+            self.ended.get_mut(&place).into_iter().for_each(|ended| ended.has_backlog = false);
+        }
     }
 }
