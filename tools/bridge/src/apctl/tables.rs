@@ -22,6 +22,17 @@ pub enum Asker {
     Status,
 }
 
+/// What a line of a table says of the stations that the network of a place knows.
+#[derive(Debug, Clone, Copy, PartialEq, Eq)]
+pub enum Row {
+    /// Its table begins.
+    Begin { place: usize },
+    /// It knows this one.
+    Station { place: usize, address: Address, state: State },
+    /// It knows no others.
+    End { place: usize },
+}
+
 #[derive(Debug, Clone, Default, PartialEq, Eq)]
 pub struct Table {
     /// The name's octets in digits.
@@ -40,8 +51,8 @@ pub struct Tables {
     asked: Option<Instant>,
     coming: Vec<Table>,
     last: Option<(Instant, Vec<Table>)>,
-    /// How often they came whole.
-    pub came: u64,
+    /// What the last line said, until it is taken.
+    row: Option<Row>,
 }
 
 impl Table {
@@ -59,7 +70,7 @@ impl Table {
 impl Tables {
     /// None came yet of so many networks.
     pub fn new(networks: usize) -> Tables {
-        Tables { networks, askers: VecDeque::new(), asked: None, coming: Vec::new(), last: None, came: 0 }
+        Tables { networks, askers: VecDeque::new(), asked: None, coming: Vec::new(), last: None, row: None }
     }
 
     /// The program was asked for them.
@@ -95,12 +106,21 @@ impl Tables {
         self.last.as_ref().map(|(_, tables)| &tables[..])
     }
 
+    /// What the line that was taken last said of stations: each row by itself, so that a table of many thousands takes
+    /// no long time in one piece.
+    pub fn take_row(&mut self) -> Option<Row> {
+        self.row.take()
+    }
+
     /// Takes a line of the program, and answers whether it is to be shown to people.
     pub fn take(&mut self, line: &str, now: Instant) -> bool {
         let is_shown = self.askers.front() != Some(&Asker::Status);
         let words: Vec<&str> = line.split(' ').collect();
+        let place = self.coming.len().checked_sub(1);
+        self.row = None;
         match words[..] {
             ["network", _, "ssid", ssid] if self.coming.len() < self.networks => {
+                self.row = Some(Row::Begin { place: self.coming.len() });
                 self.coming.push(Table { ssid: ssid.to_owned(), ..Table::default() });
             }
             ["events", ..] => {
@@ -111,13 +131,17 @@ impl Tables {
             ["station", address, ..] => {
                 let table = self.coming.last_mut().filter(|table| table.stations.len() < MOST_KNOWN);
                 if let (Some(table), Ok(address)) = (table, address.parse()) {
-                    table.stations.insert(address, station_of(&words));
+                    let (state, kept) = station_of(&words);
+                    table.stations.insert(address, (state, kept));
+                    self.row = place.map(|place| Row::Station { place, address, state });
                 }
             }
-            ["end"] if self.coming.len() >= self.networks => {
-                self.last = Some((now, std::mem::take(&mut self.coming)));
-                self.askers.pop_front();
-                self.came += 1;
+            ["end"] => {
+                self.row = place.map(|place| Row::End { place });
+                if self.coming.len() >= self.networks {
+                    self.last = Some((now, std::mem::take(&mut self.coming)));
+                    self.askers.pop_front();
+                }
             }
             _ => {}
         }
@@ -172,6 +196,26 @@ mod tests {
         assert_eq!(found[0].stations[&STRANGER], (State::Authenticated, 0));
         assert!(found[1].stations.is_empty());
         assert_eq!((found[0].holder(), found[1].holder()), (Some((STATION, 3)), None));
+    }
+
+    /// However many stations strangers have a network know, what one line says of them is one row.
+    #[test]
+    fn each_line_is_a_row_of_its_own() {
+        let mut tables = Tables::new(2);
+        let rows: Vec<Option<Row>> = LINES
+            .iter()
+            .chain(&["end"])
+            .map(|line| {
+                tables.take(line, Instant::START);
+                tables.take_row()
+            })
+            .collect();
+        let [first, second] = [0, 1].map(|place| [Some(Row::Begin { place }), None, Some(Row::End { place })]);
+        let associated = Row::Station { place: 0, address: STATION, state: State::Associated(7) };
+        let authenticated = Row::Station { place: 0, address: STRANGER, state: State::Authenticated };
+        let stations = [Some(associated), Some(authenticated)];
+        assert_eq!(rows, [&first[..2], &stations, &first[2..], &second].concat());
+        assert_eq!(tables.take_row(), None);
     }
 
     #[test]

@@ -14,6 +14,9 @@ use crate::os::clock::{now, Instant, SECOND};
 use crate::os::poller::{Ready, Token};
 use crate::os::port::{OfSocket, Port};
 
+/// Behind a piece of the program's output with so many rows of tables something else is looked at first.
+const MANY_ROWS: usize = 250;
+
 impl<P: OfSocket> Bridge<P> {
     /// Reads what the program wrote, and sends it.
     pub(super) fn take_answers(&mut self) -> Result<(), Fault> {
@@ -21,10 +24,15 @@ impl<P: OfSocket> Bridge<P> {
             if !self.program.read()? {
                 break;
             }
+            let mut rows = 0;
             while let Some(answer) = self.program.next_answer()? {
+                rows += usize::from(matches!(answer, Answer::Told(_)));
                 self.take_answer(answer, self.time)?;
             }
             self.send()?;
+            if rows >= MANY_ROWS {
+                break;
+            }
         }
         match self.phase {
             _ if !self.program.has_ended => Ok(()),

@@ -37,16 +37,10 @@ impl<P: Port> Running<P> {
         }
     }
 
-    /// Takes a line of a table, and answers whether it is to be shown; the stations are those of whole tables.
+    /// Takes a line of a table, and answers whether it is to be shown; the stations are those of the tables.
     pub(super) fn take_table_line(&mut self, line: &str, time: Instant) -> bool {
-        let before = self.tables.came;
         let is_shown = self.tables.take(line, time);
-        if self.tables.came != before {
-            for (place, table) in self.tables.last().unwrap_or_default().iter().enumerate() {
-                let known = table.stations.iter().map(|(address, (state, _))| (*address, *state)).collect();
-                self.stations.table.agree(place, &known, time);
-            }
-        }
+        self.tables.take_row().into_iter().for_each(|row| self.stations.table.agree(row, time));
         is_shown
     }
 
@@ -83,13 +77,13 @@ impl<P: Port> Running<P> {
     }
 
     /// What was dropped or lost, by what people call it.
-        found.extend(self.left_out_by(|reason| reason == LeftOut::LongForRadio));
     fn drops(&mut self) -> Named {
         let waiting = self.waiting.dropped();
         let mut found: Named =
             waiting.map(|(source, reason, number)| (format!("{}: {reason}", self.name_of(source)), number)).collect();
         found.extend(self.outbound.counts().into_iter().filter(|(what, _)| !what.starts_with("sent ")));
         found.extend(self.lost_on_wires());
+        found.extend(self.left_out_by(|reason| reason == LeftOut::LongForRadio));
         for gate in self.interfaces.gates() {
             let number = gate.port.count_dropped();
             if number > 0 {

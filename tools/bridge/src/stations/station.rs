@@ -81,7 +81,7 @@ pub struct Station {
     /// What was heard of it.
     pub from: Traffic,
     pub asked: Asked,
-    /// Whether the program is about to be told that it left.
+    /// Whether the program is about to be told that it left, and since when.
     pub(super) is_leaving: bool,
     pub(super) leaving_since: Instant,
     /// The number of the program's last table that has it.

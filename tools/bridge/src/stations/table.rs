@@ -5,11 +5,25 @@
 //! may hold one more: if an answer was on its way while the station left.
 use std::collections::{BTreeMap, BTreeSet, HashMap};
 
+use crate::apctl::tables::Row;
 use crate::formats::frames::{Address, AddressMap};
 use crate::network::Places;
 use crate::os::clock::Instant;
 use crate::stations::news::{Forgotten, News};
 use crate::stations::station::{Asked, KeptStation, Member, Move, State, Station, Traffic};
+
+/// The most stations of a network that are taken out in one piece as the program's table hasn't them: the others are
+/// behind the next table. In an ordinary run the program tells each by a frame, and none is left for its tables.
+const MOST_GONE: usize = 1000;
+
+/// The program's table of a network, as it comes.
+#[derive(Debug, Default, Clone, Copy)]
+struct Listing {
+    /// Its number, by which it is known which stations it has.
+    number: u64,
+    /// The turn of the last station that was entered before it.
+    last_turn: u64,
+}
 
 /// The stations of all networks.
 #[derive(Debug, Default)]
@@ -30,6 +44,8 @@ pub struct StationTable {
     pub(super) news: Vec<(Member, News)>,
     pub(super) moves: Vec<(Member, Move)>,
     turns: u64,
+    /// Of each network the program's table that came last.
+    listings: Vec<Listing>,
     /// How often the stations changed that are associated, or what a new program has to know of them.
     pub changes: u64,
 }
@@ -43,6 +59,7 @@ impl StationTable {
             unassociated: vec![BTreeSet::new(); bssids.len()],
             told_of: vec![BTreeMap::new(); bssids.len()],
             refusals: vec![BTreeMap::new(); bssids.len()],
+            listings: vec![Listing::default(); bssids.len()],
             bssids,
             ..StationTable::default()
         }
@@ -91,6 +108,7 @@ impl StationTable {
             self.set_state(member, State::Authenticated, now);
         }
         if let Some(station) = self.stations[member.0].get_mut(&member.1) {
+            station.leaving_since = now;
             if !station.is_leaving {
                 station.is_leaving = true;
                 self.news.push((member, News::Forgotten(why)));
@@ -98,20 +116,34 @@ impl StationTable {
         }
     }
 
-    /// What the program's tables say: a network knows these stations, and no others.
-    pub fn agree(&mut self, place: usize, known: &HashMap<Address, State>, now: Instant) {
-        let here = self.stations[place].keys();
-        let gone: Vec<Address> = here.filter(|address| !known.contains_key(address)).copied().collect();
-        for address in gone {
+    /// What a row of the program's tables says: a network knows this station, or no others than those before.
+    pub fn agree(&mut self, row: Row, now: Instant) {
+        match row {
+            Row::Begin { place } => {
+                self.listings[place].number += 1;
+                self.listings[place].last_turn = self.turns;
+            }
+            Row::Station { place, address, state } => {
+                let number = self.listings[place].number;
+                if !self.stations[place].contains_key(&address) {
+                    self.authenticate((place, address), now);
+                    self.set_state((place, address), state, now);
+                }
+                self.station_mut(&(place, address)).into_iter().for_each(|station| station.listed_in = number);
+            }
+            Row::End { place } => self.take_unlisted_out(place),
+        }
+    }
+
+    /// Takes the stations out that the program's last table of a network hasn't. One that was entered since that began
+    /// isn't in doubt.
+    fn take_unlisted_out(&mut self, place: usize) {
+        let Listing { number, last_turn } = self.listings[place];
+        let is_gone = |station: &Station| station.listed_in < number && station.turn <= last_turn;
+        let gone = self.stations[place].iter().filter(|(_, station)| is_gone(station));
+        for address in gone.map(|(address, _)| *address).take(MOST_GONE).collect::<Vec<_>>() {
             self.take_out((place, address));
             self.moves.push(((place, address), Move::Left));
-        }
-        for (address, state) in known {
-            if !self.stations[place].contains_key(address) {
-            station.leaving_since = now;
-                self.authenticate((place, *address), now);
-                self.set_state((place, *address), *state, now);
-            }
         }
     }
 

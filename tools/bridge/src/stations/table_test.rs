@@ -4,7 +4,7 @@ use crate::formats::radiotap::{Outcome, Reception};
 use crate::os::clock::SECOND;
 use crate::stations::meaning::Tim;
 use crate::stations::own_frames::departure;
-use crate::testing::samples::{at, frame_of, OTHER, OURS, STATION, STRANGER};
+use crate::testing::samples::{at, frame_of, made_up, OTHER, OURS, STATION, STRANGER};
 
 const FIRST: Member = (0, STATION);
 const PLAIN: Reception = Reception { signal: Some(-40), rate: Some(22), frequency: None };
@@ -220,13 +220,47 @@ fn an_identifier_goes_to_another_station() {
     assert_eq!(order, [STRANGER]);
 }
 
+/// The program's table of a network has these stations.
+fn agree(table: &mut StationTable, place: usize, known: &[(Address, State)]) {
+    table.agree(Row::Begin { place }, at(SECOND));
+    for (address, state) in known.iter().copied() {
+        table.agree(Row::Station { place, address, state }, at(SECOND));
+    }
+    table.agree(Row::End { place }, at(SECOND));
+}
+
+/// What a station does while a table comes is newer than its rows.
+#[test]
+fn who_is_entered_while_a_table_comes_stays() {
+    let mut table = joined();
+    table.agree(Row::Begin { place: 0 }, at(SECOND));
+    authenticated(&mut table, STRANGER, 0);
+    table.agree(Row::End { place: 0 }, at(SECOND));
+    assert!(table.station(&FIRST).is_none() && table.station(&(0, STRANGER)).is_some());
+    agree(&mut table, 0, &[]);
+    assert!(table.station(&(0, STRANGER)).is_none());
+}
+
+/// Where thousands are gone at once, some are taken out behind each table.
+#[test]
+fn of_a_full_table_few_are_taken_out_in_one_piece() {
+    let mut table = joined();
+    let known: Vec<_> = (0..9000).map(|number| (made_up(number), State::Authenticated)).collect();
+    agree(&mut table, 0, &known);
+    assert_eq!((table.known(0), table.station(&FIRST)), (9000, None));
+    table.take_left();
+    for left in [8000, 7000] {
+        agree(&mut table, 0, &[]);
+        assert_eq!((table.known(0), table.take_left().len()), (left, MOST_GONE));
+    }
+}
+
 #[test]
 fn the_program_s_tables_are_right() {
     let mut table = joined();
-    let known = HashMap::from([(STRANGER, State::Associated(4))]);
-    table.agree(1, &HashMap::new(), at(SECOND));
+    agree(&mut table, 1, &[]);
     assert!(table.station(&FIRST).is_some());
-    table.agree(0, &known, at(SECOND));
+    agree(&mut table, 0, &[(STRANGER, State::Associated(4))]);
     assert_eq!(table.station(&FIRST), None);
     assert_eq!(table.station(&(0, STRANGER)).unwrap().state, State::Associated(4));
     assert_eq!(table.take_entered(), [FIRST, (0, STRANGER)]);
@@ -297,7 +331,7 @@ fn who_is_associated_no_more_is_told() {
     assert_eq!(table.take_moves(), []);
     let mut table = joined();
     table.take_moves();
-    table.agree(0, &HashMap::new(), at(SECOND));
+    agree(&mut table, 0, &[]);
     assert_eq!(table.take_moves(), left);
     let mut table = joined();
     table.take_moves();
