@@ -15,8 +15,8 @@
 //!  wire1 ◀─┬─ send ◀─────────── wire: each in order;                 ◀═══════════════════ │                │
 //!  wire2 ◀─┘  8 at most in a row                                                records  │                │
 //!  mon0 ◀──── beacons, at once ◀─ air                                                     └────────────────┘
-//!  mon0 ◀──── as much as the  ◀── scheduler: whose turn it is, of the networks and of a network's receivers
-//!             radio sends in      links: at which rate, and again if it is lost
+//!  mon0 ◀──── as much as the  ◀── downlink: whose turn it is of the networks, and what goes once more (proved)
+//!             radio sends in      scheduler: which receiver of a network; links: at which rate
 //!             8 milliseconds  ◀── in_flight: what the radio has at once
 //!  mon0 ───▶ what became of it ─▶ corrects the shares
 //!  people ◀──────────────────── lines of tables and faults
@@ -30,11 +30,11 @@
 //! to the program once, or counted as left out or dropped, but for what the kernel's filter keeps out: control frames,
 //! and frames for no network. A beginning of a beacon interval waits for none of the frames that wait. A beacon goes
 //! before all that waits, group frames of its network included; what the program sends after a beacon never goes before
-//! it. While a network has frames waiting for the air, no other one gets more than its share of it and one frame
-//! (`scheduler`). All memory is bounded. One thread does all by `epoll`, and waits nowhere else but where many frames come
-//! for a millisecond at most, in which some gather (`batching`). What may make a writer wait, standard error, the record
-//! and what `tools/live` is told, threads of their own write (`os::background_writer`): what these don't take in time is
-//! dropped and counted.
+//! it. While a network has frames waiting for the air, no other one gets more than its share of it and some frames
+//! (`downlink`). All memory is bounded. One thread does all by `epoll`, and waits nowhere else but where many frames
+//! come for a millisecond at most, in which some gather (`batching`). What may make a writer wait, standard error, the
+//! record and what `tools/live` is told, threads of their own write (`os::background_writer`): what these don't take in
+//! time is dropped and counted.
 //!
 //! It leaves every decision on a frame to the program, and leaves to `tools/live` all that takes rights: it has none of
 //! its own (`os::sandbox`). It speaks with that by lines of a Unix socket: it reads `state`, with the files by which
