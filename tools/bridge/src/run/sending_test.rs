@@ -39,6 +39,7 @@ impl RadioPort {
     /// One with its other end.
     fn new(shown: Option<UnixDatagram>) -> (RadioPort, UnixDatagram) {
         let (near, far) = UnixDatagram::pair().unwrap();
+        far.set_nonblocking(true).unwrap();
         let (to_come, asked, unsent) = (Rc::default(), Rc::default(), Rc::default());
         (RadioPort { near, far: far.try_clone().unwrap(), to_come, shown, asked, unsent }, far)
     }
@@ -54,9 +55,10 @@ impl Port for RadioPort {
     }
 
     fn receive(&mut self, batch: &mut Batch) -> io::Result<usize> {
-        let come = self.to_come.get().min(AT_A_TIME);
+        // Fewer are read at a time than come, so at some time no more fit.
+        let (packet, most) = (radiotap(&data(), 0, &[]), AT_A_TIME.min(self.to_come.get()));
+        let come = (0..most).take_while(|_| self.far.send(&packet).is_ok()).count();
         self.to_come.set(self.to_come.get() - come);
-        (0..come).try_for_each(|_| self.far.send(&radiotap(&data(), 0, &[])).map(drop))?;
         batch.receive(self.near.as_fd())
     }
 
