@@ -204,7 +204,10 @@ impl Transmitter {
             let goes_back = fate == Some(Fate::HandedBack);
             if fate == Some(Fate::WaitsAgain) {
                 self.send_once_more(name, sent, now);
-            } else if !is_awaited && !(goes_back && self.hand_back_late(place, address, &sent.octets, now)) {
+                continue;
+            }
+            let went_back = !is_awaited && goes_back && self.hand_back_late(place, address, &sent.octets, now);
+            if !is_awaited && !went_back {
                 self.queue.accounts[place].count_unsent(Unsent::Reset);
             }
         }
