@@ -11,7 +11,7 @@ use crate::outbound::air::downlink::Ticket;
 use crate::outbound::air::frame::{FrameKind, OutboundFrame, Receiver, MOST_LIFETIME, MOST_UNDRAINED};
 use crate::outbound::air::in_flight::FrameName;
 use crate::outbound::air::lateness::Lateness;
-use crate::outbound::air::links::{Links, Outlook};
+use crate::outbound::air::links::{Beside, Links, Outlook};
 use crate::outbound::air::queue::Ticketed;
 use crate::outbound::air::rate_control::Choice;
 use crate::outbound::air::scheduler::Place;
@@ -146,13 +146,13 @@ impl Transmitter {
                 }
             };
             let address = frame.address;
-            let outlook = self.links.outlook(place, address);
+            let outlook = self.links.outlook(place, address, now);
             if Self::is_worthless(&self.links, &mut self.lateness, place, frame, now) {
                 match self.queue.take_first(place, receiver, now) {
                     Some(frame) => self.give_up(place, frame, now),
                     None => self.queue.drop_stray(place, receiver, now),
                 }
-            } else if matches!(receiver, Receiver::Station(_)) && self.awaits(place, address, outlook, now) {
+            } else if matches!(receiver, Receiver::Station(_)) && self.awaits(place, frame, outlook, now) {
                 self.queue.hold(place, receiver);
             } else {
                 let rate = if frame.kind.is_unit() { outlook.unit_rate } else { self.links.lowest(place) };
@@ -210,7 +210,11 @@ impl Transmitter {
     /// Whether what comes next for a station waits for what became of a frame before: of one that takes long, and of
     /// one that may be lost, since a unit is sent once more only if nothing went to its station since. If many
     /// wait, the radio has several of them all the same, unless the last one was lost.
-    fn awaits(&self, place: Place, address: Address, outlook: Outlook, now: Instant) -> bool {
+    fn awaits(&self, place: Place, frame: &OutboundFrame, outlook: Outlook, now: Instant) -> bool {
+        let address = frame.address;
+        if self.awaits_first_unit(place, frame, outlook) {
+            return true;
+        }
         if outlook.is_sure {
             return self.in_flight.is_overdue(place, address, now);
         }
@@ -219,6 +223,12 @@ impl Transmitter {
         self.in_flight.is_overdue(place, address, now)
             || self.in_flight.is_unknown(place, address)
             || goes_alone && self.in_flight.has(place, address)
+    }
+
+    /// Whether a unit waits until its station acknowledges the first one after a silence.
+    fn awaits_first_unit(&self, place: Place, frame: &OutboundFrame, outlook: Outlook) -> bool {
+        let mut with_radio = self.in_flight.of(place, frame.address);
+        outlook.is_silent && frame.kind.is_unit() && with_radio.any(|(_, sent)| sent.kind.is_unit())
     }
 
     /// The frame that is next goes, if the library lets it: its rate and tries are chosen, and its packet is made. One
@@ -296,8 +306,11 @@ impl Transmitter {
             FrameKind::Own { retries } => (plainly(retries), false),
             _ if address.is_group() => (plainly(0), false),
             _ => {
-                let is_busy = now < self.busy_until[place] || self.in_flight.is_busy(place);
-                self.links.choose(place, address, octets, is_busy, now)
+                let beside = Beside {
+                    is_busy: now < self.busy_until[place] || self.in_flight.is_busy(place),
+                    others_wait: self.queue.scheduler.waiting(place, Receiver::Station(address)) > 1,
+                };
+                self.links.choose(place, address, octets, beside, now)
             }
         };
         let choice = if kind == FrameKind::AnswerToAll { plainly(0) } else { choice };

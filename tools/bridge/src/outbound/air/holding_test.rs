@@ -71,6 +71,38 @@ fn units_that_nobody_acknowledges_count_for_their_network() {
     assert_eq!((driver.air.unacknowledged_by_network(), driver.air.unacknowledged()), (&wanted[..], wanted[1]));
 }
 
+/// Which rates a station hears isn't known any more after a silence: until it acknowledges the first of many units, the
+/// others wait.
+#[test]
+fn after_a_silence_the_first_of_many_units_goes_alone() {
+    for (silence, alone) in [(100, false), (101, true)] {
+        let mut driver = driver_at_54();
+        driver.pass(silence * MILLISECOND);
+        let first = driver.give((9..69).map(|number| unit(OURS, STATION, number)));
+        assert_eq!((first.len() == 1, first[0].number(), first[0].rate), (alone, 9, 108));
+        driver.reported(0, &first[0], 0, true);
+        assert!(driver.flush().len() > 4);
+    }
+}
+
+/// A station moves while nothing is sent to it: of 60 units that come then each is heard, in their order.
+#[test]
+fn a_station_that_hears_1_megabit_alone_after_a_silence_loses_no_unit() {
+    let mut driver = driver_at_54();
+    driver.pass(500 * MILLISECOND);
+    let mut on_air = VecDeque::from(driver.give((9..69).map(|number| unit(OURS, STATION, number))));
+    let mut heard = Vec::new();
+    while let Some(next) = on_air.pop_front() {
+        let is_heard = next.rate == 2;
+        driver.pass(MILLISECOND);
+        driver.reported(0, &next, if is_heard { 0 } else { next.retries }, is_heard);
+        heard.extend(is_heard.then(|| next.number()));
+        on_air.extend(driver.flush());
+    }
+    assert_eq!(heard, (9..69).collect::<Vec<u8>>());
+    assert_eq!(driver.air.unacknowledged().lost, 0);
+}
+
 #[test]
 fn while_a_sample_is_on_the_air_frames_wait_in_order_and_not_for_ever() {
     let mut driver = driver([1, 1]);

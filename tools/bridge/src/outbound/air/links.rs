@@ -25,6 +25,9 @@ use crate::spare::give_back_shared;
 
 /// How long the frames for a station wait at most for what became of the one before.
 const MOST_WAIT: Duration = MOST_OUT;
+/// After so long without an acknowledged unit one doesn't know any more which rates a station hears: it may have gone
+/// elsewhere. It takes about as long to the next beacon, at which one that dozes wakes.
+const SILENCE: Duration = Duration::from_millis(100);
 /// The most stations of a network that rates are known of: more can't be associated (9.4.1.8).
 const MOST_STATIONS: usize = 2007;
 
@@ -69,8 +72,19 @@ pub(super) struct Outlook {
     pub is_sure: bool,
     /// Whether the last unit was lost.
     pub is_in_doubt: bool,
+    /// Whether it acknowledged no unit for so long that others wait until it acknowledges this one.
+    pub is_silent: bool,
     /// At which rate a unit goes, unless it is a sample.
     pub unit_rate: u8,
+}
+
+/// What a frame for a station goes beside.
+#[derive(Debug, Clone, Copy)]
+pub(super) struct Beside {
+    /// Whether its network is busy.
+    pub is_busy: bool,
+    /// Whether others wait for its station.
+    pub others_wait: bool,
 }
 
 /// The frame that was sent to a station last.
@@ -81,6 +95,8 @@ struct Last {
     number: Option<u16>,
     choice: Choice,
     was_again: bool,
+    /// Whether others waited until its station acknowledges it after a silence.
+    was_first: bool,
 }
 
 #[derive(Debug)]
@@ -95,6 +111,8 @@ struct Link {
     had_kept: Instant,
     /// When it acknowledged a frame last.
     acknowledged: Instant,
+    /// The same of a unit.
+    heard_unit: Instant,
     /// Its turn among all, by which the one is found that wasn't sent to for longest.
     used: u64,
     /// Whether it isn't associated any more.
@@ -169,6 +187,7 @@ impl Links {
                 goes_since: Instant::START,
                 had_kept: Instant::START,
                 acknowledged: Instant::START,
+                heard_unit: Instant::START,
                 used: self.turns,
                 has_left: false,
             };
@@ -219,24 +238,24 @@ impl Links {
     }
 
     /// How the next unit to a station is expected to go.
-    pub fn outlook(&self, place: Place, address: Address) -> Outlook {
+    pub fn outlook(&self, place: Place, address: Address, now: Instant) -> Outlook {
         let NetworkLinks { lowest, links, .. } = &self.networks[place];
-        let unknown = Outlook { is_sure: true, is_in_doubt: false, unit_rate: *lowest };
-        links.get(&address).map_or(unknown, |Link { rates, .. }| Outlook {
-            is_sure: rates.are_sure(),
-            is_in_doubt: rates.is_in_doubt(),
-            unit_rate: if self.is_told() { rates.plainly().rate } else { *lowest },
+        let unknown = Outlook { is_sure: true, is_in_doubt: false, is_silent: false, unit_rate: *lowest };
+        links.get(&address).map_or(unknown, |station| Outlook {
+            is_sure: station.rates.are_sure(),
+            is_in_doubt: station.rates.is_in_doubt(),
+            is_silent: self.is_told() && now > station.heard_unit + SILENCE,
+            unit_rate: if self.is_told() { station.rates.plainly().rate } else { *lowest },
         })
     }
 
-    /// How a frame is sent to a station now, if its network is busy or isn't, and whether what comes next for it waits
-    /// for what becomes of it.
+    /// How a frame is sent to a station now, and whether what comes next for it waits for what becomes of it.
     pub fn choose(
         &mut self,
         place: Place,
         address: Address,
         frame: &Rc<Vec<u8>>,
-        is_busy: bool,
+        beside: Beside,
         now: Instant,
     ) -> (Choice, bool) {
         let is_told = self.is_told();
@@ -250,13 +269,17 @@ impl Links {
         station.used = self.turns;
         let lost = station.last.as_ref().filter(|last| last.was_again && Rc::ptr_eq(&last.frame, frame));
         let was_again = lost.is_some();
+        let was_first = beside.others_wait && is_unit(frame) && now > station.heard_unit + SILENCE;
         let choice = match (lost, is_unit(frame)) {
+            (Some(lost), _) if lost.was_first => station.rates.plainly(),
             (Some(lost), _) => station.rates.once_more(lost.choice.rate),
-            (None, true) => station.rates.next(now, is_busy),
+            (None, true) if was_first => station.rates.first(now, beside.is_busy),
+            (None, true) => station.rates.next(now, beside.is_busy),
             (None, false) => plainly,
         };
         let waits = was_again || choice.is_sample || station.rates.is_in_doubt();
-        let last = Last { frame: Rc::clone(frame), number: number(frame), choice, was_again };
+        let was_first = was_first && !choice.is_sample;
+        let last = Last { frame: Rc::clone(frame), number: number(frame), choice, was_again, was_first };
         if let Some(before) = station.last.replace(last) {
             give_back_shared(before.frame);
         }
@@ -284,6 +307,7 @@ impl Links {
         let is_unit = is_unit(frame);
         if outcome.is_acknowledged {
             station.acknowledged = now;
+            station.heard_unit = if is_unit { now } else { station.heard_unit };
         }
         if is_unit && (listens || outcome.is_acknowledged) {
             let rate = outcome.rate.or_else(|| last.as_ref().map(|last| last.choice.rate));

@@ -52,7 +52,7 @@ fn no_more_stations_of_a_network_are_known_than_there_is_room_for() {
     (0..=MOST_STATIONS).for_each(|number| {
         join(&mut links, 0, made_up(number));
         let unit = Rc::new(frame(0x08, made_up(number), OURS, &[]));
-        links.choose(0, made_up(number), &unit, false, Instant::START);
+        links.choose(0, made_up(number), &unit, Beside { is_busy: false, others_wait: false }, Instant::START);
     });
     assert_eq!(links.networks[0].links.len(), MOST_STATIONS);
     assert!(!links.knows(0, made_up(0)) && links.knows(0, made_up(1)));

@@ -40,7 +40,8 @@
 //!     waits for a sample, for a unit that is sent once more, and for each frame behind a lost one.
 //! 11. They are held while the radio's oldest frame is theirs and overdue (`in_flight`). If the station loses tries,
 //!     they are held too while what became of one that left the radio is unread. If few wait then, or the last one was
-//!     lost, they are held while the radio has any of them.
+//!     lost, they are held while the radio has any of them. Units are held while the radio has one if the station
+//!     acknowledged none for 100 ms: by then it may hear other rates, and all would be lost with the rate.
 //! 12. All but beacons are held while the radio has as much as it sends in some 8 ms, unless the bridge ends. While the
 //!     radio has frames of a network, another one of it is held if all would take more than 50 ms, should nobody
 //!     acknowledge any. If its station loses few tries, it is tried four times at most then.

@@ -4,10 +4,10 @@
 //! radio that can be asked for one rate a frame. Of each rate the share of tries is kept that was acknowledged, newer
 //! ones counting more; units go at the rate that brings the most octets through, share by time on the air; now and then
 //! one goes at a faster rate, as a sample, with two tries. A unit that nobody acknowledged goes once more at the
-//! slowest rate of OFDM, a sample at the best one. It lets the next one go at the slowest rate of all, until an
-//! acknowledgement comes, and what was known of the rates above the middle is forgotten, so that a station that went
-//! away is found within a few units. If rates are untried, each unit samples the middle one of them: a faster rate
-//! is not expected to be heard if a slower one isn't.
+//! slowest rate of OFDM, a sample at the best one, the first of many units after a silence at the slowest of all. It
+//! lets the next one go at the slowest rate of all, until an acknowledgement comes, and what was known of the rates
+//! above the middle is forgotten, so that a station that went away is found within a few units. If rates are untried,
+//! each unit samples the middle one of them: a faster rate is not expected to be heard if a slower one isn't.
 //!
 //! Nothing is sent, heard or timed here: what to do is asked, and what came of it is told.
 
@@ -167,6 +167,16 @@ impl RateControl {
                 self.since_sample = self.since_sample.saturating_add(1);
                 self.plainly()
             }
+        }
+    }
+
+    /// How a unit is to be sent that others wait for, since it isn't known what the station hears by now: as a sample
+    /// only where rates are untried. If it is no sample and is lost, it goes once more at the slowest rate (`plainly`).
+    pub fn first(&mut self, now: Instant, is_busy: bool) -> Choice {
+        if self.rates[self.best..].iter().any(|rate| rate.known == Known::Untried) {
+            self.next(now, is_busy)
+        } else {
+            self.plainly()
         }
     }
 
