@@ -114,10 +114,12 @@ class Newcomer:
         return False
 
 
-def newcomers_join(air: Air, radio: int, interface: str, bssid: str, ssid: str, strangers: Strangers) -> str:
-    """While strangers send, newcomers join one after another by the same radio: enough are in in time."""
+def newcomers_join(air: Air, radio: int, interface: str, bssid: str, ssid: str, strangers: Strangers,
+                   flooded: str | None = None) -> str:
+    """While strangers send to a network, or to another one that is named, newcomers join it one after another by the
+    same radio: enough are in in time."""
     times: list[float | None] = []
-    with strangers.sending(interface, address_of(bssid)):
+    with strangers.sending(interface, address_of(flooded or bssid)):
         time.sleep(BEFORE_THE_FIRST)
         for place in range(strangers.first, strangers.first + NEWCOMERS):
             address = f"{OF_NEWCOMERS.hex(':')}:00:00:00:{place:02x}"
