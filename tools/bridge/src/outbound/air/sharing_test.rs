@@ -53,6 +53,40 @@ fn no_turn_takes_longer_than_the_example_of_the_promise_says() {
     }
 }
 
+/// A station vanishes while it is sent 1,000 units a second, each time in another part of the beacon interval. A beacon
+/// waits for what the radio has by then, and for no more than what is said of that.
+#[test]
+fn a_beacon_waits_for_what_the_radio_has_as_a_station_vanishes() {
+    const INTERVAL: Duration = Duration::from_micros(102_400);
+    for seed in 0..20 {
+        let mut medium = Medium::new(seed, &[STRANGER, STATION]);
+        let start = medium.driver.now;
+        let (vanishes, end) = (start + 4 * INTERVAL + seed as u32 * 5 * MILLISECOND, start + 8 * INTERVAL);
+        let (mut unit_due, mut beacon_due, mut last, mut longest) = (start, start, start, Duration::ZERO);
+        while medium.driver.now < end {
+            let now = medium.driver.now;
+            if now >= unit_due {
+                medium.fill_more(0, STRANGER, 1, LONG);
+                unit_due += MILLISECOND;
+            }
+            if now >= beacon_due {
+                medium.driver.send(0, of_network(BEACON, OURS, Address::BROADCAST, 4, vec![0; 90]));
+                beacon_due += INTERVAL;
+            }
+            if now >= vanishes {
+                medium.losses = vec![(STRANGER, 100)];
+            }
+            let told = medium.advance(unit_due.min(beacon_due).min(end));
+            if told.map_or(false, |(_, seen)| seen.frame[0] == BEACON) {
+                longest = longest.max(medium.driver.now.since(last));
+                last = medium.driver.now;
+            }
+        }
+        let waited = longest.saturating_sub(INTERVAL);
+        assert!(waited < MOST_TRYING_AT_ONCE, "{seed}: {longest:?}");
+    }
+}
+
 /// What the radio takes is charged, whatever it was asked for.
 #[test]
 fn the_rate_and_the_tries_that_the_radio_tells_are_charged() {
