@@ -41,15 +41,16 @@ try: ## runs the program without any proof on an example or on INPUT=FILE, in a 
 try-check: ## reads the configuration CONFIG=FILE without any proof
 	@.ci/try "$$CONFIG_NAME"
 
-# The gate, whose parts run beside each other (.ci/gate). Proves every crate from nothing, tries each edit of
-# crates/*/must-fail and the wrong bodies that wrong/gate.txt lists, runs each test, runs the program that was built of
-# what was proved over examples/ and tests/, with more and more memory, over files and streams that fail and over lines
-# and records that it answers as they come, lets each allocation of some calls fail in turn, holds it against two models
-# over hostile input that the commit draws, plays four traces at once, twice, and finds edits of wrong/ that can't be
-# applied, names in the documents that aren't there, and scripts that don't say how they are used. It runs the tests of
-# the bridge, of the guest's air and of the tools, and what clippy, pyflakes and mypy find in them fails it. Takes
-# Debian's packages of .ci/packages, and installs those that are missing. The last line is 'N passed, M failed'.
-test: ## the gate: proves all from nothing, tries wrong bodies, runs all tests
+# The gate, whose parts run beside each other (.ci/gate). Proves every crate of which an earlier `rt ci` on this
+# machine didn't prove the same files, tries each edit of crates/*/must-fail and the wrong bodies that wrong/gate.txt
+# lists, runs each test, runs the program that was built of what was proved over examples/ and tests/, with more and
+# more memory, over files and streams that fail and over lines and records that it answers as they come, lets each
+# allocation of some calls fail in turn, holds it against two models over hostile input that the commit draws, plays
+# four traces at once, twice, and finds edits of wrong/ that can't be applied, names in the documents that aren't
+# there, and scripts that don't say how they are used. It runs the tests of the bridge, of the guest's air and of the
+# tools, and what clippy, pyflakes and mypy find in them fails it. Takes Debian's packages of .ci/packages, and
+# installs those that are missing. The last line is 'N passed, M failed'.
+test: ## the gate: proves the crates, tries some wrong bodies, runs the tests
 	@.ci/gate
 
 # Tries the wrong bodies of wrong/, of which the gate tries few: all, or with NAME=bss_core those of one crate, as many
