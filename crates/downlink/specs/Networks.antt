@@ -37,7 +37,7 @@ or_else (Some place) other = Some place
 abbrev pub turn_of : Network → Option ℕ
 turn_of n = if n.is_paused then None else or_else (first_from n.from n.receivers) (first_from zero n.receivers)
 
--- a frame of it may go
+-- a frame of it may go, and it isn't paused
 abbrev pub has_next : Network → Bool
 has_next n = is_some (turn_of n)
 

@@ -19,8 +19,8 @@ IsAlone = (r : Radio) (calls : List RadioCall) (place : ℕ) (n : Network) → s
     (slice_get (radio_after r calls).networks place ≡ Some (queue_alone n own))
     × (own_answers place (radio_answers r calls) ≡ answers_alone n own)
 
--- other networks change when its turns come, and nothing else: with the same own calls beside any others, on any other
--- radio, a network is and is answered the same
+-- others reach a network by its own calls alone: with the same ones beside any others, on any other radio, it is and is
+-- answered the same
 abbrev pub IsUnmoved : Type 0
 IsUnmoved = (r s : Radio) (calls others : List RadioCall) (place : ℕ) (n : Network)
     → slice_get r.networks place ≡ Some n → slice_get s.networks place ≡ Some n
@@ -33,7 +33,7 @@ IsUnmoved = (r s : Radio) (calls others : List RadioCall) (place : ℕ) (n : Net
 abbrev pub waits_of : List Lane → List Bool
 waits_of lanes = map (λ lane. lane.waits) lanes
 
--- each network waits for its turn exactly if a frame of it may go
+-- each network waits for its turn exactly if a frame of it may go and it isn't paused
 abbrev pub IsTold : Radio → Type 0
 IsTold r = waits_of r.lanes ≡ map has_next r.networks
 

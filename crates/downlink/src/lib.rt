@@ -1,12 +1,12 @@
 //! What waits on its way to the air, of the receivers of a radio's networks, which of it goes next, and what becomes of
 //! it (IEEE Std 802.11-2016, 11.2).
 //!
-//! It promises that each network is what it would be alone ([`alone`]), and that networks share the air by the rule of
-//! `air_share` ([`fair`]). Of each receiver no frame vanishes, frames go first in the order in which they came, and
-//! none goes more than twice. A unit goes to a station that dozes only where the station polled for it. The type to
-//! know first is [`RadioQueue`]. It has for each network a [`NetworkQueue`], whose receivers take turns, each a
-//! [`ReceiverQueue`]. A caller may choose the receiver instead, by [`RadioQueue::next_of`], and pause a network. It
-//! keeps the octets, and knows each [`Frame`] by its ticket.
+//! It promises that each network is what it would be alone with its own calls ([`alone`]), and that networks share the
+//! air that callers tell by the rule of `air_share`, within limits ([`fair`]). Of each receiver no frame vanishes, and
+//! frames go first in the order in which they came. Each time that one comes it goes twice at most. To a station that
+//! dozes no more units go for the first time than it polls. The type to know first is [`RadioQueue`]. It has for each
+//! network a [`NetworkQueue`], whose receivers take turns, each a [`ReceiverQueue`]. A caller may choose the receiver
+//! instead, by [`RadioQueue::next_of`], and pause a network. It keeps the octets, and knows each [`Frame`] by its ticket.
 //!
 //! Times are numbers that callers bring, and so is the air that a frame took. Rates and the radio are left to them.
 //!

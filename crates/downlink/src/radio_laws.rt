@@ -10,19 +10,19 @@ ghost use Rattle.downlink.specs.RadioReceivers.{KeepsOrder, LetsSleep, HoldsFew}
 use air_share::{bounded, soon};
 
 /// Isolation: what waits of a network, and what is answered of it, is as if it were alone with its own calls. These are
-/// those that name it, and a turn for each time that the rule of shares chose it. A call that names the receiver of a
-/// turn is its own only where the rule chose the network.
+/// those that name a receiver of it, or pause it or end that, and a turn for each time that the rule of shares chose it.
+/// A call that names the receiver of a turn is its own only where the rule chose the network.
 pub fn alone()
     ensures { IsAlone }
 {}
 
-/// Other networks change when a network's turns come, and nothing else: with the same own calls, at the same place, it
-/// is and is answered the same, whatever other networks there are, and whatever they do.
+/// Others reach a network by its own calls alone: with the same ones, at the same place, it is and is answered the same,
+/// whatever other networks there are, and whatever they do.
 pub fn unmoved_by_others()
     ensures { IsUnmoved }
 {}
 
-/// To the rule of shares a network waits exactly while a frame of it may go.
+/// To the rule of shares a network waits exactly while a frame of it may go and it isn't paused.
 pub fn waits_while_frames_may_go()
     ensures new { IsTold (new_radio []) }
     ensures more { IsToldWithMore }
@@ -39,17 +39,17 @@ pub fn shared_by_the_rule()
     ensures { IsByTheRule }
 {}
 
-/// While frames of a network may go, another uses no more air than its share beside it, a turn, and its share beside a
-/// turn of that network. No turn of either takes more than a limit of its own, with all that is told of it before the
-/// next.
+/// From when no network owes anything: while frames of a network may go, another uses no more of the air that `used`
+/// tells than its share beside it, a turn, and its share beside a turn of that network. No turn of either takes more
+/// than a limit of its own, with all that is told of it before the next.
 pub fn fair()
     ensures { IsFair }
 {
     bounded();
 }
 
-/// While a network waits for its turn, another uses no more air than a turn, and its share beside a turn of that
-/// network.
+/// Within the same limits: while a network waits for its turn, another uses no more of that air than a turn, and its
+/// share beside a turn of that network.
 pub fn prompt()
     ensures { IsPrompt }
 {
