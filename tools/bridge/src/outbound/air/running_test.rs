@@ -2,10 +2,10 @@
 //! they took. So the radio has no more at once than it may have, and stations and networks are held (rules 8 and 10 to
 //! 12 of `air`).
 //!
-//! The queues have no rules for that. The bridge says when a frame goes and of which receiver, when one is late, and
-//! when a network is passed over; the others are told so. Compared is whose turn it is, which frame goes, what becomes
-//! of it, and what is charged. Where none goes, nothing waits that isn't passed over, the radio has as much as it may
-//! have, or it has frames of the network whose turn it is, and all that waits of that is held.
+//! The queues have no rules for that. The bridge says when a frame goes and of which receiver, and when one is late; the
+//! others are told so. Compared is whose turn it is, which frame goes, what becomes of it, and what is charged. Where
+//! none goes, nothing waits, the radio has as much as it may have, or it has frames of the network whose turn it is, and
+//! all that waits of that is held. The radio tells of each frame, so no network is passed over.
 use super::*;
 
 const MOST_AT_ONCE: Duration = Duration::from_millis(8);
@@ -31,7 +31,6 @@ struct OnAir {
 struct Seen {
     limits: u64,
     held: u64,
-    passed_over: u64,
     most_at_once: Duration,
     most_of_network: Duration,
 }
@@ -41,7 +40,6 @@ struct Running {
     out: VecDeque<Out>,
     on_air: Option<OnAir>,
     last_told: Instant,
-    paused: [bool; NETWORKS],
     seen: Seen,
 }
 
@@ -64,8 +62,8 @@ fn whose(packet: &[u8]) -> (Place, usize) {
 impl Running {
     fn new(seed: u64) -> Running {
         let pair = Pair::running(seed);
-        let (last_told, paused) = (pair.now, [false; NETWORKS]);
-        Running { pair, out: VecDeque::new(), on_air: None, last_told, paused, seen: Seen::default() }
+        let last_told = pair.now;
+        Running { pair, out: VecDeque::new(), on_air: None, last_told, seen: Seen::default() }
     }
 
     fn waiting(&self) -> [[usize; 1 + STATIONS]; NETWORKS] {
@@ -76,15 +74,9 @@ impl Running {
         waiting
     }
 
-    /// Which networks are passed over is told beside. Then both say the same of whose turn it is.
+    /// Both say the same of whose turn it is, and no network is passed over.
     fn agree(&mut self) {
-        for place in 0..NETWORKS {
-            let is_paused = self.pair.air.queue.scheduler.is_passed_over(place);
-            if std::mem::replace(&mut self.paused[place], is_paused) != is_paused {
-                assert!(self.pair.beside.pauses(place, is_paused));
-                self.seen.passed_over += u64::from(is_paused);
-            }
-        }
+        assert!((0..NETWORKS).all(|place| !self.pair.air.queue.scheduler.is_passed_over(place)));
         assert_eq!(self.pair.air.queue.downlink.turn(), self.pair.beside.turn());
         self.pair.agree_on_fates();
     }
@@ -133,14 +125,6 @@ impl Running {
     fn sent(&mut self, packet: Vec<u8>, used: [Duration; NETWORKS]) {
         self.pair.air.gave(1);
         let (place, receiver) = whose(&packet);
-        // Those that were passed over before this one went are told beside before that.
-        for other in (0..NETWORKS).filter(|other| *other != place) {
-            let is_paused = self.pair.air.queue.scheduler.is_passed_over(other);
-            if std::mem::replace(&mut self.paused[other], is_paused) != is_paused {
-                assert!(self.pair.beside.pauses(other, is_paused));
-                self.seen.passed_over += u64::from(is_paused);
-            }
-        }
         let answer = self.pair.beside.next_of((place, receiver), self.pair.nanos());
         let answer = self.pair.count(answer).expect("it is this network's turn");
         let frame = &packet[SENDING_LEN..];
@@ -237,7 +221,6 @@ fn the_way_to_the_air_decides_as_the_crate_does_while_it_runs() {
         }
         seen.limits += running.seen.limits;
         seen.held += running.seen.held;
-        seen.passed_over += running.seen.passed_over;
         seen.most_at_once = seen.most_at_once.max(running.seen.most_at_once);
         seen.most_of_network = seen.most_of_network.max(running.seen.most_of_network);
     }
@@ -245,6 +228,6 @@ fn the_way_to_the_air_decides_as_the_crate_does_while_it_runs() {
     for fate in [Goes, GoesAgain, Acknowledged, WaitsAgain, Lost, Late, Crowded] {
         assert!(fates[fate as usize] > CALLS as u64 / 2000, "{fate:?} {fates:?}");
     }
-    assert!([seen.limits, seen.held, seen.passed_over].iter().all(|often| *often > CALLS as u64 / 2000), "{seen:?}");
+    assert!([seen.limits, seen.held].iter().all(|often| *often > CALLS as u64 / 2000), "{seen:?}");
     assert!(seen.most_at_once > MOST_AT_ONCE * 9 / 10 && seen.most_of_network > MOST_OF_NETWORK * 9 / 10, "{seen:?}");
 }

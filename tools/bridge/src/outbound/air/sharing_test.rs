@@ -31,10 +31,10 @@ fn a_network_that_is_held_loses_nothing_to_others() {
 /// The example of `docs/PROMISES.md`: whatever two networks of long units lose, no turn takes longer than is said there.
 #[test]
 fn no_turn_takes_longer_than_the_example_of_the_promise_says() {
-    const PAGE: &str = include_str!("../../../../../docs/PROMISES.md");
+    let page = include_str!("../../../../../docs/PROMISES.md").split_whitespace().collect::<Vec<_>>().join(" ");
     let limit = MOST_TRYING_AT_ONCE;
     let said = format!("{0} + {0} = {1} ms", limit.as_millis(), 2 * limit.as_millis());
-    assert!(PAGE.contains(&said), "{said}");
+    assert!(page.contains(&said), "{said}");
     for rate in BAND {
         let one = Size { octets: LONG + 24, rate, is_acknowledged: true }.cost();
         assert!(one.tries(2) < limit);
