@@ -1,10 +1,10 @@
 //! The rule by which the networks of a radio share its air: start-time fair queueing (Goyal, Vin and Cheng, 1996),
 //! written as debts.
 //!
-//! It promises, over any list of events in which turns keep their limits, that while a network waits no other gets more
-//! of the air that is told than its share and a turn of each ([`bounded`]). Before a turn of it another gets no more than
-//! a turn, and its share beside a turn of it ([`soon`]). The type to know first is [`Lane`], what the rule keeps of a
-//! network, with [`choose`], [`serve_chosen`] and [`told`].
+//! It promises, over any list of events in which turns keep their limits, that while a network waits no other gets
+//! more of the air that is told than its share and a turn of each ([`bounded`]). Before a turn of it another gets no
+//! more than a turn, and its share beside a turn of it ([`soon`]). The type to know first is [`Lane`], what the rule
+//! keeps of a network, with [`choose`], [`serve_chosen`] and [`told`].
 //!
 //! How much air a frame takes is left to the callers: here are no clock, no octets and no 802.11.
 //!

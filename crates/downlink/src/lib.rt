@@ -6,7 +6,8 @@
 //! frames go first in the order in which they came. Each time that one comes it goes twice at most. To a station that
 //! dozes no more units go for the first time than it polls. The type to know first is [`RadioQueue`]. It has for each
 //! network a [`NetworkQueue`], whose receivers take turns, each a [`ReceiverQueue`]. A caller may choose the receiver
-//! instead, by [`RadioQueue::next_of`], and pause a network. It keeps the octets, and knows each [`Frame`] by its ticket.
+//! instead, by [`RadioQueue::next_of`], and pause a network. The caller keeps the octets. It names each [`Frame`] by a
+//! ticket.
 //!
 //! Times are numbers that callers bring, and so is the air that a frame took. Rates and the radio are left to them.
 //!

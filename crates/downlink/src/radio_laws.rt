@@ -10,14 +10,14 @@ ghost use Rattle.downlink.specs.RadioReceivers.{KeepsOrder, LetsSleep, HoldsFew}
 use air_share::{bounded, soon};
 
 /// Isolation: what waits of a network, and what is answered of it, is as if it were alone with its own calls. These are
-/// those that name a receiver of it, or pause it or end that, and a turn for each time that the rule of shares chose it.
-/// A call that names the receiver of a turn is its own only where the rule chose the network.
+/// those that name a receiver of it, or pause it or end that, and a turn for each time that the rule of shares chose
+/// it. A call that names the receiver of a turn is its own only where the rule chose the network.
 pub fn alone()
     ensures { IsAlone }
 {}
 
-/// Others reach a network by its own calls alone: with the same ones, at the same place, it is and is answered the same,
-/// whatever other networks there are, and whatever they do.
+/// Others reach a network by its own calls alone: with the same ones, at the same place, it is and is answered the
+/// same, whatever other networks there are, and whatever they do.
 pub fn unmoved_by_others()
     ensures { IsUnmoved }
 {}

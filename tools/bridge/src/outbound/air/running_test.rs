@@ -2,10 +2,10 @@
 //! they took. So the radio has no more at once than it may have, and stations and networks are held (rules 8 and 10 to
 //! 12 of `air`).
 //!
-//! The queues have no rules for that. The bridge says when a frame goes and of which receiver, and when one is late; the
-//! others are told so. Compared is whose turn it is, which frame goes, what becomes of it, and what is charged. Where
-//! none goes, nothing waits, the radio has as much as it may have, or it has frames of the network whose turn it is, and
-//! all that waits of that is held. The radio tells of each frame, so no network is passed over.
+//! The queues have no rules for that. The bridge says when a frame goes and of which receiver, and when one is late;
+//! the others are told so. Compared is whose turn it is, which frame goes, what becomes of it, and what is charged.
+//! Where none goes, nothing waits, the radio has as much as it may have, or it has frames of the network whose turn it
+//! is, and all that waits of that is held. The radio tells of each frame, so no network is passed over.
 use super::*;
 
 const MOST_AT_ONCE: Duration = Duration::from_millis(8);
