@@ -227,8 +227,8 @@ impl Transmitter {
 
     /// Whether a unit waits until its station acknowledges the first one after a silence.
     fn awaits_first_unit(&self, place: Place, frame: &OutboundFrame, outlook: Outlook) -> bool {
-        let mut with_radio = self.in_flight.of(place, frame.address);
-        outlook.is_silent && frame.kind.is_unit() && with_radio.any(|(_, sent)| sent.kind.is_unit())
+        let is_unit = |sent: &Sent| sent.kind.is_unit();
+        outlook.is_silent && frame.kind.is_unit() && self.in_flight.has_such(place, frame.address, is_unit)
     }
 
     /// The frame that is next goes, if the library lets it: its rate and tries are chosen, and its packet is made. One

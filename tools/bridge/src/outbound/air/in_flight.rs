@@ -268,6 +268,12 @@ impl<W: Sending> InFlight<W> {
         self.frames.iter().filter(move |given| is_meant(&given.name)).map(|given| (given.name, &given.what))
     }
 
+    /// Whether the radio has such a frame for this receiver, as far as one knows.
+    pub fn has_such(&self, place: Place, receiver: Address, is_such: impl Fn(&W) -> bool) -> bool {
+        let mut out = self.frames.iter().filter(|given| given.state == State::Out);
+        out.any(|given| given.name.receiver == receiver && given.name.place == place && is_such(&given.what))
+    }
+
     /// Whether the oldest frame that the radio has is for this receiver, and is out for more than twice its reckoned
     /// time, what overtook it counted. The younger ones may wait for it alone.
     pub fn is_overdue(&self, place: Place, receiver: Address, now: Instant) -> bool {
