@@ -15,7 +15,7 @@ COPIED = (".ci", "share", "tools/lib", "tools/guest/stations.py", "tools/guest/R
           "HANDLES")
 # Parts of the gate that look at the machine, at this repository and its tools, or run long: there they say that all is
 # well.
-QUIET = (".ci/packages", ".ci/documents", ".ci/first-version", ".ci/lint", ".ci/refused", "wrong/check",
+QUIET = (".ci/packages", ".ci/documents", ".ci/first-version", ".ci/lint", ".ci/refused", "wrong/check", "wrong/try",
          "tools/guest/air/build", "tools/bridge/build", "tools/dev/test", "tests/help", "tests/words", "tests/refuse",
          "tests/devices", "tests/live", "tests/octets", "bench/fuzz", "bench/stress")
 # The toolchain stands in the small repository's own folder. Each of its commands fails where a file `fails` is there, and

@@ -129,7 +129,9 @@ class OfEachPart(PartsTest):
         look = '[ "$(stat -c %a "$TMPDIR" "$TMPDIR/.." | tr -d "\\n")" = 1777755 ] || exit; ' \
                'ls -A "$TMPDIR" | grep . || { : >"$TMPDIR/mine"; echo "$TMPDIR" >HERE/NAME; readlink /proc/self/ns/net ' \
                ">>HERE/NAME; " + WELL + "; }"
-        self.run_parts(*(self.part(name, look.replace("NAME", name)) for name in ("one", "two")))
+        # the kernel gives the number of a network that is gone to the next one, so each waits for the other
+        self.run_parts(*(self.part(name, ": >HERE/" + name + ".begun; " + AWAIT.format(f"HERE/{other}.begun") +
+                                   look.replace("NAME", name)) for name, other in (("one", "two"), ("two", "one"))))
         self.assertEqual((self.parts.passed(), self.parts.failed()), (4, 0))
         (one, first), (two, second) = (self.read(name).splitlines() for name in ("one", "two"))
         self.assertNotEqual(one, two)
