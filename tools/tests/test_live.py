@@ -1246,7 +1246,8 @@ class Running(WithFiles):
         self.run_bridge(later)
         self.assertRegex(self.read("words"),
                          "^--name live --phy phy0 --channel 6 --monitor mon0 --interval 100 --by active-monitors --idle 300 --socket [0-9]+ "
-                         f"--record [0-9]+:{self.path('a.trace')} --bounds [0-9]+ --network 02:00:00:00:01:01/6c6162/82840b16/8/16/8/1/wire1 apctl {self.config}\n$")
+                         f"--record [0-9]+:{self.path('a.trace')} --bounds [0-9]+ --network "
+                         f"02:00:00:00:01:01/6c6162/82840b16/8/16/8/1/true/wire1 apctl {self.config}\n$")
         self.assertEqual(self.read("asked"), "state\nopen\ntables\n")
         self.assertRegex(self.told.getvalue(), "^live: 1 networks are on channel 6, by active monitor interfaces; Ctrl-C ends it, .*\nlive: the program "
                                                "ended with status 0; taking down what was set up\n$")
