@@ -1,7 +1,9 @@
-"""What the scripts beside it share: a run of a command, and a floor by stock tools for the same octets."""
+"""What the scripts beside it share: a run of a command, its peak of memory, and a floor by stock tools for the same
+octets."""
 import os
 import subprocess
 import sys
+import tempfile
 import time
 from concurrent.futures import ProcessPoolExecutor
 from multiprocessing import get_context
@@ -38,6 +40,14 @@ def run(words, stdin, stdout):
     if child.returncode != 0:
         sys.exit(f"{words[0]} ended with status {child.returncode}")
     return Run(seconds, usage.ru_utime + usage.ru_stime, usage.ru_maxrss)
+
+
+def peak_of(words, stdin):
+    """The peak memory of a command over a file, in KiB, as GNU time counts it."""
+    with tempfile.NamedTemporaryFile("r") as told, open(stdin, "rb") as source:
+        subprocess.run(["/usr/bin/time", "-f", "%M", "-o", told.name, *words], stdin=source, stdout=subprocess.DEVNULL,
+                       check=True)
+        return int(told.read())
 
 
 def write_octets(work):
