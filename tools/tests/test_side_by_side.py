@@ -139,6 +139,11 @@ class OfEachPart(PartsTest):
         if os.geteuid() == 0:
             self.assertEqual(len({first, second, os.readlink("/proc/self/ns/net")}), 3)
 
+    def test_a_writer_whose_reader_leaves_ends(self):
+        """By the signal of a broken pipe, which isn't ignored there."""
+        self.run_parts(self.part("one", "(yes; echo $? >HERE/status) | head -1 >HERE/line; " + WELL))
+        self.assertEqual(self.read("status"), "141\n")
+
     def test_its_time_is_told(self):
         """On the clock, and of the processors."""
         self.run_parts(self.part("busy", "n=0; while [ $n -lt 100000 ]; do n=$((n + 1)); done; sleep 1; " + WELL))
