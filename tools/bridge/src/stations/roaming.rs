@@ -19,9 +19,10 @@
 //!    otherwise.
 //! 7. Of a station that moved within the last ten seconds and turns out to be here it is told, once, that the wire
 //!    shows it elsewhere.
-//! 8. Of each network at most two stations are asked in 100 ms, and of at most 256 is it awaited whether they are here.
-//!    A second update within ten seconds waits until its station may be asked; any other hint beyond that counts for
-//!    nothing, unless 3 says otherwise. If the radio tells of no acknowledgement, nobody is asked.
+//! 8. Of a network at most two stations are asked in 100 ms for each network that there is, so that all together ask as
+//!    many as one alone. Of at most 256 of its stations is it awaited whether they are here. A second update within
+//!    ten seconds waits until its station may be asked; any other hint beyond that counts for nothing, unless 3 says
+//!    otherwise. If the radio tells of no acknowledgement, nobody is asked.
 //! 9. What the wire of one network brings changes nothing of another one's stations.
 //!
 //! Nothing is sent or timed here.
@@ -46,7 +47,7 @@ const TO_ANSWER_TO_UPDATE: Duration = Duration::from_millis(500);
 const TO_ANSWER_OF_DOZING: Duration = Duration::from_secs(5);
 /// Unasked a station moves at most once in this time.
 const BETWEEN_MOVES: Duration = Duration::from_secs(10);
-/// How many stations of a network are asked in how long.
+/// How many stations of a network are asked in how long, for each network that there is.
 const MOST_ASKED: u32 = 2;
 const ASKED_IN: Duration = Duration::from_millis(100);
 /// Of how many stations of a network it is awaited at most whether they are here.
@@ -116,7 +117,8 @@ pub(super) struct Roaming {
 impl Roaming {
     /// Nothing was put on the wires of so many networks.
     pub(super) fn new(networks: usize) -> Roaming {
-        Roaming { networks: (0..networks).map(OfNetwork::new).collect() }
+        let asked_in = ASKED_IN * networks as u32;
+        Roaming { networks: (0..networks).map(|place| OfNetwork::new(place, asked_in)).collect() }
     }
 
     /// A frame goes to the wire of the network of this place.
@@ -156,13 +158,16 @@ struct OfNetwork {
     awaited: BTreeMap<Address, Awaited>,
     look_due: Instant,
     moved: VecDeque<Moved>,
+    /// In how long it may ask `MOST_ASKED` stations, since when that time runs, and how many it asked in it.
+    asked_in: Duration,
     asked: (Instant, u32),
 }
 
 impl OfNetwork {
-    fn new(place: usize) -> OfNetwork {
+    fn new(place: usize, asked_in: Duration) -> OfNetwork {
         OfNetwork {
             place,
+            asked_in,
             echoes: Echoes::default(),
             awaited: BTreeMap::new(),
             look_due: Instant::NEVER,
@@ -171,14 +176,7 @@ impl OfNetwork {
         }
     }
 
-    fn hint(
-        &mut self,
-        member: Member,
-        station: &Station,
-        frame: &[u8],
-        answers: bool,
-        now: Instant,
-    ) -> Option<Step> {
+    fn hint(&mut self, member: Member, station: &Station, frame: &[u8], answers: bool, now: Instant) -> Option<Step> {
         let is_update = is_update(frame, member.1);
         let is_settled = is_update && now >= station.since + TO_SETTLE;
         let moves = is_settled && self.moved_lately(member, now).is_none();
@@ -199,7 +197,7 @@ impl OfNetwork {
         let step = self.asks(member, station, (to_answer, Sign::Anything), now);
         if step.is_none() && is_settled {
             let sign = Sign::AnythingOnceAsked;
-            self.awaits(member, Awaited { since: now, until: now + ASKED_IN, sign });
+            self.awaits(member, Awaited { since: now, until: self.asks_again(), sign });
         }
         step
     }
@@ -244,7 +242,7 @@ impl OfNetwork {
             Sign::AnythingOnceAsked => {
                 let step = self.asks(member, station, (TO_ANSWER_TO_UPDATE, Sign::Anything), now);
                 if step.is_none() {
-                    self.awaits(member, Awaited { until: now + ASKED_IN, ..awaited });
+                    self.awaits(member, Awaited { until: self.asks_again(), ..awaited });
                 }
                 step
             }
@@ -290,6 +288,11 @@ impl OfNetwork {
         has_room
     }
 
+    /// When a network that has asked as many as it may asks again.
+    fn asks_again(&self) -> Instant {
+        self.asked.0 + self.asked_in
+    }
+
     /// A station is asked if it may be asked now, and shows within a time that it is here, or doesn't.
     fn asks(
         &mut self,
@@ -302,7 +305,7 @@ impl OfNetwork {
             true => (TO_ANSWER_OF_DOZING, Step::AskByUnit(member)),
             false => (to_answer, Step::Ask(member)),
         };
-        if now >= self.asked.0 + ASKED_IN {
+        if now >= self.asks_again() {
             self.asked = (now, 0);
         }
         let awaited = Awaited { since: now, until: now + to_answer, sign };

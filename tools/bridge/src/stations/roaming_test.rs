@@ -284,7 +284,7 @@ fn many_that_roam_again_at_once_are_asked_one_after_the_other() {
     let asked = members.iter().filter_map(|member| site.hint(*member, &update(member.1), at(begin))).count();
     assert_eq!(asked, 2);
     let mut steps = Vec::new();
-    for milliseconds in (0..=1000).step_by(20) {
+    for milliseconds in (0..=1200).step_by(20) {
         steps.extend(site.look(at(begin + Duration::from_millis(milliseconds))));
     }
     for member in &members {
@@ -306,7 +306,7 @@ fn one_that_waits_to_be_asked_and_is_heard_stays() {
         assert_eq!(site.hint(member, &update(member.1), at(now)), wanted);
     }
     site.is_heard(at(now + MILLISECOND));
-    assert_eq!(site.look(at(now + ASKED_IN)), [Step::Stay(MEMBER)]);
+    assert_eq!(site.look(at(now + 2 * ASKED_IN)), [Step::Stay(MEMBER)]);
 }
 
 #[test]
@@ -327,7 +327,39 @@ fn few_are_asked_at_a_time() {
     let from = |member: &Member| [STRANGER.octets(), member.1.octets(), &[8, 0, 1][..]].concat();
     let mut asked = |time| members.iter().filter_map(|member| site.hint(*member, &from(member), at(time))).count();
     let begin = 10 * SECOND;
-    assert_eq!([begin, begin + ASKED_IN - MILLISECOND, begin + ASKED_IN].map(&mut asked), [2, 0, 2]);
+    assert_eq!([begin, begin + 2 * ASKED_IN - MILLISECOND, begin + 2 * ASKED_IN].map(&mut asked), [2, 0, 2]);
+}
+
+/// How many stations each of sixteen networks asks in 3.2 seconds, if the wires of these bring frames of all of theirs.
+fn asked_of_sixteen(claimed: std::ops::Range<usize>) -> Vec<usize> {
+    let bssids = (0..16).map(|place| Address::of([2, 0, 0, 0, 2, place])).collect();
+    let (mut table, mut roaming) = (StationTable::new(bssids), Roaming::new(16));
+    let members: Vec<Member> = claimed.flat_map(|place| (0..32).map(move |number| (place, made_up(number)))).collect();
+    members.iter().zip(1..).for_each(|(member, aid)| table.associate(*member, aid, at(JOINED)));
+    let mut asked = vec![0; 16];
+    for tenth in 0..320u32 {
+        let now = at(10 * SECOND + MILLISECOND * 10 * tenth);
+        roaming.look(&table, now);
+        for member in &members {
+            let frame = [STRANGER.octets(), member.1.octets(), &[8, 0, 1][..]].concat();
+            let step = roaming.hint(*member, table.station(member).unwrap(), &frame, true, now);
+            asked[member.0] += usize::from(matches!(step, Some(Step::Ask(_))));
+        }
+    }
+    asked
+}
+
+/// However many wires bring frames of stations, no more questions are on the air than those of one network alone, and
+/// those of a network hang on no other one.
+#[test]
+fn all_networks_together_ask_as_many_as_one() {
+    let of_one_alone = MOST_ASKED as usize * 32;
+    let all = asked_of_sixteen(0..16);
+    assert_eq!(all.iter().sum::<usize>(), of_one_alone);
+    for place in [0, 7, 15] {
+        let alone = asked_of_sixteen(place..place + 1);
+        assert_eq!((alone[place], alone.iter().sum::<usize>()), (all[place], all[place]), "{place}");
+    }
 }
 
 #[test]
