@@ -34,11 +34,11 @@ pub struct Falling {
 }
 
 impl Falling {
-    /// It falls asleep now. The radio has these units for it, and these waited.
-    pub fn new(with_radio: impl Iterator<Item = (Option<u16>, Octets)>, waiting: Vec<Octets>, now: Instant) -> Falling {
+    /// It falls asleep now. The radio has these units for it.
+    pub fn new(with_radio: impl Iterator<Item = (Option<u16>, Octets)>, now: Instant) -> Falling {
         let with_radio = with_radio.map(|(number, octets)| WithRadio { number, octets, outcome: None }).collect();
         let (until, latest) = (now + TO_OUTCOME, now + TO_ALL_OUTCOMES);
-        Falling { is_answered: false, with_radio, until, latest, waiting }
+        Falling { is_answered: false, with_radio, until, latest, waiting: Vec::new() }
     }
 
     /// Whether it is known what goes back.
@@ -66,7 +66,7 @@ impl Falling {
         true
     }
 
-    /// A unit came, and goes back behind the others.
+    /// A unit waited or came, and goes back behind the others.
     pub fn push(&mut self, octets: Octets) {
         self.waiting.push(octets);
     }

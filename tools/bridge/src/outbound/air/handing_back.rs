@@ -32,7 +32,8 @@ impl Transmitter {
         let is_told = self.links.is_told();
         let units = self.in_flight.of(place, station).filter(|(_, sent)| is_told && sent.kind.is_unit());
         let with_radio = units.map(|(name, sent)| (name.number, Rc::clone(&sent.octets)));
-        self.sleepers.falls_asleep((place, station), mark, with_radio, waiting, now);
+        let lost = self.sleepers.falls_asleep((place, station), mark, with_radio, waiting, now);
+        self.count_unsent(place, Unsent::Full, lost as u64);
         self.release(place, station);
     }
 
@@ -115,10 +116,12 @@ impl Transmitter {
     /// Answers whether its station dozes.
     pub(super) fn hand_back_late(&mut self, place: Place, station: Address, octets: &Octets, now: Instant) -> bool {
         let late = self.sleepers.goes_back_late(place, station, Rc::clone(octets), now);
-        if late == (Late::GoesBack { is_behind_others: true }) {
-            self.queue.accounts[place].handed_back.out_of_order += 1;
+        match late {
+            Late::GoesBack { is_behind_others: true } => self.queue.accounts[place].handed_back.out_of_order += 1,
+            Late::OverQuota => self.count_over_quota(place),
+            Late::NoRoom => self.count_unsent(place, Unsent::Full, 1),
+            Late::GoesBack { is_behind_others: false } | Late::Stays => {}
         }
-        self.count_over_quota(place);
         late != Late::Stays
     }
 

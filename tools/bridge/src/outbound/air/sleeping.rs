@@ -17,7 +17,8 @@
 //! 5. A unit that nobody acknowledged goes back later too, as long as its station dozes, and may come out of order then.
 //! 6. A unit that comes for a station that dozes is the answer to a poll. One that comes for a station that woke was
 //!    kept, until the mark is answered. One that comes for a station that left is dropped, until the mark is answered.
-//! 7. Of a network units of 6 MB go back at a time, as many as may wait to be sent. What comes beyond is lost.
+//! 7. Of a network units of 6 MB go back at a time, as many as may wait to be sent. What the radio had as their
+//!    stations fell asleep goes back beside them. What is beyond is lost, whether it waited, comes, or goes back late.
 //! 8. The program is taken to keep for all stations of a network together no more units than the network keeps: a unit
 //!    that comes beyond that isn't counted, since the program loses it.
 //! 9. Once a station has left, none of its units goes back. Those that were about to are dropped.
@@ -74,8 +75,10 @@ pub enum Late {
     Stays,
     /// It goes back, maybe behind others of its station that it had been before.
     GoesBack { is_behind_others: bool },
-    /// It is lost, since too many went back.
-    Lost,
+    /// It is lost, since too many of its station went back in a second.
+    OverQuota,
+    /// It is lost, since too many of its network go back.
+    NoRoom,
 }
 
 /// What is known of a station that isn't merely awake, or wasn't a second ago.
@@ -123,6 +126,11 @@ struct OfNetwork {
     many: usize,
 }
 
+/// Whether a unit goes back too, where those that do have so many octets.
+fn has_room(octets: usize, unit: &Octets) -> bool {
+    octets + unit.len() <= MOST_OCTETS_BACK
+}
+
 /// The stations of all networks that doze, woke or left, and what is to be done for them.
 #[derive(Debug)]
 pub struct Sleepers {
@@ -162,7 +170,8 @@ impl Sleepers {
         self.networks[place].sleepers.get(&station).map_or(Mode::Awake, |sleeper| sleeper.mode)
     }
 
-    /// A station falls asleep. The radio has these units for it, and these waited.
+    /// A station falls asleep. The radio has these units for it, and these waited. Answers how many of the latter are
+    /// lost, since they have no room.
     pub fn falls_asleep(
         &mut self,
         (place, station): (Place, Address),
@@ -170,12 +179,13 @@ impl Sleepers {
         with_radio: impl Iterator<Item = (Option<u16>, Octets)>,
         waiting: Vec<Octets>,
         now: Instant,
-    ) {
-        let falling = Falling::new(with_radio, waiting, now);
+    ) -> usize {
+        let falling = Falling::new(with_radio, now);
         let octets = falling.octets();
         self.change(place, station, Mode::FallsAsleep, Some(mark), now).falling = Some(falling);
         self.networks[place].octets += octets;
         self.falling.push((place, station));
+        waiting.into_iter().filter(|unit| !self.goes_back(place, station, Rc::clone(unit))).count()
     }
 
     /// A station dozes since before this bridge began.
@@ -254,7 +264,7 @@ impl Sleepers {
 
     /// A unit came for a station that falls asleep. Answers whether it has room.
     pub fn goes_back(&mut self, place: Place, station: Address, octets: Octets) -> bool {
-        let has_room = self.networks[place].octets + octets.len() <= MOST_OCTETS_BACK;
+        let has_room = has_room(self.networks[place].octets, &octets);
         let falling = self.falling_mut(place, station).filter(|_| has_room);
         if let Some(falling) = falling {
             let length = octets.len();
@@ -271,9 +281,12 @@ impl Sleepers {
             Some(sleeper) => sleeper,
             None => return Late::Stays,
         };
+        if !has_room(*all, &octets) {
+            return Late::NoRoom;
+        }
         if !sleeper.pace.takes(*quota, now) {
             self.over_quota[place] += 1;
-            return Late::Lost;
+            return Late::OverQuota;
         }
         let is_behind_others = sleeper.kept > 0;
         sleeper.keeps_one(kept, *quota);

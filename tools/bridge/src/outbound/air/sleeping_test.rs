@@ -101,7 +101,7 @@ impl Model {
             Late::GoesBack { is_behind_others }
         } else {
             self.over_quota[place] += 1;
-            Late::Lost
+            Late::OverQuota
         }
     }
 
@@ -372,6 +372,31 @@ fn what_goes_back_of_a_network_is_bounded() {
         assert_eq!(back, if leaves { 0 } else { most - 1 });
         assert_eq!(sleepers.networks[0].octets, 0);
     }
+}
+
+/// Stations that doze and wake in turns, for each of which as much waits anew as may: while nothing of it goes to the
+/// program, no more goes back than may wait. So it is with what goes back late. What is beyond is lost and counted.
+#[test]
+fn what_waited_for_many_that_fall_asleep_goes_back_within_the_bound_too() {
+    let mut sleepers = Sleepers::new(&[Network { quota: 100_000, ..network(OURS) }]);
+    let now = Instant::START + 10 * SECOND;
+    let (most, unit) = (MOST_OCTETS_BACK / 1000, Rc::new(vec![0; 1000]));
+    let mut fitted = 0;
+    for (station, mark) in (0..10).map(made_up).zip(0..) {
+        let with_radio = [(Some(1), Rc::clone(&unit))].into_iter();
+        let lost = sleepers.falls_asleep((0, station), mark, with_radio, vec![Rc::clone(&unit); 2000], now);
+        assert!(sleepers.reported((0, station), Some(1), true, now) && sleepers.answered(mark, now));
+        fitted += 2000 - lost;
+        assert!(sleepers.networks[0].octets <= MOST_OCTETS_BACK);
+    }
+    // The last unit that the radio had takes the place of one of these, until it is known that it went.
+    assert!(fitted == most || fitted == most - 1, "{fitted} of {most}");
+    sleepers.next();
+    let late = std::iter::repeat_with(|| sleepers.goes_back_late(0, made_up(9), Rc::clone(&unit), now));
+    let fitted_late = late.take_while(|late| *late != Late::NoRoom).count();
+    assert_eq!((fitted + fitted_late, sleepers.take_over_quota(0)), (most + 1, 0));
+    let back = std::iter::from_fn(|| sleepers.next()).filter(|step| matches!(step, Step::HandBack { .. })).count();
+    assert_eq!((back, sleepers.networks[0].octets), (most, 0));
 }
 
 /// For all stations of a network together the program is taken to keep no more units than the network keeps, and what
