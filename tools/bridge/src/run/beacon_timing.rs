@@ -126,6 +126,11 @@ impl BeaconTiming {
         looks
     }
 
+    /// Stations are looked at again at once, if no beacon is due.
+    pub(super) fn looks_again(&mut self, time: Instant) {
+        self.look_due = time;
+    }
+
     /// From when on silent stations may be looked at.
     fn looks_from(&self) -> Instant {
         match self.awaited {

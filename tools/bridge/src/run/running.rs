@@ -180,6 +180,9 @@ impl<P: Port> Running<P> {
     pub(super) fn look(&mut self, batch: &mut Batch, time: Instant) -> Result<(), Fault> {
         if self.timing.looks(time) {
             let errands = self.stations.look(time);
+            if self.stations.is_behind() {
+                self.timing.looks_again(time);
+            }
             self.run(errands, time);
         }
         if self.stations.moves_due() <= time {

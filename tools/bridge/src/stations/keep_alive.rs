@@ -9,7 +9,9 @@
 //! If a network knows nearly as many stations as it may, those that authenticated and didn't associate are given up
 //! soon and unasked, so that made-up addresses don't keep newcomers out: who is there associates at once, or else
 //! authenticates again. A queue has one entry for each station that is known, and none for those that left.
-use std::collections::BTreeSet;
+//!
+//! A time at which stations are looked at may have many pieces, each of few stations: beacons and frames go between.
+use std::collections::{BTreeSet, VecDeque};
 
 use crate::formats::frames::Address;
 use crate::os::clock::{Duration, Instant, SECOND};
@@ -40,6 +42,8 @@ const NEARLY_FULL: usize = 9;
 const TO_ASSOCIATE: Duration = Duration::from_secs(3);
 /// How large a part of a network's stations is given up at a time at most.
 const PARTS: usize = 8;
+/// With how many stations something is done at most in one piece.
+const MOST_IN_A_PIECE: usize = 250;
 
 /// What is to be done of a station.
 #[derive(Debug, Clone, Copy, PartialEq, Eq)]
@@ -111,6 +115,33 @@ impl Pace {
     }
 }
 
+/// With how many stations something may still be done in one piece, and what is to be done.
+#[derive(Debug)]
+struct Piece {
+    room: usize,
+    steps: Vec<(usize, Step)>,
+}
+
+impl Piece {
+    fn has_room(&self) -> bool {
+        self.room > 0
+    }
+
+    /// Whether something may be done with one more, which is counted.
+    fn takes(&mut self) -> bool {
+        let takes = self.has_room();
+        self.room -= usize::from(takes);
+        takes
+    }
+
+    /// The next one of these, if there is one and something may be done with it.
+    fn take_of<T>(&mut self, waiting: &mut VecDeque<T>) -> Option<T> {
+        let next = self.has_room().then(|| waiting.pop_front()).flatten();
+        self.room -= usize::from(next.is_some());
+        next
+    }
+}
+
 /// The stations of all networks.
 #[derive(Debug)]
 pub(super) struct KeepAlive {
@@ -118,6 +149,11 @@ pub(super) struct KeepAlive {
     most: Option<Duration>,
     networks: Vec<Watched>,
     pace: Pace,
+    /// The stations that left and were entered, with which nothing was done yet.
+    left: VecDeque<(Member, Instant)>,
+    entered: VecDeque<Member>,
+    /// The networks that are still to be looked at this time, and how many stations of each may be given up.
+    places: VecDeque<(usize, usize)>,
 }
 
 impl KeepAlive {
@@ -125,38 +161,58 @@ impl KeepAlive {
     pub fn new(most: Option<Duration>, max_known: impl IntoIterator<Item = usize>) -> KeepAlive {
         let watched = |max_known| Watched { last_taken: 0, max_known, nearly_full: None, queues: Default::default() };
         let networks = max_known.into_iter().map(watched).collect();
-        KeepAlive { most, networks, pace: Pace::default() }
+        let (left, entered, places) = Default::default();
+        KeepAlive { most, networks, pace: Pace::default(), left, entered, places }
     }
 
-    /// What is to be done at a time at which no beacon is due, of stations of the networks of these places.
+    /// What is to be done at a time at which no beacon is due, or in a further piece of it.
     pub fn look(&mut self, table: &mut StationTable, now: Instant) -> Vec<(usize, Step)> {
-        let mut steps = Vec::new();
-        for ((place, station), due) in table.take_left() {
+        self.left.extend(table.take_left());
+        self.entered.extend(table.take_entered());
+        if self.places.is_empty() {
+            self.places = self.in_turn();
+        }
+        let mut piece = Piece { room: MOST_IN_A_PIECE, steps: Vec::new() };
+        self.follow(table, &mut piece, now);
+        while let Some((place, most)) = piece.has_room().then(|| self.places.pop_front()).flatten() {
+            let given_up = self.give_up(table, (place, most), now, &mut piece);
+            if let Some(most) = self.most {
+                self.look_at(table, (place, Queue::Authenticated), most, now, &mut piece);
+                self.look_at(table, (place, Queue::Associated), most, now, &mut piece);
+            }
+            if !piece.has_room() {
+                self.places.push_front((place, most - given_up));
+            }
+        }
+        piece.steps
+    }
+
+    /// Whether a further piece is to be looked at.
+    pub fn is_behind(&self) -> bool {
+        !(self.left.is_empty() && self.entered.is_empty() && self.places.is_empty())
+    }
+
+    /// Takes out of the queues who left, and puts in who was entered.
+    fn follow(&mut self, table: &mut StationTable, piece: &mut Piece, now: Instant) {
+        while let Some(((place, station), due)) = piece.take_of(&mut self.left) {
             for queue in &mut self.networks[place].queues {
                 queue.remove(&(due, station));
             }
         }
-        for member in table.take_entered() {
+        while let Some(member) = piece.take_of(&mut self.entered) {
             if let Some(most) = self.most {
                 let heard = table.station(&member).map_or(now, |station| station.heard);
                 self.put(table, member, heard + AUTHENTICATED.min(most), Queue::Authenticated);
             }
         }
-        for place in self.in_turn() {
-            self.give_up(table, place, now, &mut steps);
-            if let Some(most) = self.most {
-                self.look_at(table, (place, Queue::Authenticated), most, now, &mut steps);
-                self.look_at(table, (place, Queue::Associated), most, now, &mut steps);
-            }
-        }
-        steps
     }
 
-    /// The places of the networks: first the one whose last frame to a station that may be gone went longest ago.
-    fn in_turn(&self) -> Vec<usize> {
+    /// The places of the networks, with how many stations of each may be given up. The network is first whose last
+    /// frame to a station that may be gone went longest ago.
+    fn in_turn(&self) -> VecDeque<(usize, usize)> {
         let mut places: Vec<usize> = (0..self.networks.len()).collect();
         places.sort_by_key(|place| self.networks[*place].last_taken);
-        places
+        places.into_iter().map(|place| (place, self.networks[place].max_known / PARTS + 1)).collect()
     }
 
     /// Whether a network may have one more frame go now to a station that may be gone.
@@ -166,23 +222,35 @@ impl KeepAlive {
         taken.is_some()
     }
 
-    /// Gives up who has been authenticated only for too long and was so while its network was nearly full, some at a
-    /// time. Who is given up is told so as long as that are few.
-    fn give_up(&mut self, table: &StationTable, place: usize, now: Instant, steps: &mut Vec<(usize, Step)>) {
+    /// Gives up who has been authenticated only for too long and was so while its network was nearly full. Gives up so
+    /// many at most, and answers how many. Who is given up is told so as long as that are few.
+    fn give_up(
+        &mut self,
+        table: &StationTable,
+        (place, most): (usize, usize),
+        now: Instant,
+        piece: &mut Piece,
+    ) -> usize {
         let network = &mut self.networks[place];
         if table.known(place) * 10 >= network.max_known * NEARLY_FULL {
             network.nearly_full = Some(now);
         }
         let nearly_full = match network.nearly_full {
             Some(time) => time,
-            None => return,
+            None => return 0,
         };
         let found = table.unassociated(place);
         let found = found.take_while(|(since, _)| *since <= nearly_full && *since + TO_ASSOCIATE <= now);
-        for (since, station) in found.take(network.max_known / PARTS + 1) {
+        let mut given_up = 0;
+        for (since, station) in found.take(most) {
+            if !piece.takes() {
+                break;
+            }
             let why = Forgotten::Unassociated(now.since(since));
-            steps.push((place, Step::Forget { station, why, tells: self.takes(place, now) }));
+            piece.steps.push((place, Step::Forget { station, why, tells: self.takes(place, now) }));
+            given_up += 1;
         }
+        given_up
     }
 
     /// Looks at the stations of a queue that are due.
@@ -192,11 +260,11 @@ impl KeepAlive {
         (place, queue): (usize, Queue),
         most: Duration,
         now: Instant,
-        steps: &mut Vec<(usize, Step)>,
+        piece: &mut Piece,
     ) {
         for _ in 0..MOST_LOOKED_AT {
             let first = self.networks[place].queues[queue as usize].iter().next().copied();
-            let (due, address) = match first.filter(|(due, _)| *due <= now) {
+            let (due, address) = match first.filter(|(due, _)| *due <= now && piece.takes()) {
                 Some(first) => first,
                 None => return,
             };
@@ -209,7 +277,7 @@ impl KeepAlive {
             self.networks[place].queues[queue as usize].remove(&(due, address));
             match found {
                 Some(Found::Again { due, times, step }) => {
-                    steps.extend(step.map(|step| (place, step)));
+                    piece.steps.extend(step.map(|step| (place, step)));
                     if let Some(asked) = table.asked(&member) {
                         asked.times = times;
                     }

@@ -19,12 +19,28 @@ fn doze(table: &mut StationTable) {
     table.fed(&mode_of_station(OURS, STATION, true), Instant::START);
 }
 
+/// Looks at stations in all pieces of a time, and does what is to be done in each; answers how many pieces those were.
+fn look(
+    table: &mut StationTable,
+    keep_alive: &mut KeepAlive,
+    now: Instant,
+    mut does: impl FnMut(&mut StationTable, usize, Step),
+) -> usize {
+    let mut pieces = 0;
+    while pieces == 0 || keep_alive.is_behind() {
+        let steps = keep_alive.look(table, now);
+        assert!(steps.len() <= MOST_IN_A_PIECE);
+        steps.into_iter().for_each(|(place, step)| does(table, place, step));
+        pieces += 1;
+    }
+    pieces
+}
+
 /// What is done each tenth of a second, with the tenth in which it is.
 fn steps(table: &mut StationTable, keep_alive: &mut KeepAlive, tenths: std::ops::Range<u32>) -> Vec<(u32, Step)> {
     let mut found = Vec::new();
     for tenth in tenths {
-        let steps = keep_alive.look(table, at(tenth * SECOND / 10));
-        found.extend(steps.into_iter().map(|(_, step)| (tenth, step)));
+        look(table, keep_alive, at(tenth * SECOND / 10), |_, _, step| found.push((tenth, step)));
     }
     found
 }
@@ -121,16 +137,14 @@ fn what_is_asked_in_a_second_is_bounded() {
     (0..1000).for_each(|number| enter(&mut table, made_up(number), Instant::START));
     let (mut asked, mut forgotten) = (0, 0);
     for tenth in 0..1200 {
-        let before = asked;
-        for (_, step) in keep_alive.look(&mut table, at(tenth * SECOND / 10)) {
-            match step {
-                Step::Ask(_) | Step::AskByUnit(_) => asked += 1,
-                Step::Forget { station, .. } => {
-                    forgotten += 1;
-                    table.fed(&departure(OURS, station), at(tenth * SECOND / 10));
-                }
+        let (before, now) = (asked, at(tenth * SECOND / 10));
+        look(&mut table, &mut keep_alive, now, |table, _, step| match step {
+            Step::Ask(_) | Step::AskByUnit(_) => asked += 1,
+            Step::Forget { station, .. } => {
+                forgotten += 1;
+                table.fed(&departure(OURS, station), now);
             }
-        }
+        });
         assert!(asked <= before + MOST_AT_A_TIME, "{tenth}");
     }
     assert!(asked > 990 && forgotten > 960, "{asked} {forgotten}");
@@ -155,16 +169,14 @@ fn silent_stations_of_one_network_keep_those_of_another_from_no_question() {
             if tenth > 2900 && max_known == 2000 {
                 (0..1900).for_each(|number| enter(&mut table, made_up(number), now - 4 * SECOND));
             }
-            for (place, step) in keep_alive.look(&mut table, now) {
-                match (place, step) {
-                    (1, Step::Ask(station) | Step::AskByUnit(station)) if tenth < 3010 => asked.push((tenth, station)),
-                    (0, Step::Forget { station, tells, .. }) => {
-                        others += u32::from(tells);
-                        table.fed(&departure(OURS, station), now);
-                    }
-                    _ => others += 1,
+            look(&mut table, &mut keep_alive, now, |table, place, step| match (place, step) {
+                (1, Step::Ask(station) | Step::AskByUnit(station)) if tenth < 3010 => asked.push((tenth, station)),
+                (0, Step::Forget { station, tells, .. }) => {
+                    others += u32::from(tells);
+                    table.fed(&departure(OURS, station), now);
                 }
-            }
+                _ => others += 1,
+            });
         }
         assert_eq!(asked, [(3000, STATION), (3000, STRANGER)], "{max_known}");
         assert!(others > 20, "{max_known}: {others}");
@@ -197,6 +209,37 @@ fn who_does_not_associate_is_given_up_within_five_seconds_where_the_network_is_n
         assert!(found[..59].iter().all(|(tenth, _)| *tenth < 505), "{found:?}");
         assert_eq!((found[59].0, told), (530, 5 * MOST_AT_A_TIME + 1));
         assert_eq!(table.known(0), 30);
+    }
+}
+
+/// Strangers fill sixteen networks. Of each as many are given up at a time as of one alone, and few of them in a piece.
+#[test]
+fn of_full_networks_few_stations_are_given_up_in_a_piece() {
+    const KNOWN: usize = 9000;
+    for networks in [1, 16] {
+        let bssids: Vec<Address> = (0..networks).map(|place| Address::of([2, 0, 0, 0, 3, place])).collect();
+        let mut table = StationTable::new(bssids.clone());
+        let mut keep_alive = KeepAlive::new(Some(MOST), bssids.iter().map(|_| KNOWN));
+        for bssid in &bssids {
+            let place = table.places.of(bssid).unwrap();
+            for number in 0..KNOWN {
+                let answer = of_network(*bssid, made_up(number), 0xb0, &[0, 0, 2, 0, 0, 0]);
+                table.answered(place, &answer, Instant::START);
+            }
+        }
+        look(&mut table, &mut keep_alive, at(SECOND), |_, _, step| panic!("{step:?}"));
+        for times in 1..=2 {
+            let (mut given_up, now) = (vec![0; bssids.len()], at(times * TO_ASSOCIATE));
+            let pieces = look(&mut table, &mut keep_alive, now, |table, place, step| match step {
+                Step::Forget { station, why, .. } => {
+                    given_up[place] += 1;
+                    table.forget((place, station), why, now);
+                }
+                other => panic!("{other:?}"),
+            });
+            assert_eq!(given_up, vec![KNOWN / PARTS + 1; bssids.len()]);
+            assert!(pieces > given_up.iter().sum::<usize>() / MOST_IN_A_PIECE);
+        }
     }
 }
 
@@ -260,7 +303,7 @@ fn entries_of_stations_that_left_do_not_pile_up() {
             enter(&mut table, made_up(number), now);
             number += 1;
         }
-        keep_alive.look(&mut table, now);
+        look(&mut table, &mut keep_alive, now, |_, _, _| {});
         (first..number).for_each(|left| table.fed(&departure(OURS, made_up(left)), now));
         assert!(entries(&keep_alive) <= 100 && table.known(0) == 0, "{} entries at {tenth}", entries(&keep_alive));
     }

@@ -120,12 +120,18 @@ impl Stations {
         errand.into_iter().collect()
     }
 
-    /// What is to be done of stations that are silent or don't associate, at a time at which no beacon is due.
+    /// What is to be done of stations that are silent or don't associate, at a time at which no beacon is due, or in a
+    /// further piece of it.
     pub fn look(&mut self, now: Instant) -> Vec<Errand> {
         let steps = self.keep_alive.look(&mut self.table, now);
         let errands = steps.into_iter().flat_map(|(place, step)| self.take_step(place, step, now)).collect();
         self.tell(now);
         errands
+    }
+
+    /// Whether `look` has a further piece to do at once.
+    pub fn is_behind(&self) -> bool {
+        self.keep_alive.is_behind()
     }
 
     /// When `look_who_moved` has something to do next, or before.
