@@ -155,6 +155,7 @@ fn record_of(kind: u8, bssid: Address, octets: &[u8]) -> Option<Answer> {
 #[cfg(test)]
 mod tests {
     use super::*;
+    use crate::apctl::program::PIECE_LEN;
     use crate::testing::samples::{OTHER, OURS};
 
     /// All answers of records, in pieces of this length.
@@ -197,6 +198,14 @@ mod tests {
         for line in ["fault L4 record x", "fault L4 record ", "fault L1 record 7", "fault L4 line 7", "end"] {
             assert_eq!(answered_mark(line), None, "{line}");
         }
+    }
+
+    /// However long the program's tables are, what is read of them in one piece has few rows.
+    #[test]
+    fn a_piece_has_few_rows_of_tables() {
+        let row = record(b'N', NOBODY, b"station 02:aa:00:00:00:01 authenticated\n");
+        let piece: Vec<u8> = row.iter().copied().cycle().take(PIECE_LEN).collect();
+        assert_eq!(read(&piece, PIECE_LEN).unwrap().len(), 1337);
     }
 
     #[test]

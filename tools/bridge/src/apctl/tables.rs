@@ -1,7 +1,7 @@
 //! The program's tables (docs/FORMATS.md, 'Lines as they come'): who asked for them, and what they say.
-use std::collections::{HashMap, VecDeque};
+use std::collections::VecDeque;
 
-use crate::formats::frames::Address;
+use crate::formats::frames::{Address, AddressMap};
 use crate::os::clock::{Duration, Instant, SECOND};
 use crate::stations::station::State;
 
@@ -40,7 +40,9 @@ pub struct Table {
     /// Its counts by name, in their order.
     pub counts: Vec<(String, u64)>,
     /// The stations that it knows, with how many units are kept for each.
-    pub stations: HashMap<Address, (State, u64)>,
+    pub stations: AddressMap<(State, u64)>,
+    /// For which of them most units are kept, and before it how many, if some are for one.
+    pub holder: Option<(u64, Address)>,
 }
 
 /// The tables that came last, and those that come.
@@ -56,10 +58,10 @@ pub struct Tables {
 }
 
 impl Table {
-    /// The station for which most units are kept, and how many.
-    pub fn holder(&self) -> Option<(Address, u64)> {
-        let holding = self.stations.iter().map(|(address, (_, kept))| (*kept, *address)).filter(|(kept, _)| *kept > 0);
-        holding.max().map(|(kept, address)| (address, kept))
+    /// It knows this station.
+    fn add(&mut self, address: Address, state: State, kept: u64) {
+        self.stations.insert(address, (state, kept));
+        self.holder = self.holder.max((kept > 0).then_some((kept, address)));
     }
 
     pub fn count(&self, name: &str) -> Option<u64> {
@@ -132,7 +134,7 @@ impl Tables {
                 let table = self.coming.last_mut().filter(|table| table.stations.len() < MOST_KNOWN);
                 if let (Some(table), Ok(address)) = (table, address.parse()) {
                     let (state, kept) = station_of(&words);
-                    table.stations.insert(address, (state, kept));
+                    table.add(address, state, kept);
                     self.row = place.map(|place| Row::Station { place, address, state });
                 }
             }
@@ -195,7 +197,7 @@ mod tests {
         assert_eq!(found[0].stations[&STATION], (State::Associated(7), 3));
         assert_eq!(found[0].stations[&STRANGER], (State::Authenticated, 0));
         assert!(found[1].stations.is_empty());
-        assert_eq!((found[0].holder(), found[1].holder()), (Some((STATION, 3)), None));
+        assert_eq!((found[0].holder, found[1].holder), (Some((3, STATION)), None));
     }
 
     /// However many stations strangers have a network know, what one line says of them is one row.

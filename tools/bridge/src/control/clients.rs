@@ -65,9 +65,9 @@ impl Question {
     }
 }
 
-/// An answer: a line with its end.
+/// An answer: a line with its end, which isn't copied, since one may have millions of octets.
 #[derive(Debug, Clone)]
-pub struct Line(Rc<str>);
+pub struct Line(Rc<String>);
 
 impl Line {
     /// Of this text. If it is too long, the answer says that.
@@ -77,7 +77,7 @@ impl Line {
             text = error(&format!("the answer would have more than {MOST_ANSWER} octets"));
         }
         text.push('\n');
-        Line(text.into())
+        Line(Rc::new(text))
     }
 }
 

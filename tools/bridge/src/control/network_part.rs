@@ -2,20 +2,20 @@
 use serde::ser::{Serialize, SerializeMap, Serializer};
 
 use crate::apctl::tables::Table;
-use crate::control::status::{object, Decimal, List, Named, Status};
+use crate::control::status::{object, Decimal, Named, Status};
 use crate::formats::frames::Address;
 use crate::network::Network;
 use crate::outbound::air::account::Account;
 use crate::outbound::air::backlog::MOST_KEPT;
 use crate::outbound::air::links::Unacknowledged;
 use crate::outbound::air::MOST_OCTETS;
-use crate::stations::station::{State, Station};
+use crate::stations::station::{State, Station, Traffic};
 use crate::stations::tally::Tally;
 
 /// How many stations of a network are listed at most.
-const MOST_STATIONS: usize = 1000;
+const MOST_LISTED: usize = 1000;
 
-/// The network of this place.
+/// The network of this place, up to its stations, which are added then.
 #[derive(Clone, Copy)]
 pub(super) struct NetworkPart<'a> {
     pub(super) status: &'a Status<'a>,
@@ -31,16 +31,23 @@ impl<'a> NetworkPart<'a> {
     fn table(&self) -> Option<&'a Table> {
         self.status.tables.last().and_then(|tables| tables.get(self.place))
     }
+
+    /// Its stations, as they are now.
+    pub(super) fn listed(&self) -> Vec<Listed> {
+        let (status, table) = (self.status, self.table());
+        let kept = |address: Address| table.and_then(|table| table.stations.get(&address)).map(|(_, kept)| *kept);
+        let stations = status.table.stations_of(self.place).take(MOST_LISTED);
+        stations.map(|(address, station)| Listed::of(status, (address, station), kept(address))).collect()
+    }
 }
 
 impl Serialize for NetworkPart<'_> {
     fn serialize<S: Serializer>(&self, to: S) -> Result<S::Ok, S::Error> {
         let (network, table, place) = (self.network(), self.table(), self.place);
         let down_since = self.status.wires_down.get(place).copied().flatten();
-        let refusals = self.status.table.refusals[place].iter();
-        let stations = self.status.table.stations_of(place);
+        let (stations, holder) = (&self.status.table, table.and_then(|table| table.holder));
+        let refusals = stations.refusals[place].iter();
         let Tally { joins, moved_in, moved_out, claims, .. } = self.status.tallies[place];
-        let associated = || stations.iter().map(|(_, station)| station).filter(|station| station.is_associated());
         object!(to,
             "bssid": network.bssid.to_string(),
             "ssid": table.map(|table| &table.ssid),
@@ -49,7 +56,7 @@ impl Serialize for NetworkPart<'_> {
             "updates": self.status.updates[place],
             "air": AirPart(*self),
             "quota": network.quota,
-            "holder": table.and_then(Table::holder).map(|(address, kept)| HolderPart { network: *self, address, kept }),
+            "holder": holder.map(|(kept, address)| HolderPart { network: *self, address, kept }),
             "counts": table.map(|table| table.counts.iter().cloned().collect::<Named>()),
             "joins": joins,
             "leaves": LeavesPart(&self.status.tallies[place]),
@@ -59,14 +66,10 @@ impl Serialize for NetworkPart<'_> {
             "refusals": refusals.map(|(status, number)| (status.to_string(), *number)).collect::<Named>(),
             "max_stations": network.max_stations,
             "max_known": network.max_known,
-            "known": stations.len(),
-            "associated": associated().count(),
-            "dozing": associated().filter(|station| station.dozes).count(),
-            "stations": List(stations.iter().take(MOST_STATIONS).map(|(address, station)| StationPart {
-                network: *self,
-                address: *address,
-                station,
-            })),
+            "known": stations.known(place),
+            "associated": stations.associated_of(place).count(),
+            "dozing": stations.associated_of(place).filter(|(_, station)| station.dozes).count(),
+            "stations": [(); 0],
         )
     }
 }
@@ -127,36 +130,53 @@ impl Serialize for AirPart<'_> {
     }
 }
 
-struct StationPart<'a> {
-    network: NetworkPart<'a>,
+/// A station, as it is listed.
+#[derive(Debug)]
+pub struct Listed {
     address: Address,
-    station: &'a Station,
+    state: State,
+    listen: u16,
+    dozes: bool,
+    /// How long ago it came into its state, and was heard.
+    since: Decimal,
+    heard: Decimal,
+    signal: Option<i8>,
+    to: Traffic,
+    from: Traffic,
+    /// How many units the program keeps for it, as far as that is known.
+    kept: Option<u64>,
 }
 
-impl Serialize for StationPart<'_> {
+impl Listed {
+    fn of(status: &Status<'_>, (address, station): (Address, &Station), kept: Option<u64>) -> Listed {
+        let Station { state, listen, dozes, signal, to, from, .. } = *station;
+        let (since, heard) = (status.ago(station.since), status.ago(station.heard));
+        Listed { address, state, listen, dozes, since, heard, signal, to, from, kept }
+    }
+}
+
+impl Serialize for Listed {
     fn serialize<S: Serializer>(&self, to: S) -> Result<S::Ok, S::Error> {
-        let (station, status) = (self.station, self.network.status);
-        let (state, aid) = match station.state {
+        let (state, aid) = match self.state {
             State::Authenticated => ("authenticated", None),
             State::Associated(aid) => ("associated", Some(aid)),
         };
-        let kept = self.network.table().and_then(|table| table.stations.get(&self.address)).map(|(_, kept)| kept);
         object!(to,
             "address": self.address.to_string(),
             "state": state,
             "aid": aid,
-            "listen": aid.map(|_| station.listen),
-            "dozes": station.dozes,
-            "since": status.ago(station.since),
-            "heard": status.ago(station.heard),
-            "signal": station.signal,
-            "rate_to": station.to.rate,
-            "rate_from": station.from.rate,
-            "octets_to": station.to.octets,
-            "octets_from": station.from.octets,
-            "frames_to": station.to.frames,
-            "frames_from": station.from.frames,
-            "kept": kept,
+            "listen": aid.map(|_| self.listen),
+            "dozes": self.dozes,
+            "since": self.since,
+            "heard": self.heard,
+            "signal": self.signal,
+            "rate_to": self.to.rate,
+            "rate_from": self.from.rate,
+            "octets_to": self.to.octets,
+            "octets_from": self.from.octets,
+            "frames_to": self.to.frames,
+            "frames_from": self.from.frames,
+            "kept": self.kept,
         )
     }
 }

@@ -1,6 +1,7 @@
 //! What is going on, as one line of JSON.
 use std::collections::{BTreeMap, VecDeque};
 use std::io;
+use std::vec::IntoIter;
 
 use serde::ser::{Serialize, SerializeMap, Serializer};
 use serde_json::ser::Formatter;
@@ -9,7 +10,7 @@ use crate::apctl::recording::Recording;
 use crate::apctl::tables::Tables;
 use crate::control::by::By;
 use crate::control::log::Bounded;
-use crate::control::network_part::NetworkPart;
+use crate::control::network_part::{Listed, NetworkPart};
 use crate::network::Network;
 use crate::os::clock::{Duration, Instant};
 use crate::outbound::air::account::Account;
@@ -25,7 +26,7 @@ pub const VERSION: &str = match option_env!("BRIDGE_VERSION") {
 };
 /// Of which kind the document is: another number if a member is gone or means something else (docs/FORMATS.md).
 const FORMAT: u32 = 1;
-/// What follows the last network.
+/// What follows the last station of a network, and the last network.
 pub const END: &str = "]}";
 const MOST_FAULTS: usize = 32;
 
@@ -111,15 +112,30 @@ impl Status<'_> {
         text
     }
 
-    pub fn add_network(&self, place: usize, to: &mut String) {
+    /// Adds the network of this place up to its stations, and gives these: they are added then, and the end of the
+    /// network.
+    pub fn add_network(&self, place: usize, to: &mut String) -> IntoIter<Listed> {
+        let part = NetworkPart { status: self, place };
         if place > 0 {
             to.push(',');
         }
-        to.push_str(&line_of(&NetworkPart { status: self, place }));
+        to.push_str(&line_of(&part));
+        to.truncate(to.len() - END.len());
+        part.listed().into_iter()
     }
 
     pub(super) fn ago(&self, moment: Instant) -> Decimal {
         Decimal::seconds(self.now.since(moment))
+    }
+}
+
+/// Adds some stations to those of a network.
+pub fn add_stations(stations: impl Iterator<Item = Listed>, to: &mut String) {
+    for station in stations {
+        if !to.ends_with('[') {
+            to.push(',');
+        }
+        to.push_str(&line_of(&station));
     }
 }
 
@@ -145,6 +161,9 @@ impl Formatter for Ascii {
     }
 
     fn write_string_fragment<W: ?Sized + io::Write>(&mut self, to: &mut W, text: &str) -> io::Result<()> {
+        if text.bytes().all(|octet| (b' '..=b'~').contains(&octet)) {
+            return to.write_all(text.as_bytes());
+        }
         text.chars().try_for_each(|letter| match letter {
             ' '..='~' => write!(to, "{letter}"),
             _ => letter.encode_utf16(&mut [0; 2]).iter().try_for_each(|half| write!(to, "\\u{half:04x}")),

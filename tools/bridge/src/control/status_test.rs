@@ -1,5 +1,6 @@
 use super::*;
 use crate::apctl::tables::Asker;
+use crate::formats::frames::Address;
 use crate::os::clock::{MILLISECOND, SECOND};
 use crate::outbound::air::account::{HandedBack, Unsent};
 use crate::testing::samples::{at, frame_of, made_up, network, of_network, OTHER, OURS, STATION};
@@ -26,17 +27,7 @@ fn numbers_are_decimal() {
 /// Those that are associated are counted beyond the ones that are listed.
 #[test]
 fn stations_that_are_not_listed_are_counted() {
-    const JOINED: u16 = 1500;
-    const KNOWN: u16 = 1700;
-    let mut known = Known::of(vec![network(OURS)]);
-    for number in 0..KNOWN {
-        let to = |control, body: &[u8]| of_network(OURS, made_up(number.into()), control, body);
-        known.table.answered(0, &to(0xb0, &[0, 0, 2, 0, 0, 0]), at(SECOND));
-        if number < JOINED {
-            let [low, high] = (number + 1).to_le_bytes();
-            known.table.answered(0, &to(0x10, &[1, 0, 0, 0, low, 0xc0 | high]), at(SECOND));
-        }
-    }
+    let known = Known::with_stations(1, 1700, 1500);
     let line = line_of_whole(&known.status(at(3 * SECOND)));
     assert!(line.contains(r#""known":1700,"associated":1500,"dozing":0,"stations":["#), "{}", &line[..1000]);
     assert_eq!((line.matches(r#""state":"associated""#).count(), line.matches(r#""state":"#).count()), (1000, 1000));
@@ -44,7 +35,10 @@ fn stations_that_are_not_listed_are_counted() {
 
 pub fn line_of_whole(status: &Status<'_>) -> String {
     let mut text = status.begin();
-    (0..status.networks.len()).for_each(|place| status.add_network(place, &mut text));
+    for place in 0..status.networks.len() {
+        add_stations(status.add_network(place, &mut text), &mut text);
+        text.push_str(END);
+    }
     text + END
 }
 
@@ -72,6 +66,24 @@ impl Known {
             tables: Tables::new(networks.len()),
             networks,
         }
+    }
+
+    /// Of so many networks, each of which knows so many stations, of which so many are associated.
+    pub fn with_stations(networks: u8, stations: usize, joined: u16) -> Known {
+        let bssids = (0..networks).map(|place| Address::of([2, 0, 0, 0, 3, place]));
+        let mut known = Known::of(bssids.map(network).collect());
+        for place in 0..usize::from(networks) {
+            let bssid = known.networks[place].bssid;
+            for (number, aid) in (0..stations).zip(1..) {
+                let to = |control, body: &[u8]| of_network(bssid, made_up(number), control, body);
+                known.table.answered(place, &to(0xb0, &[0, 0, 2, 0, 0, 0]), at(SECOND));
+                if aid <= joined {
+                    let [low, high] = aid.to_le_bytes();
+                    known.table.answered(place, &to(0x10, &[1, 0, 0, 0, low, 0xc0 | high]), at(SECOND));
+                }
+            }
+        }
+        known
     }
 
     pub fn of_two_networks() -> Known {

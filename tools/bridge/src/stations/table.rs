@@ -4,6 +4,7 @@
 //! deauthentication is said to the program. So the table holds every station that the program knows, and for a moment
 //! may hold one more: if an answer was on its way while the station left.
 use std::collections::{BTreeMap, BTreeSet, HashMap};
+use std::ops::Bound;
 
 use crate::apctl::tables::Row;
 use crate::formats::frames::{Address, AddressMap};
@@ -12,9 +13,23 @@ use crate::os::clock::Instant;
 use crate::stations::news::{Forgotten, News};
 use crate::stations::station::{Asked, KeptStation, Member, Move, State, Station, Traffic};
 
-/// The most stations of a network that are taken out in one piece as the program's table hasn't them: the others are
-/// behind the next table. In an ordinary run the program tells each by a frame, and none is left for its tables.
-const MOST_GONE: usize = 1000;
+/// Of how many stations of a network it is looked at in one piece whether the program's table has them: the others'
+/// turn comes behind the next tables. In an ordinary run the program tells by a frame of each that is gone.
+const MOST_COMPARED: usize = 1000;
+
+/// Where a station stands among those of its network: those that are associated first, each in the order in which they
+/// were entered.
+#[derive(Debug, Default, Clone, Copy, PartialEq, Eq, PartialOrd, Ord)]
+struct Rank {
+    is_unassociated: bool,
+    turn: u64,
+}
+
+impl Rank {
+    fn of(station: &Station) -> Rank {
+        Rank { is_unassociated: !station.is_associated(), turn: station.turn }
+    }
+}
 
 /// The program's table of a network, as it comes.
 #[derive(Debug, Default, Clone, Copy)]
@@ -23,6 +38,8 @@ struct Listing {
     number: u64,
     /// The turn of the last station that was entered before it.
     last_turn: u64,
+    /// The last station that was looked at, if others stand behind it.
+    compared: Rank,
 }
 
 /// The stations of all networks.
@@ -33,6 +50,8 @@ pub struct StationTable {
     /// Of each network.
     pub(super) stations: Vec<AddressMap<Station>>,
     pub(super) associated: HashMap<(usize, u16), Address>,
+    /// Of each network its stations in their order.
+    ranks: Vec<BTreeMap<Rank, Address>>,
     /// Of each network those that are authenticated only, by since when they are.
     unassociated: Vec<BTreeSet<(Instant, Address)>>,
     /// Of each network, for how many beacons in a row units were told of, by the station's identifier.
@@ -56,6 +75,7 @@ impl StationTable {
         StationTable {
             places: Places::new(bssids.iter().copied()),
             stations: bssids.iter().map(|_| AddressMap::default()).collect(),
+            ranks: vec![BTreeMap::new(); bssids.len()],
             unassociated: vec![BTreeSet::new(); bssids.len()],
             told_of: vec![BTreeMap::new(); bssids.len()],
             refusals: vec![BTreeMap::new(); bssids.len()],
@@ -81,7 +101,7 @@ impl StationTable {
     /// What a new program has to know of the stations that are associated with a network, in the order of their
     /// identifiers.
     pub fn kept(&self, place: usize) -> Vec<KeptStation> {
-        let stations = self.stations[place].iter().filter(|(_, station)| !station.is_leaving);
+        let stations = self.associated_of(place).filter(|(_, station)| !station.is_leaving);
         let mut found: Vec<KeptStation> = stations
             .filter_map(|(address, station)| {
                 let (aid, request) = match (station.state, &station.joined_by) {
@@ -89,7 +109,7 @@ impl StationTable {
                     _ => return None,
                 };
                 let Station { listen, dozes, has_dozed, .. } = *station;
-                Some(KeptStation { address: *address, aid, listen, dozes, has_dozed, request })
+                Some(KeptStation { address, aid, listen, dozes, has_dozed, request })
             })
             .collect();
         found.sort_by_key(|kept| kept.aid);
@@ -135,15 +155,20 @@ impl StationTable {
         }
     }
 
-    /// Takes the stations out that the program's last table of a network hasn't. One that was entered since that began
-    /// isn't in doubt.
+    /// Takes stations out that the program's last table of a network hasn't, of those whose turn it is to be looked at.
+    /// One that was entered since that table began isn't in doubt.
     fn take_unlisted_out(&mut self, place: usize) {
-        let Listing { number, last_turn } = self.listings[place];
+        let Listing { number, last_turn, compared } = self.listings[place];
+        let next = self.ranks[place].range((Bound::Excluded(compared), Bound::Unbounded)).take(MOST_COMPARED);
+        let next: Vec<(Rank, Address)> = next.map(|(rank, address)| (*rank, *address)).collect();
+        let last = next.last().filter(|_| next.len() == MOST_COMPARED);
+        self.listings[place].compared = last.map_or(Rank::default(), |(rank, _)| *rank);
         let is_gone = |station: &Station| station.listed_in < number && station.turn <= last_turn;
-        let gone = self.stations[place].iter().filter(|(_, station)| is_gone(station));
-        for address in gone.map(|(address, _)| *address).take(MOST_GONE).collect::<Vec<_>>() {
-            self.take_out((place, address));
-            self.moves.push(((place, address), Move::Left));
+        for member in next.into_iter().map(|(_, address)| (place, address)) {
+            if self.station(&member).map_or(false, is_gone) {
+                self.take_out(member);
+                self.moves.push((member, Move::Left));
+            }
         }
     }
 
@@ -161,10 +186,14 @@ impl StationTable {
     }
 
     /// The stations of a network: those that are associated first, each in the order in which they were entered.
-    pub fn stations_of(&self, place: usize) -> Vec<(Address, &Station)> {
-        let mut found: Vec<_> = self.stations[place].iter().map(|(address, station)| (*address, station)).collect();
-        found.sort_by_key(|(_, station)| (station.state == State::Authenticated, station.turn));
-        found
+    pub fn stations_of(&self, place: usize) -> impl Iterator<Item = (Address, &Station)> {
+        let stations = &self.stations[place];
+        self.ranks[place].values().filter_map(|address| Some((*address, stations.get(address)?)))
+    }
+
+    /// Those of a network that are associated, in the same order.
+    pub fn associated_of(&self, place: usize) -> impl Iterator<Item = (Address, &Station)> {
+        self.stations_of(place).take_while(|(_, station)| station.is_associated())
     }
 
     /// How many stations a network knows.
@@ -214,6 +243,7 @@ impl StationTable {
         }
         self.turns += 1;
         let station = Station { since: now, heard: now, frame_heard: now, turn: self.turns, ..Station::default() };
+        self.ranks[member.0].insert(Rank::of(&station), member.1);
         self.stations[member.0].insert(member.1, station);
         self.unassociated[member.0].insert((now, member.1));
         self.entered.push(member);
@@ -246,6 +276,7 @@ impl StationTable {
         self.leave_state(member);
         if let Some(station) = self.stations[member.0].get_mut(&member.1) {
             station.state = state;
+            self.ranks[member.0].insert(Rank::of(station), member.1);
             station.since = now;
             (station.dozes, station.has_dozed, station.joined_by) = (false, false, None);
             match state {
@@ -262,6 +293,9 @@ impl StationTable {
 
     /// A station has its state no more: its identifier is free, or it is authenticated only no more.
     fn leave_state(&mut self, member: Member) {
+        if let Some(station) = self.stations[member.0].get(&member.1) {
+            self.ranks[member.0].remove(&Rank::of(station));
+        }
         match self.station(&member).map(|station| (station.state, station.since)) {
             Some((State::Associated(aid), _)) => {
                 self.changes += 1;

@@ -4,7 +4,7 @@ use crate::formats::radiotap::{Outcome, Reception};
 use crate::os::clock::SECOND;
 use crate::stations::meaning::Tim;
 use crate::stations::own_frames::departure;
-use crate::testing::samples::{at, frame_of, made_up, OTHER, OURS, STATION, STRANGER};
+use crate::testing::samples::{at, frame_of, made_up, Seeded, OTHER, OURS, STATION, STRANGER};
 
 const FIRST: Member = (0, STATION);
 const PLAIN: Reception = Reception { signal: Some(-40), rate: Some(22), frequency: None };
@@ -216,7 +216,7 @@ fn an_identifier_goes_to_another_station() {
     table.take_news();
     (0..3).for_each(|_| drop(beacon(&mut table, 0x02)));
     assert_eq!(table.take_news(), [((0, STRANGER), News::DozesTooLong { beacons: 3, listen: 2 })]);
-    let order: Vec<_> = table.stations_of(0).into_iter().map(|(address, _)| address).collect();
+    let order: Vec<_> = table.stations_of(0).map(|(address, _)| address).collect();
     assert_eq!(order, [STRANGER]);
 }
 
@@ -251,7 +251,44 @@ fn of_a_full_table_few_are_taken_out_in_one_piece() {
     table.take_left();
     for left in [8000, 7000] {
         agree(&mut table, 0, &[]);
-        assert_eq!((table.known(0), table.take_left().len()), (left, MOST_GONE));
+        assert_eq!((table.known(0), table.take_left().len()), (left, MOST_COMPARED));
+    }
+}
+
+/// Few stations are looked at in one piece, and each has its turn: a station that is gone is found behind some tables.
+#[test]
+fn each_station_of_a_full_table_is_looked_at_in_its_turn() {
+    for gone in [0, 999, 1000, 1999, 2000, 2499] {
+        let mut table = table();
+        let known: Vec<_> = (0..2500).map(|number| (made_up(number), State::Authenticated)).collect();
+        known.iter().for_each(|(address, _)| authenticated(&mut table, *address, 0));
+        let without: Vec<_> = known.iter().copied().filter(|(address, _)| *address != made_up(gone)).collect();
+        let found = (1..=3).find(|_| {
+            agree(&mut table, 0, &without);
+            table.station(&(0, made_up(gone))).is_none()
+        });
+        assert_eq!((found, table.known(0)), (Some(1 + gone / MOST_COMPARED), 2499), "{gone}");
+    }
+}
+
+/// However stations come, associate and go, they are in the order in which people see them.
+#[test]
+fn stations_stand_in_their_order() {
+    let (mut table, mut seeded) = (table(), Seeded(7));
+    for _ in 0..5000 {
+        let (number, aid) = (seeded.below(60), 1 + seeded.below(60) as u8);
+        let station = made_up(number);
+        match seeded.below(6) {
+            0 | 1 => authenticated(&mut table, station, 0),
+            2 | 3 => associated(&mut table, station, 0, aid),
+            4 => table.fed(&frame([0xa0, 0], OURS, station, &[8, 0]), at(SECOND)),
+            _ => table.fed(&departure(OURS, station), at(SECOND)),
+        }
+        let mut wanted: Vec<_> = table.stations[0].iter().map(|(address, station)| (*address, station)).collect();
+        wanted.sort_by_key(|(_, station)| (!station.is_associated(), station.turn));
+        assert!(table.stations_of(0).eq(wanted.iter().copied()));
+        let associated = wanted.iter().filter(|(_, station)| station.is_associated()).count();
+        assert_eq!((table.associated_of(0).count(), table.ranks[0].len()), (associated, table.known(0)));
     }
 }
 
