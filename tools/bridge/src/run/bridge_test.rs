@@ -25,6 +25,8 @@ use crate::restart::state::State;
 use crate::stations::own_frames::{association_request, deauthentication, departure, INACTIVITY};
 use crate::testing::samples::{at, data, network, radiotap, Unit, OTHER, OURS, STATION};
 
+#[path = "counting_test.rs"]
+mod counting;
 #[path = "fake_port_test.rs"]
 mod fake_port;
 #[path = "moving_test.rs"]
@@ -219,6 +221,8 @@ struct Surroundings {
     silence: u32,
     /// How many networks there are: one or two.
     networks: usize,
+    /// Whether there is a record.
+    is_recorded: bool,
     /// The file of the record, if it isn't one of the stage.
     record: Option<&'static str>,
     /// Whether the second network's wire is there at the start.
@@ -236,6 +240,7 @@ const PLAIN: Surroundings = Surroundings {
     quota: 100,
     silence: 300,
     networks: 1,
+    is_recorded: true,
     record: None,
     has_other_wire: true,
     state: None,
@@ -278,7 +283,8 @@ fn run_on(text: &str, surroundings: Surroundings, later: impl FnOnce(&mut Stage)
     let clients = Clients::new(UnixListener::bind(stage.folder.join("socket")).unwrap()).unwrap();
     let outcome = thread::scope(|scope| {
         let name = surroundings.record.map_or_else(|| stage.folder.join("record"), PathBuf::from);
-        let record = Recording::new("record", fs::File::create(name).unwrap(), None).unwrap();
+        let record = || Recording::new("record", fs::File::create(name).unwrap(), None).unwrap();
+        let record = surroundings.is_recorded.then(record);
         scope.spawn(|| {
             if let Some(state) = surroundings.state {
                 hand(&stage.requests, b"state\n", &files_of(state)).unwrap();
@@ -295,7 +301,7 @@ fn run_on(text: &str, surroundings: Surroundings, later: impl FnOnce(&mut Stage)
 
 fn serve(
     path: &str,
-    record: Recording,
+    record: Option<Recording>,
     (asked, clients): (UnixStream, Clients),
     (monitor, mut wires): (FakePort, Vec<Option<FakePort>>),
     surroundings: Surroundings,
@@ -308,7 +314,7 @@ fn serve(
     if !surroundings.has_other_wire {
         wires[1] = None;
     }
-    let (program, feeder) = Program::start(path, "radio.toml", None, Some(record))?;
+    let (program, feeder) = Program::start(path, "radio.toml", None, record)?;
     let most_silence = Some(silence * SECOND);
     let manner = Manner {
         setting: setting(interval),
