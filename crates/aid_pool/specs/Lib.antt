@@ -1,3 +1,4 @@
 pub mod LeastFree
 pub mod Pool
 pub mod Marks
+pub mod Taking

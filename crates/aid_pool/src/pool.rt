@@ -1,8 +1,9 @@
 //! A pool of association identifiers (IEEE Std 802.11-2016, 9.4.1.8): which are out, and which is handed out next.
 
-ghost use Rattle.std.specs.Prelude.{◌≡◌, ◌+◌, ◌<◌, ◌≤◌, ◌↔◌, ℕ, List, Bool, length, IsTrue, IsNone, IfSome, IfNone};
+ghost use Rattle.std.specs.Prelude.{◌≡◌, ◌+◌, ◌<◌, ◌≤◌, ◌↔◌, ℕ, List, Bool, false, length, IsTrue, IsNone, IfSome, IfNone};
 ghost use Rattle.std.specs.FinSet as set;
 ghost use Rattle.aid_pool.specs.LeastFree.{IsLeastFree, least_free, is_among};
+ghost use Rattle.aid_pool.specs.Taking.{MayBeTaken};
 
 use crate::marks::Marks;
 use mac_frame::MAX_AID;
@@ -90,10 +91,35 @@ impl AidPool {
         ensures taken { IfSome result (λ aid. self.new ≡ record self.old { out = set.insert self.old.out aid }) }
         ensures unchanged { IfNone result (self.new ≡ self.old) }
     {
+        // The prover opens what the pool keeps, of which no more is out than may be, where a field is read.
+        let _ = &self.out;
         let aid = self.least()?;
+        self.put_out(aid);
+        Some(aid)
+    }
+
+    /// Takes this number, which is out from then on, and answers whether it did. It takes none exactly if the number is
+    /// no identifier (9.4.1.8) or is out, or if as many are out as the pool hands out at most (*profile*): then nothing
+    /// changes.
+    pub fn take_this(&mut self, aid: u16) -> bool
+        ensures may { IsTrue result ↔ MayBeTaken aid self.old }
+        ensures taken { IsTrue result → self.new ≡ record self.old { out = set.insert self.old.out aid } }
+        ensures unchanged { result ≡ false → self.new ≡ self.old }
+    {
+        if aid == 0 || aid > MAX_AID || self.out_count() == self.most || self.is_out(aid) {
+            return false;
+        }
+        self.put_out(aid);
+        true
+    }
+
+    /// A number is out from then on. The others stay as they were.
+    fn put_out(&mut self, aid: u16)
+        requires { MayBeTaken aid self.old }
+        ensures { self.new ≡ record self.old { out = set.insert self.old.out aid } }
+    {
         self.count += 1;
         self.out.set(aid);
-        Some(aid)
     }
 
     /// Takes a number back that is out: it is free from then on. The others stay as they were.

@@ -27,6 +27,25 @@ fn the_least_number_is_taken_again(rt: HostRuntime) {
     takes(&rt, &mut pool, Some(1));
 }
 
+/// Numbers are taken by name out of a pool of three: none of them twice, and no fourth.
+#[test]
+fn numbers_are_taken_by_name(rt: HostRuntime) {
+    let mut pool = AidPool::new(3);
+    for (aid, is_taken) in [
+        (MAX_AID, true),
+        (0, false),
+        (2008, false),
+        (2, true),
+        (2, false),
+    ] {
+        assert!(rt; pool.take_this(aid) == is_taken, "{aid}");
+    }
+    takes(&rt, &mut pool, Some(1));
+    assert!(rt; !pool.take_this(3) && pool.out_count() == 3);
+    gives(&rt, &mut pool, 2);
+    assert!(rt; pool.take_this(3));
+}
+
 /// Takes all numbers, which must come in their order, and then be out.
 fn takes_all(rt: &impl Abort, pool: &mut AidPool) {
     for aid in 1..=MAX_AID {
