@@ -64,6 +64,59 @@ fn each_has_its_part_in_order_of_arrival(rt: HostRuntime) -> Result<(), Fail> {
     Ok(())
 }
 
+/// Puts a unit that came at a clock back behind as many, into a list that must not be full.
+fn put_back(
+    rt: &impl Abort,
+    alloc: Global,
+    keep: &mut Keep,
+    whom: Whom,
+    before: u8,
+    at: u32,
+) -> Result<(), NoMemory> {
+    assert!(rt; !keep.is_full() && keep.puts() < 1000);
+    keep.put_back(whom, usize::from(before), unit(alloc, at))
+}
+
+/// For station 1 come units at clocks 3 and 5, and one for the group between. Then units come back that came at 1, 4
+/// and 6, and one for the group.
+fn returned(rt: &impl Abort, alloc: Global) -> Result<Keep, NoMemory> {
+    let mut keep = Keep::new(alloc, 9);
+    for (whom, at) in [(station(1), 3), (Whom::Group, 2), (station(1), 5)] {
+        put(rt, alloc, &mut keep, whom, at)?;
+    }
+    put_back(rt, alloc, &mut keep, station(1), 1, 4)?;
+    put_back(rt, alloc, &mut keep, station(1), 0, 1)?;
+    put_back(rt, alloc, &mut keep, station(1), 200, 6)?;
+    put_back(rt, alloc, &mut keep, Whom::Group, 1, 7)?;
+    put(rt, alloc, &mut keep, station(1), 8)?;
+    Ok(keep)
+}
+
+#[test]
+fn a_unit_comes_back_to_its_place(rt: HostRuntime) -> Result<(), Fail> {
+    let keep = returned(&rt, rt.alloc())?;
+    for (n, at) in [1, 3, 4, 5, 6, 8].iter().enumerate() {
+        assert_eq!(rt; clock_at(&keep, station(1), n), Some(*at));
+    }
+    assert_eq!(rt; clock_at(&keep, Whom::Group, 0), Some(2));
+    assert_eq!(rt; clock_at(&keep, Whom::Group, 1), Some(7));
+    assert!(rt; keep.len() == 8 && keep.puts() == 210);
+    Ok(())
+}
+
+#[test]
+fn the_units_of_one_are_handed_over(rt: HostRuntime) -> Result<(), Fail> {
+    let mut keep = returned(&rt, rt.alloc())?;
+    let mut units = keep.take_for(station(1));
+    assert!(rt; units.len() == 6 && keep.len() == 2);
+    for at in [1, 3, 4, 5, 6, 8] {
+        assert_eq!(rt; units.pop().map(|unit| unit.at), Some(at));
+    }
+    assert!(rt; units.is_empty() && keep.take_for(station(2)).is_empty());
+    assert_eq!(rt; clock_at(&keep, Whom::Group, 1), Some(7));
+    Ok(())
+}
+
 /// For whom a number stands: the group, or the station with this last octet.
 fn whom_of(number: u8) -> Whom {
     match number {

@@ -124,6 +124,14 @@ module _ (p : Arrival → Bool) where
   AllAbove-without_first n [] above = tt
   AllAbove-without_first n (b ∷ bs) above = cond_both (p b) _ _ (AllAbove n) (λ _. above.1) (λ _. (above.0, AllAbove-without_first n bs above.1))
 
+  AllFrom-without_first : (n : ℕ) (bs : List Arrival) → AllFrom n bs → AllFrom n (without_first p bs)
+  AllFrom-without_first n [] from = tt
+  AllFrom-without_first n (b ∷ bs) from = cond_both (p b) _ _ (AllFrom n) (λ _. from.1) (λ _. (from.0, AllFrom-without_first n bs from.1))
+
+  pub IsInOrder-without_first : (bs : List Arrival) → IsInOrder bs → IsInOrder (without_first p bs)
+  IsInOrder-without_first [] order = tt
+  IsInOrder-without_first (b ∷ bs) order = cond_both (p b) _ _ IsInOrder (λ _. order.1) (λ _. (AllFrom-without_first b.0 bs order.0, IsInOrder-without_first bs order.1))
+
   pub IsRising-filter : (bs : List Arrival) → IsRising bs → IsRising (filter p bs)
   IsRising-filter [] rising = tt
   IsRising-filter (b ∷ bs) rising = let rest = IsRising-filter bs rising.1 in cond_both (p b) _ _ IsRising (λ _. (AllAbove-filter b.0 bs rising.0, rest)) (λ _. rest)

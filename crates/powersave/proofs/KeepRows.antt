@@ -6,7 +6,8 @@ use Rattle.powersave.specs.declared.unit.Whom.TheVariants.{One, Group}
 use Rattle.powersave.specs.Keep.{Entry, units_for, without_oldest, without_all, without_older, is_older, oldest_at, first_clock, room_beside}
 use Rattle.mac_frame.specs.Address.{broadcast}
 use Rattle.mac_frame.specs.Samples.{station}
-use Rattle.powersave.specs.Queues.{merged}
+use Rattle.powersave.specs.Queues.{merged, queue_with}
+use Rattle.powersave.specs.Returns.{put_back}
 use Rattle.powersave.proofs.Samples.{other_station, unit_to, for_station, for_other, for_group, three, at_clocks, arrived}
 use Rattle.powersave.proofs.QueueSteps.{entry_of}
 use Rattle.mac_frame.proofs.Rows.{Computes}
@@ -92,3 +93,17 @@ merged_queues : Computes (map entry_of) (
     ∷ ("an empty queue adds nothing", merged (One other_station) [] (merged Group (arrived 1 (unit_to broadcast 2) ∷ []) []), for_group 2 ∷ [])
     ∷ [])
 merged_queues = refl
+
+-- ---- a unit that comes back
+
+units_back : Computes (λ (is : List Entry). is) (
+    ("in front of all", put_back (One station) 0 (unit_to station 9) three, for_station 9 ∷ three)
+    ∷ ("behind the first of its station", put_back (One station) 1 (unit_to station 9) three, for_station 1 ∷ for_station 9 ∷ for_group 2 ∷ for_station 3 ∷ [])
+    ∷ ("last where fewer are told", put_back (One station) 7 (unit_to station 9) three, for_station 1 ∷ for_station 3 ∷ for_station 9 ∷ for_group 2 ∷ [])
+    ∷ ("alone where none is kept", put_back (One other_station) 1 (unit_to other_station 9) three, for_other 9 ∷ three)
+    ∷ [])
+units_back = refl
+
+-- the numbers go down from those of the units that were put
+a_queue_takes_one_back : queue_with 7 1 (unit_to station 9) (arrived 10 (unit_to station 1) ∷ arrived 12 (unit_to station 3) ∷ []) ≡ arrived 7 (unit_to station 1) ∷ arrived 8 (unit_to station 9) ∷ arrived 12 (unit_to station 3) ∷ []
+a_queue_takes_one_back = refl

@@ -2,7 +2,11 @@ pub mod Arrivals
 pub mod Swaps
 pub mod Merges
 pub mod Parts
+pub mod Returns
+pub mod Fronts
+pub mod Turns
 pub mod QueueSteps
+pub mod PutBacks
 pub mod Whoms
 pub mod OldestUnits
 pub mod Older

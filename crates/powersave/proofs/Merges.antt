@@ -1,6 +1,6 @@
 -- A queue among the units of others, and all queues: what is left for one, what is left without it, what comes last,
 -- and that the last queue may as well be the first.
-use Rattle.std.proofs.Common.{◌≡◌, ℕ, ◌<◌, Bool, true, false, not, List, [], ◌∷◌, ◌++◌, map, filter, drop, Some, refl, sym, ap, ◌∙◌, subst, arith, inl, inr}
+use Rattle.std.proofs.Common.{◌≡◌, ℕ, ◌+◌, ◌<◌, Bool, true, false, not, List, [], ◌∷◌, ◌++◌, map, filter, drop, Some, refl, sym, ap, ◌∙◌, subst, arith, inl, inr}
 use Rattle.std.specs.List.{AllByRecursion}
 use Rattle.std.specs.Map.{lookup, set_value, remove_entry}
 use Rattle.std.specs.Option.{option_map, unwrap_or}
@@ -12,7 +12,7 @@ use Rattle.powersave.specs.declared.unit.Whom.{Whom}
 use Rattle.powersave.specs.declared.unit.Unit.{Unit as Msdu}
 use Rattle.powersave.specs.declared.queues.Arrived.{Arrived}
 use Rattle.powersave.specs.Keep.{without_first}
-use Rattle.powersave.specs.Queues.{Queue, Queues, Arrival, arrival_for, put_in_order, merged, arrivals, IsNumbered, AreNumbered, IsRising}
+use Rattle.powersave.specs.Queues.{Queue, Queues, Arrival, arrival_for, put_in_order, merged, arrivals, first_number, IsNumbered, AreNumbered, IsRising}
 use Rattle.powersave.proofs.Swaps.{swap_removed}
 use Rattle.powersave.proofs.Arrivals.{AllAbove, AllBelow, IsInOrder, Differ, put-put, differ_before_put, IsRising-before_put, IsRising-filter, AllBelow-put, IsInOrder-put, put_last, put_before_last, filter-put_failing, filter-put_earliest, without_first-put_earliest, filter-put, without_first-put, without_first-none}
 
@@ -34,27 +34,29 @@ units-queue : (k : Whom) (queue : List Arrived) → map unit_of (map (arrival_fo
 units-queue k [] = refl
 units-queue k (a ∷ queue) = ap (λ us. a.unit ∷ us) (units-queue k queue)
 
-AllBelow-merged : (n : ℕ) (k : Whom) (queue : List Arrived) (others : List Arrival) → IsNumbered n queue → AllBelow n others → AllBelow n (merged k queue others)
+AllBelow-merged : (n : ℕ) (k : Whom) (queue : List Arrived) (others : List Arrival) → IsNumbered n queue → AllBelow (first_number + n) others → AllBelow (first_number + n) (merged k queue others)
 AllBelow-merged n k [] others numbered below = below
-AllBelow-merged n k (a ∷ queue) others numbered below = AllBelow-put n (arrival_for k a) (merged k queue others) numbered.0 (AllBelow-merged n k queue others numbered.2 below)
+AllBelow-merged n k (a ∷ queue) others numbered below = AllBelow-put (first_number + n) (arrival_for k a) (merged k queue others) numbered.0 (AllBelow-merged n k queue others numbered.2 below)
 
 IsInOrder-merged : (k : Whom) (queue : List Arrived) (others : List Arrival) → IsInOrder others → IsInOrder (merged k queue others)
 IsInOrder-merged k [] others order = order
 IsInOrder-merged k (a ∷ queue) others order = IsInOrder-put (arrival_for k a) (merged k queue others) (IsInOrder-merged k queue others order)
 
 -- one more unit, which came after all
-merged-push : (k : Whom) (queue : List Arrived) (last : Arrived) (others : List Arrival) → IsNumbered last.number queue → AllBelow last.number others → merged k (queue ++ last ∷ []) others ≡ merged k queue others ++ arrival_for k last ∷ []
-merged-push k [] last others numbered below = put_last (arrival_for k last) others below
-merged-push k (a ∷ queue) last others numbered below =
-    ap (put_in_order (arrival_for k a)) (merged-push k queue last others numbered.2 below)
-    ∙ put_before_last (arrival_for k a) (arrival_for k last) (merged k queue others) numbered.0
+merged-push : (n : ℕ) (k : Whom) (queue : List Arrived) (last : Arrived) (others : List Arrival) → last.number ≡ first_number + n → IsNumbered n queue → AllBelow last.number others → merged k (queue ++ last ∷ []) others ≡ merged k queue others ++ arrival_for k last ∷ []
+merged-push n k [] last others is numbered below = put_last (arrival_for k last) others below
+merged-push n k (a ∷ queue) last others is numbered below =
+    let here = numbered.0 in
+    ap (put_in_order (arrival_for k a)) (merged-push n k queue last others is numbered.2 below)
+    ∙ put_before_last (arrival_for k a) (arrival_for k last) (merged k queue others) (omega (arith, is, here))
 
 -- the same, where it is for another
-merged-before_last : (k : Whom) (queue : List Arrived) (last : Arrival) (others : List Arrival) → IsNumbered last.0 queue → merged k queue (others ++ last ∷ []) ≡ merged k queue others ++ last ∷ []
-merged-before_last k [] last others numbered = refl
-merged-before_last k (a ∷ queue) last others numbered =
-    ap (put_in_order (arrival_for k a)) (merged-before_last k queue last others numbered.2)
-    ∙ put_before_last (arrival_for k a) last (merged k queue others) numbered.0
+merged-before_last : (n : ℕ) (k : Whom) (queue : List Arrived) (last : Arrival) (others : List Arrival) → last.0 ≡ first_number + n → IsNumbered n queue → merged k queue (others ++ last ∷ []) ≡ merged k queue others ++ last ∷ []
+merged-before_last n k [] last others is numbered = refl
+merged-before_last n k (a ∷ queue) last others is numbered =
+    let here = numbered.0 in
+    ap (put_in_order (arrival_for k a)) (merged-before_last n k queue last others is numbered.2)
+    ∙ put_before_last (arrival_for k a) last (merged k queue others) (omega (arith, is, here))
 
 -- ---- two queues
 
@@ -86,7 +88,7 @@ module _ (t : Whom → Bool) where
   filter-merged_failing k (a ∷ queue) others fails =
       filter-put_failing (passes t) (arrival_for k a) (merged k queue others) fails ∙ filter-merged_failing k queue others fails
 
-  without_first-merged_failing : (k : Whom) (queue : List Arrived) (others : List Arrival) → t k ≡ false → IsInOrder others → without_first (passes t) (merged k queue others) ≡ merged k queue (without_first (passes t) others)
+  pub without_first-merged_failing : (k : Whom) (queue : List Arrived) (others : List Arrival) → t k ≡ false → IsInOrder others → without_first (passes t) (merged k queue others) ≡ merged k queue (without_first (passes t) others)
   without_first-merged_failing k [] others fails order = refl
   without_first-merged_failing k (a ∷ queue) others fails order =
       without_first-put (passes t) (arrival_for k a) (merged k queue others) fails (IsInOrder-merged k queue others order)
@@ -107,7 +109,7 @@ module _ (t : Whom → Bool) where
       filter-put_earliest (passes t) (arrival_for k a) (merged k queue others) here (subst (AllAbove a.number) (sym later) (AllAbove-queue a.number k queue numbered.1))
       ∙ ap (λ es. arrival_for k a ∷ es) later
 
-  without_first-merged_only : (n : ℕ) (k : Whom) (queue : List Arrived) (others : List Arrival) → t k ≡ true → IsNumbered n queue → filter (passes t) others ≡ [] → without_first (passes t) (merged k queue others) ≡ merged k (drop 1 queue) others
+  pub without_first-merged_only : (n : ℕ) (k : Whom) (queue : List Arrived) (others : List Arrival) → t k ≡ true → IsNumbered n queue → filter (passes t) others ≡ [] → without_first (passes t) (merged k queue others) ≡ merged k (drop 1 queue) others
   without_first-merged_only n k [] others here numbered none = without_first-none (passes t) others none
   without_first-merged_only n k (a ∷ queue) others here numbered none =
       let later = filter-merged_only n k queue others here numbered.2 none in
@@ -115,7 +117,7 @@ module _ (t : Whom → Bool) where
 
 -- ---- all queues
 
-pub AllBelow-arrivals : (n : ℕ) (queues : Queues) → AreNumbered n queues → AllBelow n (arrivals queues)
+pub AllBelow-arrivals : (n : ℕ) (queues : Queues) → AreNumbered n queues → AllBelow (first_number + n) (arrivals queues)
 AllBelow-arrivals n [] numbered = tt
 AllBelow-arrivals n (q ∷ queues) numbered = AllBelow-merged n q.0 q.1.items (arrivals queues) numbered.0 (AllBelow-arrivals n queues numbered.1)
 
@@ -129,11 +131,11 @@ arrivals-add_empty whom w [] empty = ap (λ queue. merged whom queue []) empty
 arrivals-add_empty whom w (e ∷ es) empty = ap (merged e.0 e.1.items) (arrivals-add_empty whom w es empty)
 
 -- a queue of one unit, which came after all
-pub arrivals-add_one : (whom : Whom) (last : Arrived) (w : Queue) (queues : Queues) → w.items ≡ last ∷ [] → AreNumbered last.number queues → arrivals (queues ++ (whom, w) ∷ []) ≡ arrivals queues ++ arrival_for whom last ∷ []
-arrivals-add_one whom last w [] one numbered = ap (λ queue. merged whom queue []) one
-arrivals-add_one whom last w (e ∷ es) one numbered =
-    ap (merged e.0 e.1.items) (arrivals-add_one whom last w es one numbered.1)
-    ∙ merged-before_last e.0 e.1.items (arrival_for whom last) (arrivals es) numbered.0
+pub arrivals-add_one : (n : ℕ) (whom : Whom) (last : Arrived) (w : Queue) (queues : Queues) → last.number ≡ first_number + n → w.items ≡ last ∷ [] → AreNumbered n queues → arrivals (queues ++ (whom, w) ∷ []) ≡ arrivals queues ++ arrival_for whom last ∷ []
+arrivals-add_one n whom last w [] is one numbered = ap (λ queue. merged whom queue []) one
+arrivals-add_one n whom last w (e ∷ es) is one numbered =
+    ap (merged e.0 e.1.items) (arrivals-add_one n whom last w es is one numbered.1)
+    ∙ merged-before_last n e.0 e.1.items (arrival_for whom last) (arrivals es) is numbered.0
 
 -- the last queue may as well be the first
 arrivals-last : (l : Whom × Queue) (queues : Queues) → IsRising (arrivals (queues ++ l ∷ [])) → arrivals (l ∷ queues) ≡ arrivals (queues ++ l ∷ [])
@@ -149,7 +151,7 @@ module _ (t : Whom → Bool) where
   IsOnce [] = Unit {0}
   IsOnce (q ∷ queues) = (t q.0 ≡ true → NonePasses t queues) × IsOnce queues
 
-  filter-arrivals_none : (queues : Queues) → NonePasses t queues → filter (passes t) (arrivals queues) ≡ []
+  pub filter-arrivals_none : (queues : Queues) → NonePasses t queues → filter (passes t) (arrivals queues) ≡ []
   filter-arrivals_none [] none = refl
   filter-arrivals_none (q ∷ queues) none =
       filter-merged_failing t q.0 q.1.items (arrivals queues) none.0 ∙ filter-arrivals_none queues none.1
@@ -210,15 +212,15 @@ module _ (t : Whom → Bool) where
   arrivals-set_same (e ∷ es) q w found same = grind (arith, found, same, arrivals-set_same es q w)
 
   -- a queue with one unit more, which came after all
-  pub arrivals-push : (whom : Whom) → ((k : Whom) → t k ≡ true → k ≡ whom) → (last : Arrived) (queues : Queues) (q w : Queue) → AreNumbered last.number queues → lookup t queues ≡ Some q → w.items ≡ q.items ++ last ∷ [] → arrivals (set_value t queues w) ≡ arrivals queues ++ arrival_for whom last ∷ []
-  arrivals-push whom exact last [] q w numbered found more = absurd (none-some q found)
-  arrivals-push whom exact last (e ∷ es) q w numbered found more = elim (cases_Bool (t e.0)) [
+  pub arrivals-push : (n : ℕ) (whom : Whom) → ((k : Whom) → t k ≡ true → k ≡ whom) → (last : Arrived) (queues : Queues) (q w : Queue) → last.number ≡ first_number + n → AreNumbered n queues → lookup t queues ≡ Some q → w.items ≡ q.items ++ last ∷ [] → arrivals (set_value t queues w) ≡ arrivals queues ++ arrival_for whom last ∷ []
+  arrivals-push n whom exact last [] q w is_next numbered found more = absurd (none-some q found)
+  arrivals-push n whom exact last (e ∷ es) q w is_next numbered found more = elim (cases_Bool (t e.0)) [
     | inl here ↦
         let is : e.1 ≡ q = same_Some e.1 q (rw here at found) in
         rw here (ap (λ queue. merged e.0 queue (arrivals es)) (more ∙ ap (λ (v : Queue). v.items ++ last ∷ []) (sym is))
-        ∙ merged-push e.0 e.1.items last (arrivals es) numbered.0 (AllBelow-arrivals last.number es numbered.1)
+        ∙ merged-push n e.0 e.1.items last (arrivals es) is_next numbered.0 (subst (λ top. AllBelow top (arrivals es)) (sym is_next) (AllBelow-arrivals n es numbered.1))
         ∙ ap (λ k. merged e.0 e.1.items (arrivals es) ++ arrival_for k last ∷ []) (exact e.0 here))
     | inr other ↦
-        rw other (ap (merged e.0 e.1.items) (arrivals-push whom exact last es q w numbered.1 (rw other at found) more)
-        ∙ merged-before_last e.0 e.1.items (arrival_for whom last) (arrivals es) numbered.0)
+        rw other (ap (merged e.0 e.1.items) (arrivals-push n whom exact last es q w is_next numbered.1 (rw other at found) more)
+        ∙ merged-before_last n e.0 e.1.items (arrival_for whom last) (arrivals es) is_next numbered.0)
   ]

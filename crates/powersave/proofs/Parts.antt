@@ -26,7 +26,7 @@ pub is_same-refl : (a : Whom) → is_same a a ≡ true
 is_same-refl (One a) = (bytes_decides a a).1 refl
 is_same-refl Group = refl
 
-other_whom : (whom other : Whom) → whom ≢ other → is_same whom other ≡ false
+pub other_whom : (whom other : Whom) → whom ≢ other → is_same whom other ≡ false
 other_whom whom other differ = false_from_ne_true (is_same whom other) (λ e. differ (same_whom whom other e))
 
 -- ---- room

@@ -13,9 +13,10 @@ use Rattle.powersave.specs.declared.unit.Whom.{Whom}
 use Rattle.powersave.specs.declared.unit.Unit.{Unit as Msdu}
 use Rattle.powersave.specs.declared.queues.Arrived.{Arrived}
 use Rattle.powersave.specs.Keep.{Entry, is_same, is_for, units_for, without_first, room_beside}
-use Rattle.powersave.specs.Queues.{Queue, Queues, Arrival, is_whom, queue_for, unit_at, arrival_for, arrivals, entries_in, IsNumbered, AreNumbered, IsRising, AreSound, AreKept, HasRoom, Pops, Removes, MakesRoom, Pushes}
+use Rattle.powersave.specs.Queues.{Queue, Queues, Arrival, is_whom, queue_for, unit_at, arrival_for, arrivals, entries_in, first_number, IsNumbered, AreNumbered, IsRising, AreSound, AreKept, HasRoom, Pops, Removes, MakesRoom, Pushes, PutsBack}
 use Rattle.powersave.proofs.Parts.{msdu, same_whom, without_oldest_none, length-without_oldest, length-without_all}
-use Rattle.powersave.proofs.Arrivals.{IsRising-filter, IsRising-without_first, IsRising-last}
+use Rattle.powersave.proofs.Returns.{length-put_back}
+use Rattle.powersave.proofs.Arrivals.{AllBelow, IsRising-filter, IsRising-without_first, IsRising-last}
 use Rattle.powersave.proofs.Swaps.{swap_removed}
 use Rattle.powersave.proofs.Merges.{passes, others, unit_of, IsOnce, AllBelow-arrivals, units-arrivals, arrivals-pop, arrivals-swap_remove, arrivals-set_same, arrivals-push, arrivals-add_empty, arrivals-add_one}
 
@@ -25,11 +26,11 @@ abbrev pub entry_of : Arrival → Entry
 entry_of a = a.1
 
 module _ {X Y : Type 0} (f : X → Y) (p : Y → Bool) where
-  filter-map : (xs : List X) → filter p (map f xs) ≡ map f (filter (λ x. p (f x)) xs)
+  pub filter-map : (xs : List X) → filter p (map f xs) ≡ map f (filter (λ x. p (f x)) xs)
   filter-map [] = refl
   filter-map (x ∷ xs) = grind (arith, filter-map xs)
 
-  without_first-map : (xs : List X) → without_first p (map f xs) ≡ map f (without_first (λ x. p (f x)) xs)
+  pub without_first-map : (xs : List X) → without_first p (map f xs) ≡ map f (without_first (λ x. p (f x)) xs)
   without_first-map [] = refl
   without_first-map (x ∷ xs) = grind (arith, without_first-map xs)
 
@@ -53,29 +54,37 @@ units_for-entries_in next whom queues sound =
 
 -- ---- their numbers
 
-IsNumbered-drop : (next : ℕ) (queue : List Arrived) → IsNumbered next queue → IsNumbered next (drop 1 queue)
+pub IsNumbered-drop : (next : ℕ) (queue : List Arrived) → IsNumbered next queue → IsNumbered next (drop 1 queue)
 IsNumbered-drop next [] numbered = tt
 IsNumbered-drop next (a ∷ queue) numbered = numbered.2
 
-IsNumbered-later : (next : ℕ) (queue : List Arrived) → IsNumbered next queue → IsNumbered (next + 1) queue
-IsNumbered-later next [] numbered = tt
-IsNumbered-later next (a ∷ queue) numbered = let here = numbered.0 in (omega arith, numbered.1, IsNumbered-later next queue numbered.2)
+-- where more units were put
+IsNumbered-more : (puts more : ℕ) (queue : List Arrived) → IsNumbered puts queue → IsNumbered (puts + more) queue
+IsNumbered-more puts more [] numbered = tt
+IsNumbered-more puts more (a ∷ queue) numbered =
+    let here = numbered.0 in
+    let low = numbered.3 in
+    (omega arith, numbered.1, IsNumbered-more puts more queue numbered.2, omega arith)
 
 above_all : (n : ℕ) (queue : List Arrived) (last : Arrived) → AllByRecursion (λ b. n < b.number) queue → n < last.number → AllByRecursion (λ b. n < b.number) (queue ++ last ∷ [])
 above_all n [] last above lt = (lt, tt)
 above_all n (a ∷ queue) last above lt = (above.0, above_all n queue last above.1 lt)
 
-IsNumbered-push : (queue : List Arrived) (last : Arrived) → IsNumbered last.number queue → IsNumbered (last.number + 1) (queue ++ last ∷ [])
-IsNumbered-push [] last numbered = (omega arith, tt, tt)
-IsNumbered-push (a ∷ queue) last numbered =
+IsNumbered-one : (puts : ℕ) (last : Arrived) → last.number ≡ first_number + puts → IsNumbered (puts + 1) (last ∷ [])
+IsNumbered-one puts last is = (omega (arith, is), tt, tt, omega (arith, is))
+
+IsNumbered-push : (puts : ℕ) (queue : List Arrived) (last : Arrived) → last.number ≡ first_number + puts → IsNumbered puts queue → IsNumbered (puts + 1) (queue ++ last ∷ [])
+IsNumbered-push puts [] last is numbered = IsNumbered-one puts last is
+IsNumbered-push puts (a ∷ queue) last is numbered =
     let here = numbered.0 in
-    (omega arith, above_all a.number queue last numbered.1 here, IsNumbered-push queue last numbered.2)
+    let low = numbered.3 in
+    (omega arith, above_all a.number queue last numbered.1 (omega (arith, is, here)), IsNumbered-push puts queue last is numbered.2, omega arith)
 
-AreNumbered-later : (next : ℕ) (queues : Queues) → AreNumbered next queues → AreNumbered (next + 1) queues
-AreNumbered-later next [] numbered = tt
-AreNumbered-later next (e ∷ es) numbered = (IsNumbered-later next e.1.items numbered.0, AreNumbered-later next es numbered.1)
+pub AreNumbered-more : (puts more : ℕ) (queues : Queues) → AreNumbered puts queues → AreNumbered (puts + more) queues
+AreNumbered-more puts more [] numbered = tt
+AreNumbered-more puts more (e ∷ es) numbered = (IsNumbered-more puts more e.1.items numbered.0, AreNumbered-more puts more es numbered.1)
 
-AreNumbered-add : (next : ℕ) (whom : Whom) (w : Queue) (queues : Queues) → IsNumbered next w.items → AreNumbered next queues → AreNumbered next (queues ++ (whom, w) ∷ [])
+pub AreNumbered-add : (next : ℕ) (whom : Whom) (w : Queue) (queues : Queues) → IsNumbered next w.items → AreNumbered next queues → AreNumbered next (queues ++ (whom, w) ∷ [])
 AreNumbered-add next whom w [] here numbered = (here, tt)
 AreNumbered-add next whom w (e ∷ es) here numbered = (numbered.0, AreNumbered-add next whom w es here numbered.1)
 
@@ -100,7 +109,7 @@ module _ (t : Whom → Bool) (next : ℕ) where
       (λ e es fs later all. (all.0, later all.1))
       queues (AreNumbered-remove queues numbered)
 
-  IsNumbered-found : (queues : Queues) (q : Queue) → AreNumbered next queues → lookup t queues ≡ Some q → IsNumbered next q.items
+  pub IsNumbered-found : (queues : Queues) (q : Queue) → AreNumbered next queues → lookup t queues ≡ Some q → IsNumbered next q.items
   IsNumbered-found [] q numbered found = absurd (none-some q found)
   IsNumbered-found (e ∷ es) q numbered found = elim (cases_Bool (t e.0)) [
     | inl here ↦ subst (λ (v : Queue). IsNumbered next v.items) (same_Some e.1 q (rw here at found)) numbered.0
@@ -162,7 +171,7 @@ first_unit next whom queues queue is sound = ap (λ ns. unit_at ns 0) (sym is) �
 
 module _ (whom : Whom) (old new : Queues) where
   -- the keys stay, and the queue for one has other units
-  sound_after_set : (next : ℕ) (w : Queue) → new ≡ set_value (is_whom whom) old w → AreSound next old → IsNumbered next w.items → IsRising (arrivals new) → AreSound next new
+  pub sound_after_set : (next : ℕ) (w : Queue) → new ≡ set_value (is_whom whom) old w → AreSound next old → IsNumbered next w.items → IsRising (arrivals new) → AreSound next new
   sound_after_set next w is sound numbered apart = record {
     one_each = subst (λ es. IsDistinct is_whom (keys_of es)) (sym is) (subst (IsDistinct is_whom) (sym (keys-set_value (is_whom whom) old w)) sound.one_each);
     numbered = subst (AreNumbered next) (sym is) (AreNumbered-set_value (is_whom whom) next old w sound.numbered numbered);
@@ -207,33 +216,37 @@ module _ (whom : Whom) (old new : Queues) where
       }
 
   -- a unit with the next number comes last
-  rising_after : (arrived : Arrived) → arrivals new ≡ arrivals old ++ arrival_for whom arrived ∷ [] → AreSound arrived.number old → IsRising (arrivals new)
-  rising_after arrived more sound =
-      subst IsRising (sym more) (IsRising-last (arrival_for whom arrived) (arrivals old) (AllBelow-arrivals arrived.number old sound.numbered) sound.apart)
+  rising_after : (puts : ℕ) (arrived : Arrived) → arrived.number ≡ first_number + puts → arrivals new ≡ arrivals old ++ arrival_for whom arrived ∷ [] → AreSound puts old → IsRising (arrivals new)
+  rising_after puts arrived is more sound =
+      subst IsRising (sym more) (IsRising-last (arrival_for whom arrived) (arrivals old) (subst (λ top. AllBelow top (arrivals old)) (sym is) (AllBelow-arrivals puts old sound.numbered)) sound.apart)
 
-  pub pushes : (q w : Queue) (arrived : Arrived) → lookup (is_whom whom) old ≡ Some q → new ≡ set_value (is_whom whom) old w → w.items ≡ q.items ++ arrived ∷ [] → AreSound arrived.number old → Pushes whom arrived old new
-  pushes q w arrived found is more sound =
-      let came : arrivals new ≡ arrivals old ++ arrival_for whom arrived ∷ [] =
-      ap arrivals is ∙ arrivals-push (is_whom whom) whom (λ k here. same_whom k whom here) arrived old q w sound.numbered found more in
+  one_more : (arrived : Arrived) → arrivals new ≡ arrivals old ++ arrival_for whom arrived ∷ [] → entries_in new ≡ entries_in old ++ (whom, arrived.unit) ∷ []
+  one_more arrived came = ap (map entry_of) came ∙ map-append entry_of (arrivals old) (arrival_for whom arrived ∷ [])
+
+  pub pushes : (q w : Queue) (arrived : Arrived) → lookup (is_whom whom) old ≡ Some q → new ≡ set_value (is_whom whom) old w → w.items ≡ q.items ++ arrived ∷ [] → Pushes whom arrived old new
+  pushes q w arrived found is more =
+      let came : (puts : ℕ) → arrived.number ≡ first_number + puts → AreSound puts old → arrivals new ≡ arrivals old ++ arrival_for whom arrived ∷ [] =
+      λ puts number sound. ap arrivals is ∙ arrivals-push (is_whom whom) puts whom (λ k here. same_whom k whom here) arrived old q w number sound.numbered found more in
       record {
-        units = ap (map entry_of) came ∙ map-append entry_of (arrivals old) (arrival_for whom arrived ∷ []);
-        sound = sound_after_set (arrived.number + 1) w is
-            (record { one_each = sound.one_each; numbered = AreNumbered-later arrived.number old sound.numbered; apart = sound.apart })
-            (subst (IsNumbered (arrived.number + 1)) (sym more) (IsNumbered-push q.items arrived (IsNumbered-found (is_whom whom) arrived.number old q sound.numbered found)))
-            (rising_after arrived came sound);
+        units = λ puts number sound. one_more arrived (came puts number sound);
+        sound = λ puts number sound. sound_after_set (puts + 1) w is
+            (record { one_each = sound.one_each; numbered = AreNumbered-more puts 1 old sound.numbered; apart = sound.apart })
+            (subst (IsNumbered (puts + 1)) (sym more) (IsNumbered-push puts q.items arrived number (IsNumbered-found (is_whom whom) puts old q sound.numbered found)))
+            (rising_after puts arrived number (came puts number sound) sound);
       }
 
-  pub pushes_new : (w : Queue) (arrived : Arrived) → new ≡ old ++ (whom, w) ∷ [] → IsDistinct is_whom (keys_of new) → w.items ≡ arrived ∷ [] → AreSound arrived.number old → Pushes whom arrived old new
-  pushes_new w arrived is one_each one sound =
-      let came : arrivals new ≡ arrivals old ++ arrival_for whom arrived ∷ [] = ap arrivals is ∙ arrivals-add_one whom arrived w old one sound.numbered in
+  pub pushes_new : (w : Queue) (arrived : Arrived) → new ≡ old ++ (whom, w) ∷ [] → IsDistinct is_whom (keys_of new) → w.items ≡ arrived ∷ [] → Pushes whom arrived old new
+  pushes_new w arrived is one_each one =
+      let came : (puts : ℕ) → arrived.number ≡ first_number + puts → AreSound puts old → arrivals new ≡ arrivals old ++ arrival_for whom arrived ∷ [] =
+      λ puts number sound. ap arrivals is ∙ arrivals-add_one puts whom arrived w old number one sound.numbered in
       record {
-        units = ap (map entry_of) came ∙ map-append entry_of (arrivals old) (arrival_for whom arrived ∷ []);
-        sound = record {
+        units = λ puts number sound. one_more arrived (came puts number sound);
+        sound = λ puts number sound. record {
           one_each = one_each;
           numbered =
-              subst (AreNumbered (arrived.number + 1)) (sym is)
-              (AreNumbered-add (arrived.number + 1) whom w old (subst (IsNumbered (arrived.number + 1)) (sym one) (omega arith, tt, tt)) (AreNumbered-later arrived.number old sound.numbered));
-          apart = rising_after arrived came sound;
+              subst (AreNumbered (puts + 1)) (sym is)
+              (AreNumbered-add (puts + 1) whom w old (subst (IsNumbered (puts + 1)) (sym one) (IsNumbered-one puts arrived number)) (AreNumbered-more puts 1 old sound.numbered));
+          apart = rising_after puts arrived number (came puts number sound) sound;
         };
       }
 
@@ -331,10 +344,19 @@ module _ (quota len next : ℕ) (reserved : Option Whom) (old new : Queues) (kep
   }
 
   -- a unit came where there was room for it
-  pub kept_pushed : (whom : Whom) (arrived : Arrived) → Pushes whom arrived old new → arrived.number ≡ next → length (entries_in old) < quota → AreKept quota (len + 1) (next + 1) None new
+  pub kept_pushed : (whom : Whom) (arrived : Arrived) → Pushes whom arrived old new → arrived.number ≡ first_number + next → length (entries_in old) < quota → AreKept quota (len + 1) (next + 1) None new
   kept_pushed whom arrived pushed number room = record {
-    sound = subst (λ n. AreSound (n + 1) new) number pushed.sound;
-    counted = ap (λ n. n + 1) kept.counted ∙ sym (ap length pushed.units ∙ length_push (entries_in old) (whom, arrived.unit));
+    sound = pushed.sound next number kept.sound;
+    counted = ap (λ n. n + 1) kept.counted ∙ sym (ap length (pushed.units next number kept.sound) ∙ length_push (entries_in old) (whom, arrived.unit));
+    within = omega (arith, kept.counted, room);
+    room = tt;
+  }
+
+  -- a unit came back where there was room for it
+  pub kept_put_back : (whom : Whom) (first before : ℕ) (unit : Msdu) → PutsBack whom first before unit old new → first + (before + 1) + next ≡ first_number → length (entries_in old) < quota → AreKept quota (len + 1) (next + (before + 1)) None new
+  kept_put_back whom first before unit put number room = record {
+    sound = put.sound next number kept.sound;
+    counted = ap (λ n. n + 1) kept.counted ∙ sym (ap length (put.units next number kept.sound) ∙ length-put_back whom before unit (entries_in old));
     within = omega (arith, kept.counted, room);
     room = tt;
   }

@@ -1,2 +1,3 @@
 pub mod Keep
+pub mod Returns
 pub mod Queues

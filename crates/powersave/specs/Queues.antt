@@ -1,5 +1,5 @@
 -- The queues of the units that are kept, one for each for whom units are kept, and the one list that they make.
-use Rattle.std.specs.Prelude.{ℕ, ◌≡◌, ◌+◌, ◌<◌, ◌≤◌, ◌++◌, Bool, List, [], ◌∷◌, length, map, nat_lt}
+use Rattle.std.specs.Prelude.{ℕ, ◌≡◌, ◌+◌, ◌^◌, ◌<◌, ◌≤◌, ◌++◌, Bool, List, [], ◌∷◌, length, map, nat_lt, take, drop}
 use Rattle.std.specs.Prelude.{Option, Some, None}
 use Rattle.std.specs.Prelude.{unwrap_or, if◌then◌else◌}
 use Rattle.std.specs.List.{AllByRecursion, IsDistinct, slice_get}
@@ -13,6 +13,7 @@ use Rattle.powersave.specs.declared.unit.Unit.{Unit as Msdu}
 use Rattle.powersave.specs.declared.unit.Oldest.{Oldest}
 use Rattle.powersave.specs.declared.queues.Arrived.{Arrived}
 use Rattle.powersave.specs.Keep.{Entry, is_same, units_for, without_all, without_oldest, room_beside}
+use Rattle.powersave.specs.Returns.{put_back}
 
 abbrev pub Queue : Type 0
 Queue = VecDeque Arrived Global
@@ -72,14 +73,19 @@ entries_in queues = map (λ a. a.1) (arrivals queues)
 
 -- ---- what the queues keep
 
--- the numbers of a queue rise, and are below that of the next unit that comes
+-- the number of the first unit: half of all numbers are below it, for units that are put in front of all others
+abbrev pub first_number : ℕ
+first_number = 2 ^ 62
+
+-- the numbers of a queue rise; where as many units were put as this, they are no further from the first one
 abbrev pub IsNumbered : ℕ → List Arrived → Type 0
-IsNumbered next [] = Unit {0}
-IsNumbered next (a ∷ queue) =
-    (a.number < next) × AllByRecursion (λ b. a.number < b.number) queue × IsNumbered next queue
+IsNumbered puts [] = Unit {0}
+IsNumbered puts (a ∷ queue) =
+    (a.number < first_number + puts) × AllByRecursion (λ b. a.number < b.number) queue × IsNumbered puts queue
+    × (first_number ≤ a.number + puts)
 
 abbrev pub AreNumbered : ℕ → Queues → Type 0
-AreNumbered next queues = AllByRecursion (λ q. IsNumbered next q.1.items) queues
+AreNumbered puts queues = AllByRecursion (λ q. IsNumbered puts q.1.items) queues
 
 -- the numbers rise, so that no two units have the same
 abbrev pub IsRising : List Arrival → Type 0
@@ -87,9 +93,9 @@ IsRising [] = Unit {0}
 IsRising (a ∷ bs) = AllByRecursion (λ b. a.0 < b.0) bs × IsRising bs
 
 -- no two are for one, and no two units have the same number, be it in one queue or in two
-pub record AreSound (next : ℕ) (queues : Queues) : Type 0 where
+pub record AreSound (puts : ℕ) (queues : Queues) : Type 0 where
   pub one_each : IsDistinct is_whom (keys_of queues)
-  pub numbered : AreNumbered next queues
+  pub numbered : AreNumbered puts queues
   pub apart : IsRising (arrivals queues)
 
 -- the one for whom room is reserved, if for any, has a queue with room for one unit more
@@ -97,9 +103,9 @@ abbrev pub HasRoom : Option Whom → Queues → Type 0
 HasRoom None queues = Unit {0}
 HasRoom (Some whom) queues = IsSomeAnd (lookup (is_whom whom) queues) (λ q. q.len < q.cap)
 
--- what the list keeps: how many units there may be and are, the next unit's number, and for whom there is room
-pub record AreKept (quota len next : ℕ) (reserved : Option Whom) (queues : Queues) : Type 0 where
-  pub sound : AreSound next queues
+-- what the list keeps: how many units there may be and are, how many were put, and for whom there is room
+pub record AreKept (quota len puts : ℕ) (reserved : Option Whom) (queues : Queues) : Type 0 where
+  pub sound : AreSound puts queues
   pub counted : len ≡ length (entries_in queues)
   pub within : len ≤ quota
   pub room : HasRoom reserved queues
@@ -108,9 +114,9 @@ pub record AreKept (quota len next : ℕ) (reserved : Option Whom) (queues : Que
 
 -- the oldest unit for one is gone
 pub record Pops (whom : Whom) (old : Queues) (taken : Option Msdu) (new : Queues) : Type 0 where
-  pub unit : (next : ℕ) → AreSound next old → taken ≡ slice_get (units_for whom (entries_in old)) 0
-  pub rest : (next : ℕ) → AreSound next old → entries_in new ≡ without_oldest whom (entries_in old)
-  pub sound : (next : ℕ) → AreSound next old → AreSound next new
+  pub unit : (puts : ℕ) → AreSound puts old → taken ≡ slice_get (units_for whom (entries_in old)) 0
+  pub rest : (puts : ℕ) → AreSound puts old → entries_in new ≡ without_oldest whom (entries_in old)
+  pub sound : (puts : ℕ) → AreSound puts old → AreSound puts new
   pub room : (reserved : Option Whom) → HasRoom reserved old → HasRoom (room_beside whom reserved) new
 
 -- the oldest unit for one is gone as a frame, which tells whether others follow
@@ -127,18 +133,49 @@ Sends whom bss sequence old (Some sent) new = (unit : Msdu) × SendsOne whom bss
 
 -- all units for one are gone, as many as are told
 pub record Removes (whom : Whom) (old : Queues) (removed : ℕ) (new : Queues) : Type 0 where
-  pub count : (next : ℕ) → AreSound next old → removed ≡ length (units_for whom (entries_in old))
-  pub rest : (next : ℕ) → AreSound next old → entries_in new ≡ without_all whom (entries_in old)
-  pub sound : (next : ℕ) → AreSound next old → AreSound next new
+  pub count : (puts : ℕ) → AreSound puts old → removed ≡ length (units_for whom (entries_in old))
+  pub rest : (puts : ℕ) → AreSound puts old → entries_in new ≡ without_all whom (entries_in old)
+  pub sound : (puts : ℕ) → AreSound puts old → AreSound puts new
   pub room : (reserved : Option Whom) → HasRoom reserved old → HasRoom (room_beside whom reserved) new
 
 -- the units stay, and so does the room that there was
 pub record MakesRoom (old new : Queues) : Type 0 where
   pub units : entries_in new ≡ entries_in old
-  pub sound : (next : ℕ) → AreSound next old → AreSound next new
+  pub sound : (puts : ℕ) → AreSound puts old → AreSound puts new
   pub room : (reserved : Option Whom) → HasRoom reserved old → HasRoom reserved new
 
--- a unit for one came, the last of all
+-- a unit for one came, the last of all, with the number of the next one
 pub record Pushes (whom : Whom) (arrived : Arrived) (old new : Queues) : Type 0 where
-  pub units : entries_in new ≡ entries_in old ++ (whom, arrived.unit) ∷ []
-  pub sound : AreSound (arrived.number + 1) new
+  pub units : (puts : ℕ) → arrived.number ≡ first_number + puts → AreSound puts old
+      → entries_in new ≡ entries_in old ++ (whom, arrived.unit) ∷ []
+  pub sound : (puts : ℕ) → arrived.number ≡ first_number + puts → AreSound puts old → AreSound (puts + 1) new
+
+-- ---- a unit that comes back
+
+-- units with numbers, one after the other, from this one on
+abbrev pub numbered_from : ℕ → List Msdu → List Arrived
+numbered_from n [] = []
+numbered_from n (u ∷ us) = (record { number = n; unit = u }) ∷ numbered_from (n + 1) us
+
+-- the units of a queue
+abbrev pub units_of : List Arrived → List Msdu
+units_of queue = map (λ a. a.unit) queue
+
+-- a queue with one more unit behind the first ones, where these and it have new numbers from this one on
+abbrev pub queue_with : ℕ → (before : ℕ) → Msdu → List Arrived → List Arrived
+queue_with first before unit queue =
+    numbered_from first (units_of (take before queue) ++ unit ∷ []) ++ drop before queue
+
+-- a unit for one came back behind the first ones for it; they and it have the numbers below all others
+pub record PutsBack (whom : Whom) (first before : ℕ) (unit : Msdu) (old new : Queues) : Type 0 where
+  pub units : (puts : ℕ) → first + (before + 1) + puts ≡ first_number → AreSound puts old
+      → entries_in new ≡ put_back whom before unit (entries_in old)
+  pub sound : (puts : ℕ) → first + (before + 1) + puts ≡ first_number → AreSound puts old
+      → AreSound (puts + (before + 1)) new
+
+-- ---- a queue that is handed over
+
+-- the units of one are gone, and were these
+pub record Takes (whom : Whom) (old : Queues) (taken : List Arrived) (new : Queues) : Type 0 where
+  pub units : (puts : ℕ) → AreSound puts old → units_of taken ≡ units_for whom (entries_in old)
+  pub gone : Removes whom old (length taken) new

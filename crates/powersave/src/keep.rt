@@ -1,15 +1,17 @@
 //! The units that are kept (IEEE Std 802.11-2016, 11.2.3): one list in order of arrival, made of a queue for each whom.
 
-ghost use Rattle.std.specs.Prelude.{◌≡◌, ◌≢◌, ◌<◌, ◌≤◌, ◌+◌, ◌^◌, ◌++◌, ◌↔◌, ℕ, List, [], ◌∷◌, length, drop, slice_get};
+ghost use Rattle.std.specs.Prelude.{◌≡◌, ◌≢◌, ◌<◌, ◌≤◌, ◌+◌, ◌^◌, ◌++◌, ◌↔◌, ℕ, List, [], ◌∷◌, length, drop, take, slice_get};
 ghost use Rattle.std.specs.Prelude.{filter, not, nat_lt, IsTrue, Some, None, IfSome, IfNone, IfOk, OnOk, OnErr, IsOk};
 ghost use Rattle.std.specs.Option.{option_copied};
 ghost use Rattle.powersave.specs.declared.unit.Whom.{Whom};
 ghost use Rattle.powersave.specs.declared.unit.Unit.{Unit as Msdu};
 ghost use Rattle.powersave.specs.Keep.{Entry, units_for, without_oldest, without_all, room_beside, first_frame};
+ghost use Rattle.powersave.specs.Returns.{put_back};
 ghost use Rattle.powersave.specs.Keep.{is_older, without_older, first_is_older, CameInOrder, AreOldest, AreToldOnce};
 
-use crate::queues::{Arrived, Queues};
+use crate::queues::{Arrived, FIRST_NUMBER, Queues};
 use crate::unit::{Oldest, Unit, Whom};
+use crate::unit_queue::UnitQueue;
 use mac_frame::{MacAddr, NoMemory, Octets};
 use std::alloc::Global;
 use std::marker::Model;
@@ -80,7 +82,8 @@ impl Keep {
         self.len >= self.quota as usize
     }
 
-    /// The number of units that were put since the list was new: of calls of [`put`](Keep::put) that answered `Ok`.
+    /// The number of units that were put since the list was new: one by each call of [`put`](Keep::put) that answered
+    /// `Ok`, and `before` and one more by each of [`put_back`](Keep::put_back).
     pub fn puts(&self) -> u64
         ensures { result ≡ self.now.puts }
     {
@@ -157,6 +160,21 @@ impl Keep {
     {
         self.reserved = room_beside(self.reserved, &whom);
         self.len -= self.queues.remove(&whom);
+    }
+
+    /// Takes out all units for `whom`, and hands them over as they are kept: none is moved or copied. The others stay in
+    /// their order. A reservation for `whom` ends.
+    pub fn take_for(&mut self, whom: Whom) -> UnitQueue
+        ensures units { result ≡ units_for whom self.old.entries }
+        ensures after { self.new ≡ record self.old {
+          entries = without_all whom self.old.entries;
+          reserved = room_beside whom self.old.reserved;
+        } }
+    {
+        self.reserved = room_beside(self.reserved, &whom);
+        let queue = self.queues.take(&whom);
+        self.len -= queue.len();
+        UnitQueue::new(queue)
     }
 
     /// Takes out the units for `whom` that came before the clock `limit`, and answers how many these were. The caller
@@ -246,12 +264,36 @@ impl Keep {
         ensures room { self.old.reserved ≡ Some whom → IsOk result }
     {
         let arrived = Arrived {
-            number: self.puts,
+            number: FIRST_NUMBER + self.puts,
             unit,
         };
         self.queues.push(&whom, arrived)?;
         self.len += 1;
         self.puts += 1;
+        self.reserved = None;
+        Ok(())
+    }
+
+    /// Puts a unit for `whom` back behind the first `before` units for `whom`, or last among these if there are fewer.
+    /// They and the unit stand in front of the units for others, which stay in their order (*profile*). The list is not
+    /// full, and there are numbers for so many arrivals. It needs no memory if room is reserved for `whom`. A
+    /// reservation, whoever it is for, ends. After `NoMemory` all is as it was, and the unit is dropped.
+    pub fn put_back(&mut self, whom: Whom, before: usize, unit: Unit) -> Result<(), NoMemory>
+        requires not_full { length self.old.entries < self.old.quota }
+        requires countable { self.old.puts + before < 2 ^ 62 }
+        ensures ok { OnOk result (self.new ≡ record self.old {
+          entries = put_back whom before unit self.old.entries;
+          reserved = None;
+          puts = self.old.puts + (before + 1);
+        }) }
+        ensures err { OnErr result (self.new ≡ self.old) }
+        ensures room { self.old.reserved ≡ Some whom → IsOk result }
+    {
+        let in_front = before as u64 + 1;
+        let first = FIRST_NUMBER - self.puts - in_front;
+        self.queues.put_back(&whom, before, first, unit)?;
+        self.len += 1;
+        self.puts += in_front;
         self.reserved = None;
         Ok(())
     }
@@ -305,4 +347,15 @@ pub fn parts_stay()
     ensures others_older { (whom other : Whom) (limit : ℕ) (es : List Entry) → whom ≢ other
         → units_for other (without_older whom limit es) ≡ units_for other es }
     ensures others_room { (whom other : Whom) → whom ≢ other → room_beside whom (Some other) ≡ Some other }
+{}
+
+/// A unit that comes back stands behind as many of the units for its receiver as are told, or last if there are fewer.
+/// The units for any other station and for the group stay as they were (*profile*).
+pub fn returns_in_its_place()
+    ensures place { (whom : Whom) (before : ℕ) (unit : Msdu) (es : List Entry) → units_for whom (put_back whom before unit es)
+        ≡ take before (units_for whom es) ++ unit ∷ drop before (units_for whom es) }
+    ensures others { (whom other : Whom) (before : ℕ) (unit : Msdu) (es : List Entry) → whom ≢ other
+        → units_for other (put_back whom before unit es) ≡ units_for other es }
+    ensures count { (whom : Whom) (before : ℕ) (unit : Msdu) (es : List Entry) → length (put_back whom before unit es)
+        ≡ length es + 1 }
 {}

@@ -28,6 +28,8 @@
 mod keep;
 mod queues;
 mod unit;
+mod unit_queue;
 
-pub use keep::{Keep, parts_stay};
+pub use keep::{Keep, parts_stay, returns_in_its_place};
 pub use unit::{Oldest, Unit, Whom};
+pub use unit_queue::UnitQueue;

@@ -1,11 +1,13 @@
 //! The queues that a [`Keep`](crate::Keep) is made of: one for each for whom units are kept, found without a walk over
 //! the others.
 
-ghost use Rattle.std.specs.Prelude.{◌≡◌, ◌≤◌, ◌<◌, ◌++◌, [], length, IfOk, OnOk, OnErr, IsOk, Some, None};
+ghost use Rattle.std.specs.Prelude.{◌≡◌, ◌≤◌, ◌<◌, ◌+◌, ◌++◌, [], length, IfOk, OnOk, OnErr, IsOk, Some, None};
+ghost use Rattle.std.specs.Prelude.{take, drop};
 ghost use Rattle.std.specs.Option.{option_map, option_copied};
 ghost use Rattle.mac_frame.specs.Data.{data_header};
-ghost use Rattle.powersave.specs.Queues.{queue_for, unit_at, oldest_in, HasRoom, AreSound};
+ghost use Rattle.powersave.specs.Queues.{queue_for, unit_at, oldest_in, HasRoom};
 ghost use Rattle.powersave.specs.Queues.{Pops, Sends, Removes, MakesRoom, Pushes};
+ghost use Rattle.powersave.specs.Queues.{PutsBack, Takes, queue_with, numbered_from, units_of};
 
 use crate::unit::{Oldest, Unit, Whom};
 use address_hash::AddressHashes;
@@ -14,7 +16,10 @@ use mac_frame::{HEADER_LEN, MacAddr, NoMemory, Octets, write_msdu};
 use std::alloc::Global;
 use std::collections::VecDeque;
 
-/// A unit, and the number of its arrival: how many were put before it.
+/// The number of the first unit. Half of all numbers are below it, for units that are put in front of all others.
+pub(crate) const FIRST_NUMBER: u64 = 1 << 62;
+
+/// A unit, and the number of its arrival, by which the units of all queues stand in one order.
 #[derive(Debug, Drop)]
 pub(crate) struct Arrived {
     pub(crate) number: u64,
@@ -118,9 +123,16 @@ impl Queues {
     pub(crate) fn remove(&mut self, whom: &Whom) -> usize
         ensures { Removes whom.now self.old.map.entries result self.new.map.entries }
     {
+        self.take(whom).len()
+    }
+
+    /// Takes out the queue for `whom` as it stands. The last queue takes its place, and the others stay where they are.
+    pub(crate) fn take(&mut self, whom: &Whom) -> VecDeque<Arrived>
+        ensures { Takes whom.now self.old.map.entries result.items self.new.map.entries }
+    {
         match self.map.swap_remove(whom) {
-            Some(queue) => queue.len(),
-            None => 0,
+            Some(queue) => queue,
+            None => VecDeque::new(self.alloc),
         }
     }
 
@@ -142,7 +154,6 @@ impl Queues {
     /// Puts a unit last into the queue for `whom`, which is made if there is none. It needs no memory if the
     /// queue has room. After `NoMemory` the units are as they were, and this one is dropped.
     pub(crate) fn push(&mut self, whom: &Whom, arrived: Arrived) -> Result<(), NoMemory>
-        requires sound { AreSound arrived.number self.old.map.entries }
         ensures ok { OnOk result (Pushes whom.now arrived self.old.map.entries self.new.map.entries) }
         ensures err { OnErr result (MakesRoom self.old.map.entries self.new.map.entries) }
         ensures room { HasRoom (Some whom.now) self.old.map.entries → IsOk result }
@@ -156,6 +167,66 @@ impl Queues {
         self.map.insert(*whom, fresh)?;
         Ok(())
     }
+
+    /// Puts a unit into the queue for `whom`, which is made if there is none, behind the first `before` units of it, or
+    /// last if it has fewer. These and the unit have the numbers from `first` on then. It needs no memory if the queue
+    /// has room. After `NoMemory` the units are as they were, and this one is dropped.
+    pub(crate) fn put_back(
+        &mut self,
+        whom: &Whom,
+        before: usize,
+        first: u64,
+        unit: Unit,
+    ) -> Result<(), NoMemory>
+        requires { first + before ≤ FIRST_NUMBER }
+        ensures ok { OnOk result
+            (PutsBack whom.now first before unit self.old.map.entries self.new.map.entries) }
+        ensures err { OnErr result (MakesRoom self.old.map.entries self.new.map.entries) }
+        ensures room { HasRoom (Some whom.now) self.old.map.entries → IsOk result }
+    {
+        if let Some(queue) = self.map.get_mut(whom) {
+            queue.reserve(1)?;
+            put_behind(queue, before, first, unit);
+            return Ok(());
+        }
+        let mut fresh = VecDeque::with_capacity(self.alloc, 1)?;
+        fresh.push_back_reserved(Arrived {
+            number: first,
+            unit,
+        });
+        self.map.insert(*whom, fresh)?;
+        Ok(())
+    }
+}
+
+/// Puts a unit behind the first `before` units of a queue, or last if it has fewer. These and the unit have the numbers
+/// from `first` on then. There is room for it.
+fn put_behind(queue: &mut VecDeque<Arrived>, before: usize, first: u64, unit: Unit)
+    requires countable { first + before ≤ FIRST_NUMBER }
+    requires room { queue.old.len < queue.old.cap }
+    ensures { queue.new.items ≡ queue_with first before unit queue.old.items }
+{
+    let ahead = before.min(queue.len());
+    for place in 0..ahead {
+        number_anew(queue, first + place as u64);
+    }
+    queue.push_back_reserved(Arrived {
+        number: first + ahead as u64,
+        unit,
+    });
+    // Those that have new numbers stand last.
+    queue.rotate_right(ahead + 1);
+}
+
+/// Moves the first unit of a queue to its end, with this number.
+fn number_anew(queue: &mut VecDeque<Arrived>, number: u64)
+    requires { 0 < length queue.old.items }
+    ensures items { queue.new.items ≡ drop 1 queue.old.items ++ numbered_from number (units_of (take 1 queue.old.items)) }
+    ensures len { queue.new.len ≡ queue.old.len }
+    ensures capacity { queue.new.cap ≡ queue.old.cap }
+{
+    let Arrived { number: _, unit } = queue.pop_front().unwrap();
+    queue.push_back_reserved(Arrived { number, unit });
 }
 
 /// The Data frame from the network `bss` that carries a unit, with More Data or without (9.3.2.1).

@@ -42,7 +42,6 @@ returns-in-Some-clause-ok c =
     (found_in whom map queue c.in-Some.ensures.value)
     ((c.get_mut.follows.holds more).0 ∙ ap (λ t. set_value t map.entries more) (is_at_whom whom))
     c.in_ok-push_back.ensures.items
-    c.requires.sound
 
 pub returns-in_err-fresh-clause-room : goal.returns-in_err-fresh-clause-room
 returns-in_err-fresh-clause-room c room =
@@ -64,4 +63,3 @@ returns-clause-ok c =
     ∙ insert_entry-new whom_eq map whom queue (sym c.in_default.ensures.value))
     (one_each new c.in_ok-insert.ensures.unique)
     (c.push_back_reserved.ensures.items ∙ ap (λ xs. xs ++ c.args.arrived ∷ []) c.in_ok-fresh.ensures.items)
-    c.requires.sound

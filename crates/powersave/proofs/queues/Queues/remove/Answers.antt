@@ -1,29 +1,9 @@
-use Rattle.std.proofs.Common.{length, sym, ap, ◌∙◌}
-use Rattle.indexmap.specs.IndexMap.{swap_remove_entry}
-use Rattle.powersave.proofs.QueueSteps.{queue_found, queue_missing, removes}
-use Rattle.powersave.proofs.Whoms.{is_at_whom, found_in, missing_in, one_each, stays_for}
+use Rattle.std.proofs.Common.{sym, ◌∙◌, subst}
+use Rattle.powersave.specs.Queues.{Removes}
 use Rattle.powersave.proofs.queues.Queues.remove.Goals as goal
 
-pub returns-in-Some : goal.returns-in-Some
-returns-in-Some c =
-    let whom = c.args.whom.now in
-    let map = c.args.self.now.map in
-    let new = c.swap_remove.new.self in
-    let queue = c.in-Some.queue in
-    let found = found_in whom map queue c.in-Some.ensures.value in
-    removes whom map.entries new.entries c.len.result
-    (c.in-Some.ensures.entries ∙ ap (λ t. swap_remove_entry t map.entries) (is_at_whom whom))
-    (one_each new c.in-Some.ensures.unique)
-    (λ other apart. stays_for whom other map.entries new.entries apart (c.in-Some.ensures.updates.2 other))
-    (c.len.ensures ∙ queue.ok.0 ∙ ap length (sym (queue_found whom map.entries queue found)))
-
-pub returns-in-None : goal.returns-in-None
-returns-in-None c =
-    let whom = c.args.whom.now in
-    let map = c.args.self.now.map in
-    let new = c.swap_remove.new.self in
-    removes whom map.entries new.entries 0
-    (c.in-None.ensures.entries ∙ ap (λ t. swap_remove_entry t map.entries) (is_at_whom whom))
-    (one_each new c.in-None.ensures.unique)
-    (λ other apart. stays_for whom other map.entries new.entries apart (c.in-None.ensures.updates.2 other))
-    (ap length (sym (queue_missing whom map.entries (missing_in whom map c.in-None.ensures.value))))
+pub returns : goal.returns
+returns c =
+    let old = c.args.self.now.map.entries in
+    let new = c.take.new.self.map.entries in
+    subst (λ n. Removes c.args.whom.now old n new) (sym (c.len.ensures ∙ c.take.result.ok.0)) c.take.ensures.gone
