@@ -1,3 +1,4 @@
 pub mod StationTables
 pub mod StationsSound
 pub mod StationStates
+pub mod Restored

@@ -54,7 +54,7 @@ append_assoc_of : (l : StationState) (p q : List ℕ) → identifier_of l ++ (p 
 append_assoc_of Authenticated p q = refl
 append_assoc_of (Associated aid listen doze) p q = refl
 
-identifiers-append : (s t : Table) → identifiers (s ++ t) ≡ identifiers s ++ identifiers t
+pub identifiers-append : (s t : Table) → identifiers (s ++ t) ≡ identifiers s ++ identifiers t
 identifiers-append [] t = refl
 identifiers-append (e ∷ s) t = ap (λ ns. identifier_of e.1 ++ ns) (identifiers-append s t) ∙ append_assoc_of e.1 (identifiers s) (identifiers t)
 

@@ -1,6 +1,7 @@
 //! What follows from the definitions of a table, for whoever stands on them.
 
 ghost use Rattle.stations.specs.Changes.{OthersStay, ModesAlone, IdentifiersDiffer, StaySound, LengthsAfter};
+ghost use Rattle.stations.specs.RestoredStations.{RestoredStaySound, RestoredAsItCame};
 
 use address_map::addresses_stay_apart;
 use aid_pool::least_is_free;
@@ -40,3 +41,13 @@ pub fn changes_stay_sound()
 pub fn lengths_after()
     ensures { LengthsAfter }
 {}
+
+/// A station that is restored leaves sound stations, too. It stands as after an authentication, an association that
+/// gives it its identifier, and a frame that shows its mode (9.4.1.8, 11.3).
+#[inline(always)]
+pub fn restored_stay_sound()
+    ensures sound { RestoredStaySound }
+    ensures same { RestoredAsItCame }
+{
+    addresses_stay_apart::<StationState>();
+}

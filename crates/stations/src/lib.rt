@@ -26,9 +26,14 @@
 #![tactic(auto)]
 
 mod laws;
+mod restoring;
 mod table;
 
-pub use laws::{changes_stay_sound, identifiers_differ, lengths_after, modes_alone, others_stay};
+pub use laws::{
+    changes_stay_sound, identifiers_differ, lengths_after, modes_alone, others_stay,
+    restored_stay_sound,
+};
+pub use restoring::RestoreFault;
 pub use table::{
     Change, Stations, aid_with, dozes_with, is_associated, listen_with, standing_with,
 };

@@ -1,12 +1,13 @@
 //! The stations that a network knows (IEEE Std 802.11-2016, 11.3.1).
 
 ghost use Rattle.std.specs.Prelude.{◌≡◌, ◌<◌, ◌≤◌, [], IsTrue, IsOk, OnOk, OnErr, IfSome, Some, None, option_map};
-ghost use Rattle.std.specs.Prelude.{length, slice_get, is_some, if◌then◌else◌};
+ghost use Rattle.std.specs.Prelude.{length, slice_get, is_some, if◌then◌else◌, false, nat_le, not, ◌&&◌};
 ghost use Rattle.tim.specs.Tim.{IsAid};
 ghost use Rattle.stations.specs.Stations.{with_table, state_of, standing_with, aid_of, aid_with, dozes_with};
 ghost use Rattle.stations.specs.Stations.{some_station_dozes, listen_with, may_associate, next_aid, is_associated};
 ghost use Rattle.stations.specs.Stations.{set_state, authenticate, associate, disassociate, forget, set_mode, with_mode};
-ghost use Rattle.stations.specs.Stations.{changed, IsAllowed, IsModeAlone};
+ghost use Rattle.stations.specs.Stations.{changed, IsAllowed, IsModeAlone, identifiers};
+ghost use Rattle.stations.specs.Restoring.{is_free, restored, state_fault};
 
 use address_map::AddressMap;
 use aid_pool::AidPool;
@@ -203,6 +204,39 @@ impl Stations {
             doze: false,
         };
         set_known(&mut self.states, addr, state);
+    }
+
+    /// Whether as many are associated as may be.
+    pub(crate) fn is_full(&self) -> bool
+        ensures { result ≡ nat_le self.now.most (length (identifiers self.now.table)) }
+    {
+        self.pool.least().is_none()
+    }
+
+    /// Whether a number is an identifier that no station has (9.4.1.8).
+    pub(crate) fn is_free(&self, aid: u16) -> bool
+        ensures { result ≡ is_free aid self.now.table }
+    {
+        aid >= 1 && aid <= MAX_AID && !self.pool.is_out(aid)
+    }
+
+    /// Puts an unknown station last, in a state that may be restored, and answers whether there was memory for it.
+    /// Nothing changes if there was none.
+    pub(crate) fn add(&mut self, addr: MacAddr, state: StationState) -> bool
+        requires unknown { state_of addr self.old.table ≡ None }
+        requires may { state_fault self.old.most state self.old.table ≡ None }
+        ensures ok { IsTrue result → self.new ≡ with_table self.old (restored addr state self.old.table) }
+        ensures err { result ≡ false → self.new ≡ self.old }
+    {
+        let Ok(_before) = self.states.insert(addr, state) else {
+            return false;
+        };
+        self.dozing += usize::from(dozes_with(Some(state)));
+        if let Some(aid) = aid_with(Some(state)) {
+            // It is free, and fewer are out than may be.
+            self.pool.take_this(aid);
+        }
+        true
     }
 
     /// Ends the association of a station, which is authenticated only from then on and whose identifier is free.
