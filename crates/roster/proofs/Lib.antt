@@ -6,3 +6,4 @@ pub mod RosterChanges
 pub mod Aging
 pub mod UnitsLeft
 pub mod SoonestClock
+pub mod Returned

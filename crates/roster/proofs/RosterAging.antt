@@ -14,6 +14,7 @@ use Rattle.powersave.specs.declared.unit.Unit.{Unit as DataUnit}
 use Rattle.roster.specs.Roster.{AreAmong, limit_for, stays}
 use Rattle.roster.specs.KeptUnits.{CameBy, is_too_old_for, is_too_old}
 use Rattle.stations.specs.Stations.{Table, state_of, listen_with}
+use Rattle.roster.proofs.Aging.{came-rest, came-first}
 
 -- ---- the same one
 
@@ -23,9 +24,12 @@ same_whom (One a) Group e = cc
 same_whom Group (One b) e = cc
 same_whom Group Group e = refl
 
-itself : (a : Whom) → is_same a a ≡ true
+pub itself : (a : Whom) → is_same a a ≡ true
 itself (One a) = (bytes_decides a a).1 refl
 itself Group = refl
+
+turned : (a b : Whom) → is_same a b ≡ true → is_same b a ≡ true
+turned a b here = subst (λ (w : Whom). is_same w a ≡ true) (same_whom a b here) (itself a)
 
 -- ---- too old is older than a clock
 
@@ -73,14 +77,14 @@ module _ (clock : ℕ) (t : Table) where
   FirstOf es e = IsSomeAnd (first_clock (units_for e.0 es)) (λ at. at ≤ e.1.at)
 
   -- the first for the same one came no later
-  one-more : (e : Entry) (es fs : List Entry) → AllByRecursion (λ later. e.1.at ≤ later.1.at) fs → AllByRecursion (FirstOf es) fs → AllByRecursion (FirstOf (e ∷ es)) fs
+  one-more : (e : Entry) (es fs : List Entry) → AllByRecursion (λ f. is_for e.0 f ≡ true → e.1.at ≤ f.1.at) fs → AllByRecursion (FirstOf es) fs → AllByRecursion (FirstOf (e ∷ es)) fs
   one-more e es [] order first = tt
   one-more e es (f ∷ fs) order first =
-      (cond_both (is_for f.0 e) _ _ (λ gs. IsSomeAnd (first_clock (map (λ x. x.1) gs)) (λ at. at ≤ f.1.at)) (λ _. order.0) (λ _. first.0), one-more e es fs order.1 first.1)
+      (cond_both (is_for f.0 e) _ _ (λ gs. IsSomeAnd (first_clock (map (λ x. x.1) gs)) (λ at. at ≤ f.1.at)) (λ here. order.0 (turned e.0 f.0 here)) (λ _. first.0), one-more e es fs order.1 first.1)
 
   pub firsts : (es : List Entry) → CameBy clock es → AllByRecursion (FirstOf es) es
   firsts [] came = tt
-  firsts (e ∷ es) came = (rw (itself e.0) (omega arith), one-more e es es came.1 (firsts es came.2))
+  firsts (e ∷ es) came = (rw (itself e.0) (omega arith), one-more e es es (came-first clock e es (itself e.0) came) (firsts es (came-rest clock e es came)))
 
   pub among-all : (os : List Oldest) (es : List Entry) → AreOldest os es → CameBy clock es → AreAmong clock t os es
   among-all os es told came = by es (firsts es came)

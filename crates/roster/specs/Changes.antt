@@ -1,9 +1,10 @@
 -- What stays of the units that are kept where some leave, one comes or a station changes: what follows from the
 -- definitions, as the laws of this crate say it.
-use Rattle.std.specs.Prelude.{ℕ, ◌≡◌, ◌≤◌, ◌+◌, Bool, true, false, nat_lt, List, [], ◌∷◌, ◌++◌, filter, length}
-use Rattle.std.specs.List.{list_any}
+use Rattle.std.specs.Prelude.{ℕ, ◌≡◌, ◌≤◌, ◌+◌, Bool, true, false, nat_lt, List, [], ◌∷◌, ◌++◌, filter, length, take, drop}
+use Rattle.std.specs.List.{AllByRecursion, list_any}
 use Rattle.std.specs.Str.{bytes_eq}
 use Rattle.powersave.specs.Keep.{Entry, is_for, units_for, without_all, without_first, without_oldest}
+use Rattle.powersave.specs.Returns.{put_back}
 use Rattle.powersave.specs.declared.unit.Unit.{Unit as DataUnit}
 use Rattle.powersave.specs.declared.unit.Whom.{Whom}
 use Rattle.powersave.specs.declared.unit.Whom.TheVariants.{One, Group}
@@ -37,6 +38,11 @@ pub record CameInTurn : Type 0 where
   pub one_came : (whom : Whom) (unit : DataUnit) (clock : ℕ) (kept : List Entry) → unit.at ≡ clock → CameBy clock kept
       → CameBy clock (kept ++ (whom, unit) ∷ [])
   pub later : (clock later : ℕ) (kept : List Entry) → clock ≤ later → CameBy clock kept → CameBy later kept
+  -- and where one came back that isn't older than those for its receiver before it, nor younger than those behind it
+  pub one_back : (whom : Whom) (before : ℕ) (unit : DataUnit) (clock : ℕ) (kept : List Entry) → unit.at ≤ clock
+      → AllByRecursion (λ earlier. earlier.at ≤ unit.at) (take before (units_for whom kept))
+      → AllByRecursion (λ later. unit.at ≤ later.at) (drop before (units_for whom kept))
+      → CameBy clock kept → CameBy clock (put_back whom before unit kept)
 
 -- how many units are kept
 pub record KeptCounts : Type 0 where

@@ -2,7 +2,7 @@
 -- some, and which are too old.
 use Rattle.std.specs.Prelude.{ℕ, ◌≡◌, ◌≤◌, ◌+◌, ◌==◌, nat_lt, Bool, true, false, ◌&&◌, List, [], ◌∷◌, Option}
 use Rattle.std.specs.List.{AllByRecursion, list_any}
-use Rattle.powersave.specs.Keep.{Entry, is_for}
+use Rattle.powersave.specs.Keep.{Entry, is_for, units_for, CameInOrder}
 use Rattle.powersave.specs.declared.unit.Whom.{Whom}
 use Rattle.powersave.specs.declared.unit.Whom.TheVariants.{One, Group}
 use Rattle.stations.specs.Stations.{Table, state_of, is_dozing, listen_with}
@@ -54,8 +54,8 @@ abbrev pub AreKeptFor : Table → List Entry → Type 0
 AreKeptFor stations [] = Unit {0}
 AreKeptFor stations (entry ∷ entries) = IsKeptFor stations entry.0 × AreKeptFor stations entries
 
--- units that came one after the other, and none after this clock (profile)
-abbrev pub CameBy : ℕ → List Entry → Type 0
-CameBy clock [] = Unit {0}
-CameBy clock (entry ∷ entries) =
-    (entry.1.at ≤ clock) × AllByRecursion (λ later. entry.1.at ≤ later.1.at) entries × CameBy clock entries
+-- units of which none came after this clock (profile)
+pub record CameBy (clock : ℕ) (entries : List Entry) : Type 0 where
+  -- those for one stand in the order in which they came; a unit that comes back may stand before later ones for others
+  pub in_order : (whom : Whom) → CameInOrder (units_for whom entries)
+  pub by : AllByRecursion (λ entry. entry.1.at ≤ clock) entries

@@ -2,6 +2,7 @@
 
 ghost use Rattle.roster.specs.Changes.{KeptForDozing, CameInTurn, KeptCounts, GroupStays, ModesKeepIdentifiers};
 
+use powersave::returns_in_its_place;
 use stations::modes_alone;
 
 /// Units that are kept for stations that doze are so still if those of a station that changes leave, if others
@@ -11,11 +12,14 @@ pub fn kept_for_dozing()
     ensures { KeptForDozing }
 {}
 
-/// Units that stand as they came do so still if some leave, and if one comes last (*profile*).
+/// Units that stand as they came do so still if some leave, if one comes last, and if one comes back to its place
+/// (*profile*).
 #[inline(always)]
 pub fn came_in_turn()
     ensures { CameInTurn }
-{}
+{
+    returns_in_its_place();
+}
 
 /// How many units are kept if some leave, and how many for one (*profile*).
 #[inline(always)]

@@ -13,6 +13,7 @@ ghost use Rattle.roster.specs.KeptUnits.{CameBy};
 ghost use Rattle.stations.specs.Stations.{with_table, changed, IsAllowed, IsModeAlone};
 
 mod aging;
+mod returning;
 
 use crate::aging_clocks::AgingClocks;
 use crate::keeping::{Arriving, Keeping, Leaving};
@@ -395,7 +396,7 @@ fn clear_bit(traffic: &mut Bitmap, aid: Option<u16>)
 }
 
 /// Sets the bit of an identifier, if there is one.
-fn set_bit(traffic: &mut Bitmap, aid: Option<u16>)
+pub(crate) fn set_bit(traffic: &mut Bitmap, aid: Option<u16>)
     requires { IfSome aid IsAid }
     ensures { (n : ℕ) → set.contains traffic.new n ≡ (is_number aid n || set.contains traffic.old n) }
 {
