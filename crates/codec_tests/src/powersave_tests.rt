@@ -73,7 +73,7 @@ fn put_back(
     before: u8,
     at: u32,
 ) -> Result<(), NoMemory> {
-    assert!(rt; !keep.is_full() && keep.puts() < 1000);
+    assert!(rt; !keep.is_full() && keep.in_front() < 1000);
     keep.put_back(whom, usize::from(before), unit(alloc, at))
 }
 
@@ -100,7 +100,7 @@ fn a_unit_comes_back_to_its_place(rt: HostRuntime) -> Result<(), Fail> {
     }
     assert_eq!(rt; clock_at(&keep, Whom::Group, 0), Some(2));
     assert_eq!(rt; clock_at(&keep, Whom::Group, 1), Some(7));
-    assert!(rt; keep.len() == 8 && keep.puts() == 210);
+    assert!(rt; keep.len() == 8 && keep.puts() == 4 && keep.in_front() == 206);
     Ok(())
 }
 

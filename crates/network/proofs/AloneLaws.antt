@@ -65,7 +65,7 @@ empty-sound s = record {
   stations = record { addresses = tt; aids = tt; associated = omega arith };
   known = omega arith;
   kept = tt;
-  came = tt;
+  came = record { in_order = λ whom. tt; by = tt };
   sizes = tt;
   quota = omega arith;
   sequence = omega arith;

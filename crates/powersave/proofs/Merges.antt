@@ -12,7 +12,7 @@ use Rattle.powersave.specs.declared.unit.Whom.{Whom}
 use Rattle.powersave.specs.declared.unit.Unit.{Unit as Msdu}
 use Rattle.powersave.specs.declared.queues.Arrived.{Arrived}
 use Rattle.powersave.specs.Keep.{without_first}
-use Rattle.powersave.specs.Queues.{Queue, Queues, Arrival, arrival_for, put_in_order, merged, arrivals, first_number, IsNumbered, AreNumbered, IsRising}
+use Rattle.powersave.specs.Queues.{Queue, Queues, Arrival, arrival_for, put_in_order, merged, arrivals, first_number, Numbers, IsNumbered, AreNumbered, IsRising}
 use Rattle.powersave.proofs.Swaps.{swap_removed}
 use Rattle.powersave.proofs.Arrivals.{AllAbove, AllBelow, IsInOrder, Differ, put-put, differ_before_put, IsRising-before_put, IsRising-filter, AllBelow-put, IsInOrder-put, put_last, put_before_last, filter-put_failing, filter-put_earliest, without_first-put_earliest, filter-put, without_first-put, without_first-none}
 
@@ -34,16 +34,16 @@ units-queue : (k : Whom) (queue : List Arrived) → map unit_of (map (arrival_fo
 units-queue k [] = refl
 units-queue k (a ∷ queue) = ap (λ us. a.unit ∷ us) (units-queue k queue)
 
-AllBelow-merged : (n : ℕ) (k : Whom) (queue : List Arrived) (others : List Arrival) → IsNumbered n queue → AllBelow (first_number + n) others → AllBelow (first_number + n) (merged k queue others)
+AllBelow-merged : (n : Numbers) (k : Whom) (queue : List Arrived) (others : List Arrival) → IsNumbered n queue → AllBelow (first_number + n.last) others → AllBelow (first_number + n.last) (merged k queue others)
 AllBelow-merged n k [] others numbered below = below
-AllBelow-merged n k (a ∷ queue) others numbered below = AllBelow-put (first_number + n) (arrival_for k a) (merged k queue others) numbered.0 (AllBelow-merged n k queue others numbered.2 below)
+AllBelow-merged n k (a ∷ queue) others numbered below = AllBelow-put (first_number + n.last) (arrival_for k a) (merged k queue others) numbered.0 (AllBelow-merged n k queue others numbered.2 below)
 
 IsInOrder-merged : (k : Whom) (queue : List Arrived) (others : List Arrival) → IsInOrder others → IsInOrder (merged k queue others)
 IsInOrder-merged k [] others order = order
 IsInOrder-merged k (a ∷ queue) others order = IsInOrder-put (arrival_for k a) (merged k queue others) (IsInOrder-merged k queue others order)
 
 -- one more unit, which came after all
-merged-push : (n : ℕ) (k : Whom) (queue : List Arrived) (last : Arrived) (others : List Arrival) → last.number ≡ first_number + n → IsNumbered n queue → AllBelow last.number others → merged k (queue ++ last ∷ []) others ≡ merged k queue others ++ arrival_for k last ∷ []
+merged-push : (n : Numbers) (k : Whom) (queue : List Arrived) (last : Arrived) (others : List Arrival) → last.number ≡ first_number + n.last → IsNumbered n queue → AllBelow last.number others → merged k (queue ++ last ∷ []) others ≡ merged k queue others ++ arrival_for k last ∷ []
 merged-push n k [] last others is numbered below = put_last (arrival_for k last) others below
 merged-push n k (a ∷ queue) last others is numbered below =
     let here = numbered.0 in
@@ -51,7 +51,7 @@ merged-push n k (a ∷ queue) last others is numbered below =
     ∙ put_before_last (arrival_for k a) (arrival_for k last) (merged k queue others) (omega (arith, is, here))
 
 -- the same, where it is for another
-merged-before_last : (n : ℕ) (k : Whom) (queue : List Arrived) (last : Arrival) (others : List Arrival) → last.0 ≡ first_number + n → IsNumbered n queue → merged k queue (others ++ last ∷ []) ≡ merged k queue others ++ last ∷ []
+merged-before_last : (n : Numbers) (k : Whom) (queue : List Arrived) (last : Arrival) (others : List Arrival) → last.0 ≡ first_number + n.last → IsNumbered n queue → merged k queue (others ++ last ∷ []) ≡ merged k queue others ++ last ∷ []
 merged-before_last n k [] last others is numbered = refl
 merged-before_last n k (a ∷ queue) last others is numbered =
     let here = numbered.0 in
@@ -102,14 +102,14 @@ module _ (t : Whom → Bool) where
       ∙ ap (put_in_order (arrival_for k a)) (filter-merged_passing k queue others here order)
 
   -- the queue of the only one that passes
-  filter-merged_only : (n : ℕ) (k : Whom) (queue : List Arrived) (others : List Arrival) → t k ≡ true → IsNumbered n queue → filter (passes t) others ≡ [] → filter (passes t) (merged k queue others) ≡ map (arrival_for k) queue
+  filter-merged_only : (n : Numbers) (k : Whom) (queue : List Arrived) (others : List Arrival) → t k ≡ true → IsNumbered n queue → filter (passes t) others ≡ [] → filter (passes t) (merged k queue others) ≡ map (arrival_for k) queue
   filter-merged_only n k [] others here numbered none = none
   filter-merged_only n k (a ∷ queue) others here numbered none =
       let later = filter-merged_only n k queue others here numbered.2 none in
       filter-put_earliest (passes t) (arrival_for k a) (merged k queue others) here (subst (AllAbove a.number) (sym later) (AllAbove-queue a.number k queue numbered.1))
       ∙ ap (λ es. arrival_for k a ∷ es) later
 
-  pub without_first-merged_only : (n : ℕ) (k : Whom) (queue : List Arrived) (others : List Arrival) → t k ≡ true → IsNumbered n queue → filter (passes t) others ≡ [] → without_first (passes t) (merged k queue others) ≡ merged k (drop 1 queue) others
+  pub without_first-merged_only : (n : Numbers) (k : Whom) (queue : List Arrived) (others : List Arrival) → t k ≡ true → IsNumbered n queue → filter (passes t) others ≡ [] → without_first (passes t) (merged k queue others) ≡ merged k (drop 1 queue) others
   without_first-merged_only n k [] others here numbered none = without_first-none (passes t) others none
   without_first-merged_only n k (a ∷ queue) others here numbered none =
       let later = filter-merged_only n k queue others here numbered.2 none in
@@ -117,7 +117,7 @@ module _ (t : Whom → Bool) where
 
 -- ---- all queues
 
-pub AllBelow-arrivals : (n : ℕ) (queues : Queues) → AreNumbered n queues → AllBelow (first_number + n) (arrivals queues)
+pub AllBelow-arrivals : (n : Numbers) (queues : Queues) → AreNumbered n queues → AllBelow (first_number + n.last) (arrivals queues)
 AllBelow-arrivals n [] numbered = tt
 AllBelow-arrivals n (q ∷ queues) numbered = AllBelow-merged n q.0 q.1.items (arrivals queues) numbered.0 (AllBelow-arrivals n queues numbered.1)
 
@@ -131,7 +131,7 @@ arrivals-add_empty whom w [] empty = ap (λ queue. merged whom queue []) empty
 arrivals-add_empty whom w (e ∷ es) empty = ap (merged e.0 e.1.items) (arrivals-add_empty whom w es empty)
 
 -- a queue of one unit, which came after all
-pub arrivals-add_one : (n : ℕ) (whom : Whom) (last : Arrived) (w : Queue) (queues : Queues) → last.number ≡ first_number + n → w.items ≡ last ∷ [] → AreNumbered n queues → arrivals (queues ++ (whom, w) ∷ []) ≡ arrivals queues ++ arrival_for whom last ∷ []
+pub arrivals-add_one : (n : Numbers) (whom : Whom) (last : Arrived) (w : Queue) (queues : Queues) → last.number ≡ first_number + n.last → w.items ≡ last ∷ [] → AreNumbered n queues → arrivals (queues ++ (whom, w) ∷ []) ≡ arrivals queues ++ arrival_for whom last ∷ []
 arrivals-add_one n whom last w [] is one numbered = ap (λ queue. merged whom queue []) one
 arrivals-add_one n whom last w (e ∷ es) is one numbered =
     ap (merged e.0 e.1.items) (arrivals-add_one n whom last w es is one numbered.1)
@@ -166,7 +166,7 @@ module _ (t : Whom → Bool) where
       ∙ ap (merged q.0 q.1.items) (filter-arrivals_others queues none.1)
 
   -- the units for one that passes are those of its queue, in its order
-  pub units-arrivals : (n : ℕ) (queues : Queues) → AreNumbered n queues → IsOnce queues → map unit_of (filter (passes t) (arrivals queues)) ≡ map (λ a. a.unit) (unwrap_or (option_map (λ q. q.items) (lookup t queues)) [])
+  pub units-arrivals : (n : Numbers) (queues : Queues) → AreNumbered n queues → IsOnce queues → map unit_of (filter (passes t) (arrivals queues)) ≡ map (λ a. a.unit) (unwrap_or (option_map (λ q. q.items) (lookup t queues)) [])
   units-arrivals n [] numbered once = refl
   units-arrivals n (e ∷ es) numbered once = elim (cases_Bool (t e.0)) [
     | inl here ↦ rw here (ap (map unit_of) (filter-merged_only t n e.0 e.1.items (arrivals es) here numbered.0 (filter-arrivals_none es (once.0 here))) ∙ units-queue e.0 e.1.items)
@@ -174,7 +174,7 @@ module _ (t : Whom → Bool) where
   ]
 
   -- a queue that has lost its first unit
-  pub arrivals-pop : (n : ℕ) (queues : Queues) (q w : Queue) → AreNumbered n queues → IsOnce queues → lookup t queues ≡ Some q → w.items ≡ drop 1 q.items → arrivals (set_value t queues w) ≡ without_first (passes t) (arrivals queues)
+  pub arrivals-pop : (n : Numbers) (queues : Queues) (q w : Queue) → AreNumbered n queues → IsOnce queues → lookup t queues ≡ Some q → w.items ≡ drop 1 q.items → arrivals (set_value t queues w) ≡ without_first (passes t) (arrivals queues)
   arrivals-pop n [] q w numbered once found left = refl
   arrivals-pop n (e ∷ es) q w numbered once found left = elim (cases_Bool (t e.0)) [
     | inl here ↦
@@ -212,7 +212,7 @@ module _ (t : Whom → Bool) where
   arrivals-set_same (e ∷ es) q w found same = grind (arith, found, same, arrivals-set_same es q w)
 
   -- a queue with one unit more, which came after all
-  pub arrivals-push : (n : ℕ) (whom : Whom) → ((k : Whom) → t k ≡ true → k ≡ whom) → (last : Arrived) (queues : Queues) (q w : Queue) → last.number ≡ first_number + n → AreNumbered n queues → lookup t queues ≡ Some q → w.items ≡ q.items ++ last ∷ [] → arrivals (set_value t queues w) ≡ arrivals queues ++ arrival_for whom last ∷ []
+  pub arrivals-push : (n : Numbers) (whom : Whom) → ((k : Whom) → t k ≡ true → k ≡ whom) → (last : Arrived) (queues : Queues) (q w : Queue) → last.number ≡ first_number + n.last → AreNumbered n queues → lookup t queues ≡ Some q → w.items ≡ q.items ++ last ∷ [] → arrivals (set_value t queues w) ≡ arrivals queues ++ arrival_for whom last ∷ []
   arrivals-push n whom exact last [] q w is_next numbered found more = absurd (none-some q found)
   arrivals-push n whom exact last (e ∷ es) q w is_next numbered found more = elim (cases_Bool (t e.0)) [
     | inl here ↦

@@ -9,7 +9,7 @@ use Rattle.powersave.specs.declared.unit.Whom.{Whom}
 use Rattle.powersave.specs.declared.unit.Oldest.{Oldest}
 use Rattle.powersave.specs.declared.queues.Arrived.{Arrived}
 use Rattle.powersave.specs.Keep.{oldest_at, first_clock, AreOldest, AreToldOnce}
-use Rattle.powersave.specs.Queues.{Queues, is_whom, queue_for, oldest_of, oldest_in, entries_in, AreSound}
+use Rattle.powersave.specs.Queues.{Queues, is_whom, queue_for, oldest_of, oldest_in, entries_in, Numbers, AreSound}
 use Rattle.powersave.proofs.Merges.{IsOnce}
 use Rattle.powersave.proofs.Parts.{is_same-refl}
 use Rattle.powersave.proofs.QueueSteps.{none_named, once, units_for-entries_in}
@@ -39,7 +39,7 @@ told whom (q ∷ queues) apart = elim (cases_Bool (is_whom whom q.0)) [
   | inr away ↦ rw away (passed whom q.0 q.1.items (oldest_in queues) away ∙ told whom queues apart.1)
 ]
 
-pub all-told : (next : ℕ) (queues : Queues) → AreSound next queues → AreOldest (oldest_in queues) (entries_in queues)
+pub all-told : (next : Numbers) (queues : Queues) → AreSound next queues → AreOldest (oldest_in queues) (entries_in queues)
 all-told next queues sound whom =
     told whom queues (once whom queues sound.one_each)
     ∙ sym (ap first_clock (units_for-entries_in next whom queues sound))

@@ -13,7 +13,7 @@ use Rattle.powersave.specs.declared.unit.Whom.{Whom}
 use Rattle.powersave.specs.declared.unit.Unit.{Unit as Msdu}
 use Rattle.powersave.specs.declared.queues.Arrived.{Arrived}
 use Rattle.powersave.specs.Keep.{Entry, is_same, is_for, units_for, without_first, room_beside}
-use Rattle.powersave.specs.Queues.{Queue, Queues, Arrival, is_whom, queue_for, unit_at, arrival_for, arrivals, entries_in, first_number, IsNumbered, AreNumbered, IsRising, AreSound, AreKept, HasRoom, Pops, Removes, MakesRoom, Pushes, PutsBack}
+use Rattle.powersave.specs.Queues.{Queue, Queues, Arrival, is_whom, queue_for, unit_at, arrival_for, arrivals, entries_in, first_number, Numbers, with_last, IsNumbered, AreNumbered, IsRising, AreSound, AreKept, HasRoom, Pops, Removes, MakesRoom, Pushes, PutsBack}
 use Rattle.powersave.proofs.Parts.{msdu, same_whom, without_oldest_none, length-without_oldest, length-without_all}
 use Rattle.powersave.proofs.Returns.{length-put_back}
 use Rattle.powersave.proofs.Arrivals.{AllBelow, IsRising-filter, IsRising-without_first, IsRising-last}
@@ -46,7 +46,7 @@ pub once : (whom : Whom) (queues : Queues) → IsDistinct is_whom (keys_of queue
 once whom [] apart = tt
 once whom (e ∷ es) apart = ((λ here. none_named whom e.0 es here (IsDistinct-head is_whom e.0 (keys_of es) apart)), once whom es (IsDistinct-tail is_whom e.0 (keys_of es) apart))
 
-pub units_for-entries_in : (next : ℕ) (whom : Whom) (queues : Queues) → AreSound next queues → units_for whom (entries_in queues) ≡ map (λ a. a.unit) (queue_for whom queues)
+pub units_for-entries_in : (next : Numbers) (whom : Whom) (queues : Queues) → AreSound next queues → units_for whom (entries_in queues) ≡ map (λ a. a.unit) (queue_for whom queues)
 units_for-entries_in next whom queues sound =
     ap (map msdu) (filter-map entry_of (is_for whom) (arrivals queues))
     ∙ units-entries (filter (passes (is_whom whom)) (arrivals queues))
@@ -54,45 +54,44 @@ units_for-entries_in next whom queues sound =
 
 -- ---- their numbers
 
-pub IsNumbered-drop : (next : ℕ) (queue : List Arrived) → IsNumbered next queue → IsNumbered next (drop 1 queue)
+pub IsNumbered-drop : (next : Numbers) (queue : List Arrived) → IsNumbered next queue → IsNumbered next (drop 1 queue)
 IsNumbered-drop next [] numbered = tt
 IsNumbered-drop next (a ∷ queue) numbered = numbered.2
 
--- where more units were put
-IsNumbered-more : (puts more : ℕ) (queue : List Arrived) → IsNumbered puts queue → IsNumbered (puts + more) queue
-IsNumbered-more puts more [] numbered = tt
-IsNumbered-more puts more (a ∷ queue) numbered =
+-- where more numbers were given
+pub IsNumbered-more : (next more : Numbers) (queue : List Arrived) → next.last ≤ more.last → next.in_front ≤ more.in_front → IsNumbered next queue → IsNumbered more queue
+IsNumbered-more next more [] last front numbered = tt
+IsNumbered-more next more (a ∷ queue) last front numbered =
     let here = numbered.0 in
     let low = numbered.3 in
-    (omega arith, numbered.1, IsNumbered-more puts more queue numbered.2, omega arith)
+    (omega (arith, here, last), numbered.1, IsNumbered-more next more queue last front numbered.2, omega (arith, low, front))
 
 above_all : (n : ℕ) (queue : List Arrived) (last : Arrived) → AllByRecursion (λ b. n < b.number) queue → n < last.number → AllByRecursion (λ b. n < b.number) (queue ++ last ∷ [])
 above_all n [] last above lt = (lt, tt)
 above_all n (a ∷ queue) last above lt = (above.0, above_all n queue last above.1 lt)
 
-IsNumbered-one : (puts : ℕ) (last : Arrived) → last.number ≡ first_number + puts → IsNumbered (puts + 1) (last ∷ [])
-IsNumbered-one puts last is = (omega (arith, is), tt, tt, omega (arith, is))
+IsNumbered-one : (next : Numbers) (last : Arrived) → last.number ≡ first_number + next.last → IsNumbered (with_last 1 next) (last ∷ [])
+IsNumbered-one next last is = (omega (arith, is), tt, tt, omega (arith, is))
 
-IsNumbered-push : (puts : ℕ) (queue : List Arrived) (last : Arrived) → last.number ≡ first_number + puts → IsNumbered puts queue → IsNumbered (puts + 1) (queue ++ last ∷ [])
-IsNumbered-push puts [] last is numbered = IsNumbered-one puts last is
-IsNumbered-push puts (a ∷ queue) last is numbered =
+IsNumbered-push : (next : Numbers) (queue : List Arrived) (last : Arrived) → last.number ≡ first_number + next.last → IsNumbered next queue → IsNumbered (with_last 1 next) (queue ++ last ∷ [])
+IsNumbered-push next [] last is numbered = IsNumbered-one next last is
+IsNumbered-push next (a ∷ queue) last is numbered =
     let here = numbered.0 in
-    let low = numbered.3 in
-    (omega arith, above_all a.number queue last numbered.1 (omega (arith, is, here)), IsNumbered-push puts queue last is numbered.2, omega arith)
+    (omega (arith, here), above_all a.number queue last numbered.1 (omega (arith, is, here)), IsNumbered-push next queue last is numbered.2, numbered.3)
 
-pub AreNumbered-more : (puts more : ℕ) (queues : Queues) → AreNumbered puts queues → AreNumbered (puts + more) queues
-AreNumbered-more puts more [] numbered = tt
-AreNumbered-more puts more (e ∷ es) numbered = (IsNumbered-more puts more e.1.items numbered.0, AreNumbered-more puts more es numbered.1)
+pub AreNumbered-more : (next more : Numbers) (queues : Queues) → next.last ≤ more.last → next.in_front ≤ more.in_front → AreNumbered next queues → AreNumbered more queues
+AreNumbered-more next more [] last front numbered = tt
+AreNumbered-more next more (e ∷ es) last front numbered = (IsNumbered-more next more e.1.items last front numbered.0, AreNumbered-more next more es last front numbered.1)
 
-pub AreNumbered-add : (next : ℕ) (whom : Whom) (w : Queue) (queues : Queues) → IsNumbered next w.items → AreNumbered next queues → AreNumbered next (queues ++ (whom, w) ∷ [])
+pub AreNumbered-add : (next : Numbers) (whom : Whom) (w : Queue) (queues : Queues) → IsNumbered next w.items → AreNumbered next queues → AreNumbered next (queues ++ (whom, w) ∷ [])
 AreNumbered-add next whom w [] here numbered = (here, tt)
 AreNumbered-add next whom w (e ∷ es) here numbered = (numbered.0, AreNumbered-add next whom w es here numbered.1)
 
-AreNumbered-last : (next : ℕ) (l : Whom × Queue) (queues : Queues) → AreNumbered next (queues ++ l ∷ []) → AreNumbered next (l ∷ queues)
+AreNumbered-last : (next : Numbers) (l : Whom × Queue) (queues : Queues) → AreNumbered next (queues ++ l ∷ []) → AreNumbered next (l ∷ queues)
 AreNumbered-last next l [] numbered = numbered
 AreNumbered-last next l (e ∷ es) numbered = let rest = AreNumbered-last next l es numbered.1 in (rest.0, (numbered.0, rest.1))
 
-module _ (t : Whom → Bool) (next : ℕ) where
+module _ (t : Whom → Bool) (next : Numbers) where
   AreNumbered-set_value : (queues : Queues) (w : Queue) → AreNumbered next queues → IsNumbered next w.items → AreNumbered next (set_value t queues w)
   AreNumbered-set_value [] w numbered here = tt
   AreNumbered-set_value (e ∷ es) w numbered here = cond_both (t e.0) _ _ (AreNumbered next) (λ _. (here, numbered.1)) (λ _. (numbered.0, AreNumbered-set_value es w numbered.1 here))
@@ -157,21 +156,21 @@ queue_found whom queues q found = ap (λ o. unwrap_or (option_map (λ (v : Queue
 pub queue_missing : (whom : Whom) (queues : Queues) → lookup (is_whom whom) queues ≡ None → queue_for whom queues ≡ []
 queue_missing whom queues missing = ap (λ o. unwrap_or (option_map (λ (v : Queue). v.items) o) []) missing
 
-pub count-units : (next : ℕ) (whom : Whom) (queues : Queues) → AreSound next queues → length (queue_for whom queues) ≡ length (units_for whom (entries_in queues))
+pub count-units : (next : Numbers) (whom : Whom) (queues : Queues) → AreSound next queues → length (queue_for whom queues) ≡ length (units_for whom (entries_in queues))
 count-units next whom queues sound =
     sym (length-map (queue_for whom queues) (λ (a : Arrived). a.unit)) ∙ ap length (sym (units_for-entries_in next whom queues sound))
 
-pub unit_at-units : (next : ℕ) (whom : Whom) (queues : Queues) (n : ℕ) → AreSound next queues → unit_at (queue_for whom queues) n ≡ slice_get (units_for whom (entries_in queues)) n
+pub unit_at-units : (next : Numbers) (whom : Whom) (queues : Queues) (n : ℕ) → AreSound next queues → unit_at (queue_for whom queues) n ≡ slice_get (units_for whom (entries_in queues)) n
 unit_at-units next whom queues n sound =
     sym (slice_get-map (λ (a : Arrived). a.unit) (queue_for whom queues) n)
     ∙ ap (λ us. slice_get us n) (sym (units_for-entries_in next whom queues sound))
 
-first_unit : (next : ℕ) (whom : Whom) (queues : Queues) (queue : List Arrived) → queue_for whom queues ≡ queue → AreSound next queues → unit_at queue 0 ≡ slice_get (units_for whom (entries_in queues)) 0
+first_unit : (next : Numbers) (whom : Whom) (queues : Queues) (queue : List Arrived) → queue_for whom queues ≡ queue → AreSound next queues → unit_at queue 0 ≡ slice_get (units_for whom (entries_in queues)) 0
 first_unit next whom queues queue is sound = ap (λ ns. unit_at ns 0) (sym is) ∙ unit_at-units next whom queues 0 sound
 
 module _ (whom : Whom) (old new : Queues) where
   -- the keys stay, and the queue for one has other units
-  pub sound_after_set : (next : ℕ) (w : Queue) → new ≡ set_value (is_whom whom) old w → AreSound next old → IsNumbered next w.items → IsRising (arrivals new) → AreSound next new
+  pub sound_after_set : (next : Numbers) (w : Queue) → new ≡ set_value (is_whom whom) old w → AreSound next old → IsNumbered next w.items → IsRising (arrivals new) → AreSound next new
   sound_after_set next w is sound numbered apart = record {
     one_each = subst (λ es. IsDistinct is_whom (keys_of es)) (sym is) (subst (IsDistinct is_whom) (sym (keys-set_value (is_whom whom) old w)) sound.one_each);
     numbered = subst (AreNumbered next) (sym is) (AreNumbered-set_value (is_whom whom) next old w sound.numbered numbered);
@@ -180,7 +179,7 @@ module _ (whom : Whom) (old new : Queues) where
 
   pub pops : (q w : Queue) (taken : Option Msdu) → lookup (is_whom whom) old ≡ Some q → new ≡ set_value (is_whom whom) old w → w.items ≡ drop 1 q.items → (HasSpace q → HasSpace w) → taken ≡ unit_at q.items 0 → Pops whom old taken new
   pops q w taken found is left keeps first =
-      let gone : (next : ℕ) → AreSound next old → arrivals new ≡ without_first (passes (is_whom whom)) (arrivals old) =
+      let gone : (next : Numbers) → AreSound next old → arrivals new ≡ without_first (passes (is_whom whom)) (arrivals old) =
       λ next sound. ap arrivals is ∙ arrivals-pop (is_whom whom) next old q w sound.numbered (once whom old sound.one_each) found left in
       record {
         unit = λ next sound. first ∙ first_unit next whom old q.items (queue_found whom old q found) sound;
@@ -202,7 +201,7 @@ module _ (whom : Whom) (old new : Queues) where
 
   pub removes : (removed : ℕ) → new ≡ swap_remove_entry (is_whom whom) old → IsDistinct is_whom (keys_of new) → ((other : Whom) → is_whom whom other ≡ false → lookup (is_whom other) new ≡ lookup (is_whom other) old) → removed ≡ length (queue_for whom old) → Removes whom old removed new
   removes removed is one_each stays all =
-      let gone : (next : ℕ) → AreSound next old → arrivals new ≡ filter (passes (others (is_whom whom))) (arrivals old) =
+      let gone : (next : Numbers) → AreSound next old → arrivals new ≡ filter (passes (others (is_whom whom))) (arrivals old) =
       λ next sound. ap arrivals is ∙ arrivals-swap_remove (is_whom whom) old (once whom old sound.one_each) sound.apart in
       record {
         count = λ next sound. all ∙ count-units next whom old sound;
@@ -216,37 +215,37 @@ module _ (whom : Whom) (old new : Queues) where
       }
 
   -- a unit with the next number comes last
-  rising_after : (puts : ℕ) (arrived : Arrived) → arrived.number ≡ first_number + puts → arrivals new ≡ arrivals old ++ arrival_for whom arrived ∷ [] → AreSound puts old → IsRising (arrivals new)
-  rising_after puts arrived is more sound =
-      subst IsRising (sym more) (IsRising-last (arrival_for whom arrived) (arrivals old) (subst (λ top. AllBelow top (arrivals old)) (sym is) (AllBelow-arrivals puts old sound.numbered)) sound.apart)
+  rising_after : (next : Numbers) (arrived : Arrived) → arrived.number ≡ first_number + next.last → arrivals new ≡ arrivals old ++ arrival_for whom arrived ∷ [] → AreSound next old → IsRising (arrivals new)
+  rising_after next arrived is more sound =
+      subst IsRising (sym more) (IsRising-last (arrival_for whom arrived) (arrivals old) (subst (λ top. AllBelow top (arrivals old)) (sym is) (AllBelow-arrivals next old sound.numbered)) sound.apart)
 
   one_more : (arrived : Arrived) → arrivals new ≡ arrivals old ++ arrival_for whom arrived ∷ [] → entries_in new ≡ entries_in old ++ (whom, arrived.unit) ∷ []
   one_more arrived came = ap (map entry_of) came ∙ map-append entry_of (arrivals old) (arrival_for whom arrived ∷ [])
 
   pub pushes : (q w : Queue) (arrived : Arrived) → lookup (is_whom whom) old ≡ Some q → new ≡ set_value (is_whom whom) old w → w.items ≡ q.items ++ arrived ∷ [] → Pushes whom arrived old new
   pushes q w arrived found is more =
-      let came : (puts : ℕ) → arrived.number ≡ first_number + puts → AreSound puts old → arrivals new ≡ arrivals old ++ arrival_for whom arrived ∷ [] =
-      λ puts number sound. ap arrivals is ∙ arrivals-push (is_whom whom) puts whom (λ k here. same_whom k whom here) arrived old q w number sound.numbered found more in
+      let came : (next : Numbers) → arrived.number ≡ first_number + next.last → AreSound next old → arrivals new ≡ arrivals old ++ arrival_for whom arrived ∷ [] =
+      λ next number sound. ap arrivals is ∙ arrivals-push (is_whom whom) next whom (λ k here. same_whom k whom here) arrived old q w number sound.numbered found more in
       record {
-        units = λ puts number sound. one_more arrived (came puts number sound);
-        sound = λ puts number sound. sound_after_set (puts + 1) w is
-            (record { one_each = sound.one_each; numbered = AreNumbered-more puts 1 old sound.numbered; apart = sound.apart })
-            (subst (IsNumbered (puts + 1)) (sym more) (IsNumbered-push puts q.items arrived number (IsNumbered-found (is_whom whom) puts old q sound.numbered found)))
-            (rising_after puts arrived number (came puts number sound) sound);
+        units = λ next number sound. one_more arrived (came next number sound);
+        sound = λ next number sound. sound_after_set (with_last 1 next) w is
+            (record { one_each = sound.one_each; numbered = AreNumbered-more next (with_last 1 next) old (omega arith) (omega arith) sound.numbered; apart = sound.apart })
+            (subst (IsNumbered (with_last 1 next)) (sym more) (IsNumbered-push next q.items arrived number (IsNumbered-found (is_whom whom) next old q sound.numbered found)))
+            (rising_after next arrived number (came next number sound) sound);
       }
 
   pub pushes_new : (w : Queue) (arrived : Arrived) → new ≡ old ++ (whom, w) ∷ [] → IsDistinct is_whom (keys_of new) → w.items ≡ arrived ∷ [] → Pushes whom arrived old new
   pushes_new w arrived is one_each one =
-      let came : (puts : ℕ) → arrived.number ≡ first_number + puts → AreSound puts old → arrivals new ≡ arrivals old ++ arrival_for whom arrived ∷ [] =
-      λ puts number sound. ap arrivals is ∙ arrivals-add_one puts whom arrived w old number one sound.numbered in
+      let came : (next : Numbers) → arrived.number ≡ first_number + next.last → AreSound next old → arrivals new ≡ arrivals old ++ arrival_for whom arrived ∷ [] =
+      λ next number sound. ap arrivals is ∙ arrivals-add_one next whom arrived w old number one sound.numbered in
       record {
-        units = λ puts number sound. one_more arrived (came puts number sound);
-        sound = λ puts number sound. record {
+        units = λ next number sound. one_more arrived (came next number sound);
+        sound = λ next number sound. record {
           one_each = one_each;
           numbered =
-              subst (AreNumbered (puts + 1)) (sym is)
-              (AreNumbered-add (puts + 1) whom w old (subst (IsNumbered (puts + 1)) (sym one) (IsNumbered-one puts arrived number)) (AreNumbered-more puts 1 old sound.numbered));
-          apart = rising_after puts arrived number (came puts number sound) sound;
+              subst (AreNumbered (with_last 1 next)) (sym is)
+              (AreNumbered-add (with_last 1 next) whom w old (subst (IsNumbered (with_last 1 next)) (sym one) (IsNumbered-one next arrived number)) (AreNumbered-more next (with_last 1 next) old (omega arith) (omega arith) sound.numbered));
+          apart = rising_after next arrived number (came next number sound) sound;
         };
       }
 
@@ -281,26 +280,29 @@ no_queues : IsDistinct is_whom []
 unfolding IsDistinct
 no_queues = tt
 
-pub kept_new : (quota : ℕ) (queues : Queues) → queues ≡ [] → AreKept quota 0 0 None queues
-kept_new quota queues none = subst (AreKept quota 0 0 None) (sym none) (record { sound = record { one_each = no_queues; numbered = tt; apart = tt }; counted = refl; within = omega arith; room = tt })
+pub kept_new : (quota : ℕ) (queues : Queues) → queues ≡ [] → AreKept quota 0 0 0 None queues
+kept_new quota queues none = subst (AreKept quota 0 0 0 None) (sym none) (record { sound = record { one_each = no_queues; numbered = tt; apart = tt }; counted = refl; within = omega arith; room = tt })
 
-module _ (quota len next : ℕ) (reserved : Option Whom) (old new : Queues) (kept : AreKept quota len next reserved old) where
-  pub kept_same : MakesRoom old new → AreKept quota len next reserved new
+module _ (quota len puts in_front : ℕ) (reserved : Option Whom) (old new : Queues) (kept : AreKept quota len puts in_front reserved old) where
+  abbrev next : Numbers
+  next = record { last = puts; in_front = in_front }
+
+  pub kept_same : MakesRoom old new → AreKept quota len puts in_front reserved new
   kept_same made = record { sound = made.sound next kept.sound; counted = kept.counted ∙ ap length (sym made.units); within = kept.within; room = made.room reserved kept.room }
 
-  pub kept_reserved : (whom : Whom) → MakesRoom old new → HasRoom (Some whom) new → AreKept quota len next (Some whom) new
+  pub kept_reserved : (whom : Whom) → MakesRoom old new → HasRoom (Some whom) new → AreKept quota len puts in_front (Some whom) new
   kept_reserved whom made room = record { sound = made.sound next kept.sound; counted = kept.counted ∙ ap length (sym made.units); within = kept.within; room = room }
 
   -- room for one is given up
-  pub kept_beside : (whom : Whom) (room : Option Whom) → new ≡ old → room ≡ room_beside whom reserved → AreKept quota len next room new
-  kept_beside whom room same is = subst (AreKept quota len next room) (sym same) (record {
+  pub kept_beside : (whom : Whom) (room : Option Whom) → new ≡ old → room ≡ room_beside whom reserved → AreKept quota len puts in_front room new
+  kept_beside whom room same is = subst (AreKept quota len puts in_front room) (sym same) (record {
     sound = kept.sound;
     counted = kept.counted;
     within = kept.within;
     room = subst (λ r. HasRoom r old) (sym is) (HasRoom-beside whom old old (λ other apart space. space) reserved kept.room);
   })
 
-  pub kept_empty : (whom : Whom) (room : Option Whom) → Pops whom old None new → room ≡ room_beside whom reserved → AreKept quota len next room new
+  pub kept_empty : (whom : Whom) (room : Option Whom) → Pops whom old None new → room ≡ room_beside whom reserved → AreKept quota len puts in_front room new
   kept_empty whom room popped is = record {
     sound = popped.sound next kept.sound;
     counted = kept.counted ∙ ap length (sym (popped.rest next kept.sound ∙ without_oldest_none whom (entries_in old) (popped.unit next kept.sound)));
@@ -317,7 +319,7 @@ module _ (quota len next : ℕ) (reserved : Option Whom) (old new : Queues) (kep
   pub some_left : (whom : Whom) (unit : Msdu) → Pops whom old (Some unit) new → 1 ≤ len
   some_left whom unit popped = let count = one_less whom unit popped in omega arith
 
-  pub kept_popped : (whom : Whom) (unit : Msdu) (room : Option Whom) → Pops whom old (Some unit) new → room ≡ room_beside whom reserved → AreKept quota (len - 1) next room new
+  pub kept_popped : (whom : Whom) (unit : Msdu) (room : Option Whom) → Pops whom old (Some unit) new → room ≡ room_beside whom reserved → AreKept quota (len - 1) puts in_front room new
   kept_popped whom unit room popped is = record {
     sound = popped.sound next kept.sound;
     counted = let count = one_less whom unit popped in omega arith;
@@ -335,7 +337,7 @@ module _ (quota len next : ℕ) (reserved : Option Whom) (old new : Queues) (kep
   pub removed_within : (whom : Whom) (removed : ℕ) → Removes whom old removed new → removed ≤ len
   removed_within whom removed gone = let count = fewer whom removed gone in omega arith
 
-  pub kept_removed : (whom : Whom) (removed : ℕ) (room : Option Whom) → Removes whom old removed new → room ≡ room_beside whom reserved → AreKept quota (len - removed) next room new
+  pub kept_removed : (whom : Whom) (removed : ℕ) (room : Option Whom) → Removes whom old removed new → room ≡ room_beside whom reserved → AreKept quota (len - removed) puts in_front room new
   kept_removed whom removed room gone is = record {
     sound = gone.sound next kept.sound;
     counted = let count = fewer whom removed gone in omega arith;
@@ -344,7 +346,7 @@ module _ (quota len next : ℕ) (reserved : Option Whom) (old new : Queues) (kep
   }
 
   -- a unit came where there was room for it
-  pub kept_pushed : (whom : Whom) (arrived : Arrived) → Pushes whom arrived old new → arrived.number ≡ first_number + next → length (entries_in old) < quota → AreKept quota (len + 1) (next + 1) None new
+  pub kept_pushed : (whom : Whom) (arrived : Arrived) → Pushes whom arrived old new → arrived.number ≡ first_number + puts → length (entries_in old) < quota → AreKept quota (len + 1) (puts + 1) in_front None new
   kept_pushed whom arrived pushed number room = record {
     sound = pushed.sound next number kept.sound;
     counted = ap (λ n. n + 1) kept.counted ∙ sym (ap length (pushed.units next number kept.sound) ∙ length_push (entries_in old) (whom, arrived.unit));
@@ -353,7 +355,7 @@ module _ (quota len next : ℕ) (reserved : Option Whom) (old new : Queues) (kep
   }
 
   -- a unit came back where there was room for it
-  pub kept_put_back : (whom : Whom) (first before : ℕ) (unit : Msdu) → PutsBack whom first before unit old new → first + (before + 1) + next ≡ first_number → length (entries_in old) < quota → AreKept quota (len + 1) (next + (before + 1)) None new
+  pub kept_put_back : (whom : Whom) (first before : ℕ) (unit : Msdu) → PutsBack whom first before unit old new → first + (before + 1) + in_front ≡ first_number → length (entries_in old) < quota → AreKept quota (len + 1) puts (in_front + (before + 1)) None new
   kept_put_back whom first before unit put number room = record {
     sound = put.sound next number kept.sound;
     counted = ap (λ n. n + 1) kept.counted ∙ sym (ap length (put.units next number kept.sound) ∙ length-put_back whom before unit (entries_in old));

@@ -14,12 +14,14 @@ use Rattle.powersave.specs.declared.unit.Oldest.{Oldest}
 abbrev pub Entry : Type 0
 Entry = Whom × Msdu
 
--- the quota (profile), the units in order of arrival, for whom room is reserved, if for any, and how many were put
+-- the quota (profile), the units in order of arrival, for whom room is reserved, if for any, how many were put, and how
+-- many were put in front of all others
 pub record Kept : Type 0 where
   pub quota : ℕ
   pub entries : List Entry
   pub reserved : Option Whom
   pub puts : ℕ
+  pub in_front : ℕ
 
 -- ---- for whom
 

@@ -77,15 +77,26 @@ entries_in queues = map (λ a. a.1) (arrivals queues)
 abbrev pub first_number : ℕ
 first_number = 2 ^ 62
 
--- the numbers of a queue rise; where as many units were put as this, they are no further from the first one
-abbrev pub IsNumbered : ℕ → List Arrived → Type 0
-IsNumbered puts [] = Unit {0}
-IsNumbered puts (a ∷ queue) =
-    (a.number < first_number + puts) × AllByRecursion (λ b. a.number < b.number) queue × IsNumbered puts queue
-    × (first_number ≤ a.number + puts)
+-- how many numbers were given to units that were put last, and how many to those in front of all others
+pub record Numbers : Type 0 where
+  pub last : ℕ
+  pub in_front : ℕ
 
-abbrev pub AreNumbered : ℕ → Queues → Type 0
-AreNumbered puts queues = AllByRecursion (λ q. IsNumbered puts q.1.items) queues
+abbrev pub with_last : ℕ → Numbers → Numbers
+with_last n given = record given { last = given.last + n }
+
+abbrev pub with_front : ℕ → Numbers → Numbers
+with_front n given = record given { in_front = given.in_front + n }
+
+-- the numbers of a queue rise, and are among those that were given
+abbrev pub IsNumbered : Numbers → List Arrived → Type 0
+IsNumbered given [] = Unit {0}
+IsNumbered given (a ∷ queue) =
+    (a.number < first_number + given.last) × AllByRecursion (λ b. a.number < b.number) queue × IsNumbered given queue
+    × (first_number ≤ a.number + given.in_front)
+
+abbrev pub AreNumbered : Numbers → Queues → Type 0
+AreNumbered given queues = AllByRecursion (λ q. IsNumbered given q.1.items) queues
 
 -- the numbers rise, so that no two units have the same
 abbrev pub IsRising : List Arrival → Type 0
@@ -93,9 +104,9 @@ IsRising [] = Unit {0}
 IsRising (a ∷ bs) = AllByRecursion (λ b. a.0 < b.0) bs × IsRising bs
 
 -- no two are for one, and no two units have the same number, be it in one queue or in two
-pub record AreSound (puts : ℕ) (queues : Queues) : Type 0 where
+pub record AreSound (given : Numbers) (queues : Queues) : Type 0 where
   pub one_each : IsDistinct is_whom (keys_of queues)
-  pub numbered : AreNumbered puts queues
+  pub numbered : AreNumbered given queues
   pub apart : IsRising (arrivals queues)
 
 -- the one for whom room is reserved, if for any, has a queue with room for one unit more
@@ -103,9 +114,10 @@ abbrev pub HasRoom : Option Whom → Queues → Type 0
 HasRoom None queues = Unit {0}
 HasRoom (Some whom) queues = IsSomeAnd (lookup (is_whom whom) queues) (λ q. q.len < q.cap)
 
--- what the list keeps: how many units there may be and are, how many were put, and for whom there is room
-pub record AreKept (quota len puts : ℕ) (reserved : Option Whom) (queues : Queues) : Type 0 where
-  pub sound : AreSound puts queues
+-- what the list keeps: how many units there may be and are, how many were put last and in front, and for whom there is
+-- room
+pub record AreKept (quota len puts in_front : ℕ) (reserved : Option Whom) (queues : Queues) : Type 0 where
+  pub sound : AreSound (record { last = puts; in_front = in_front }) queues
   pub counted : len ≡ length (entries_in queues)
   pub within : len ≤ quota
   pub room : HasRoom reserved queues
@@ -114,9 +126,9 @@ pub record AreKept (quota len puts : ℕ) (reserved : Option Whom) (queues : Que
 
 -- the oldest unit for one is gone
 pub record Pops (whom : Whom) (old : Queues) (taken : Option Msdu) (new : Queues) : Type 0 where
-  pub unit : (puts : ℕ) → AreSound puts old → taken ≡ slice_get (units_for whom (entries_in old)) 0
-  pub rest : (puts : ℕ) → AreSound puts old → entries_in new ≡ without_oldest whom (entries_in old)
-  pub sound : (puts : ℕ) → AreSound puts old → AreSound puts new
+  pub unit : (given : Numbers) → AreSound given old → taken ≡ slice_get (units_for whom (entries_in old)) 0
+  pub rest : (given : Numbers) → AreSound given old → entries_in new ≡ without_oldest whom (entries_in old)
+  pub sound : (given : Numbers) → AreSound given old → AreSound given new
   pub room : (reserved : Option Whom) → HasRoom reserved old → HasRoom (room_beside whom reserved) new
 
 -- the oldest unit for one is gone as a frame, which tells whether others follow
@@ -133,22 +145,23 @@ Sends whom bss sequence old (Some sent) new = (unit : Msdu) × SendsOne whom bss
 
 -- all units for one are gone, as many as are told
 pub record Removes (whom : Whom) (old : Queues) (removed : ℕ) (new : Queues) : Type 0 where
-  pub count : (puts : ℕ) → AreSound puts old → removed ≡ length (units_for whom (entries_in old))
-  pub rest : (puts : ℕ) → AreSound puts old → entries_in new ≡ without_all whom (entries_in old)
-  pub sound : (puts : ℕ) → AreSound puts old → AreSound puts new
+  pub count : (given : Numbers) → AreSound given old → removed ≡ length (units_for whom (entries_in old))
+  pub rest : (given : Numbers) → AreSound given old → entries_in new ≡ without_all whom (entries_in old)
+  pub sound : (given : Numbers) → AreSound given old → AreSound given new
   pub room : (reserved : Option Whom) → HasRoom reserved old → HasRoom (room_beside whom reserved) new
 
 -- the units stay, and so does the room that there was
 pub record MakesRoom (old new : Queues) : Type 0 where
   pub units : entries_in new ≡ entries_in old
-  pub sound : (puts : ℕ) → AreSound puts old → AreSound puts new
+  pub sound : (given : Numbers) → AreSound given old → AreSound given new
   pub room : (reserved : Option Whom) → HasRoom reserved old → HasRoom reserved new
 
 -- a unit for one came, the last of all, with the number of the next one
 pub record Pushes (whom : Whom) (arrived : Arrived) (old new : Queues) : Type 0 where
-  pub units : (puts : ℕ) → arrived.number ≡ first_number + puts → AreSound puts old
+  pub units : (given : Numbers) → arrived.number ≡ first_number + given.last → AreSound given old
       → entries_in new ≡ entries_in old ++ (whom, arrived.unit) ∷ []
-  pub sound : (puts : ℕ) → arrived.number ≡ first_number + puts → AreSound puts old → AreSound (puts + 1) new
+  pub sound : (given : Numbers) → arrived.number ≡ first_number + given.last → AreSound given old
+      → AreSound (with_last 1 given) new
 
 -- ---- a unit that comes back
 
@@ -168,14 +181,14 @@ queue_with first before unit queue =
 
 -- a unit for one came back behind the first ones for it; they and it have the numbers below all others
 pub record PutsBack (whom : Whom) (first before : ℕ) (unit : Msdu) (old new : Queues) : Type 0 where
-  pub units : (puts : ℕ) → first + (before + 1) + puts ≡ first_number → AreSound puts old
+  pub units : (given : Numbers) → first + (before + 1) + given.in_front ≡ first_number → AreSound given old
       → entries_in new ≡ put_back whom before unit (entries_in old)
-  pub sound : (puts : ℕ) → first + (before + 1) + puts ≡ first_number → AreSound puts old
-      → AreSound (puts + (before + 1)) new
+  pub sound : (given : Numbers) → first + (before + 1) + given.in_front ≡ first_number → AreSound given old
+      → AreSound (with_front (before + 1) given) new
 
 -- ---- a queue that is handed over
 
 -- the units of one are gone, and were these
 pub record Takes (whom : Whom) (old : Queues) (taken : List Arrived) (new : Queues) : Type 0 where
-  pub units : (puts : ℕ) → AreSound puts old → units_of taken ≡ units_for whom (entries_in old)
+  pub units : (given : Numbers) → AreSound given old → units_of taken ≡ units_for whom (entries_in old)
   pub gone : Removes whom old (length taken) new

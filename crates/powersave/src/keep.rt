@@ -27,6 +27,8 @@ pub struct Keep {
     // how many units all queues have
     len: usize,
     puts: u64,
+    // how many numbers below the first one were given
+    in_front: u64,
     reserved: Option<Whom>,
 }
 
@@ -42,21 +44,23 @@ impl Model for Keep {
       entries = entries_in k.queues.map.entries;
       reserved = k.reserved;
       puts = k.puts;
+      in_front = k.in_front;
     } };
 
-    ghost invariant = { λ k. AreKept k.quota k.len k.puts k.reserved k.queues.map.entries };
+    ghost invariant = { λ k. AreKept k.quota k.len k.puts k.in_front k.reserved k.queues.map.entries };
 }
 
 impl Keep {
     /// A list without units that is full at `quota` units (*profile*). No room is reserved. It takes no memory.
     pub fn new(alloc: Global, quota: u32) -> Keep
-        ensures { result ≡ record { quota = quota; entries = []; reserved = None; puts = 0 } }
+        ensures { result ≡ record { quota = quota; entries = []; reserved = None; puts = 0; in_front = 0 } }
     {
         Keep {
             quota,
             queues: Queues::new(alloc),
             len: 0,
             puts: 0,
+            in_front: 0,
             reserved: None,
         }
     }
@@ -82,12 +86,19 @@ impl Keep {
         self.len >= self.quota as usize
     }
 
-    /// The number of units that were put since the list was new: one by each call of [`put`](Keep::put) that answered
-    /// `Ok`, and `before` and one more by each of [`put_back`](Keep::put_back).
+    /// The number of units that were put since the list was new: of calls of [`put`](Keep::put) that answered `Ok`.
     pub fn puts(&self) -> u64
         ensures { result ≡ self.now.puts }
     {
         self.puts
+    }
+
+    /// The number of units that were put in front of all others since the list was new: `before` and one more by each
+    /// call of [`put_back`](Keep::put_back) that answered `Ok`.
+    pub fn in_front(&self) -> u64
+        ensures { result ≡ self.now.in_front }
+    {
+        self.in_front
     }
 
     /// The number of units that are kept for `whom`.
@@ -276,24 +287,24 @@ impl Keep {
 
     /// Puts a unit for `whom` back behind the first `before` units for `whom`, or last among these if there are fewer.
     /// They and the unit stand in front of the units for others, which stay in their order (*profile*). The list is not
-    /// full, and there are numbers for so many arrivals. It needs no memory if room is reserved for `whom`. A
-    /// reservation, whoever it is for, ends. After `NoMemory` all is as it was, and the unit is dropped.
+    /// full, and has seen fewer than 2^62 units put in front, these among them. It needs no memory if room is reserved
+    /// for `whom`. A reservation, whoever it is for, ends. After `NoMemory` all is as it was, and the unit is dropped.
     pub fn put_back(&mut self, whom: Whom, before: usize, unit: Unit) -> Result<(), NoMemory>
         requires not_full { length self.old.entries < self.old.quota }
-        requires countable { self.old.puts + before < 2 ^ 62 }
+        requires countable { self.old.in_front + before < 2 ^ 62 }
         ensures ok { OnOk result (self.new ≡ record self.old {
           entries = put_back whom before unit self.old.entries;
           reserved = None;
-          puts = self.old.puts + (before + 1);
+          in_front = self.old.in_front + (before + 1);
         }) }
         ensures err { OnErr result (self.new ≡ self.old) }
         ensures room { self.old.reserved ≡ Some whom → IsOk result }
     {
-        let in_front = before as u64 + 1;
-        let first = FIRST_NUMBER - self.puts - in_front;
+        let more = before as u64 + 1;
+        let first = FIRST_NUMBER - self.in_front - more;
         self.queues.put_back(&whom, before, first, unit)?;
         self.len += 1;
-        self.puts += in_front;
+        self.in_front += more;
         self.reserved = None;
         Ok(())
     }

@@ -29,7 +29,7 @@ pub record RosterState : Type 0 where
 abbrev pub empty_roster : ℕ → ℕ → RosterState
 empty_roster most quota = record {
   stations = record { most = most; table = [] };
-  kept = record { quota = quota; entries = []; reserved = None; puts = 0 };
+  kept = record { quota = quota; entries = []; reserved = None; puts = 0; in_front = 0 };
 }
 
 -- the numbers are the identifiers of the stations that units are kept for

@@ -17,13 +17,13 @@ impl Roster {
     /// nothing has changed.
     pub fn put_back(&mut self, arriving: Arriving, before: usize) -> Result<(), NoMemory>
         requires not_full { length self.old.kept.entries < self.old.kept.quota }
-        requires countable { self.old.kept.puts + before < 2 ^ 62 }
+        requires countable { self.old.kept.in_front + before < 2 ^ 62 }
         requires aid { arriving.aid ≡ aid_for arriving.whom self.old.stations.table }
         ensures ok { OnOk result (self.new ≡ record self.old {
           kept = record self.old.kept {
             entries = put_back arriving.whom before arriving.unit self.old.kept.entries;
             reserved = None;
-            puts = self.old.kept.puts + (before + 1);
+            in_front = self.old.kept.in_front + (before + 1);
           };
         }) }
         ensures err { OnErr result (self.new ≡ self.old) }

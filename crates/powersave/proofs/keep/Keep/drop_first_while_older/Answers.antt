@@ -36,6 +36,7 @@ loop-self-preserved c =
         entries = c.drop_first.new.self.entries;
         reserved = room i;
         puts = (ap (λ (k : Kept). k.puts) c.drop_first.ensures ∙ ap (λ (k : Kept). k.puts) h.same) i;
+        in_front = (ap (λ (k : Kept). k.in_front) c.drop_first.ensures ∙ ap (λ (k : Kept). k.in_front) h.same) i;
       };
     }
 

@@ -7,5 +7,5 @@ use Rattle.powersave.proofs.keep.Keep.nth.Goals as goal
 pub returns : goal.returns
 returns c =
     c.nth.ensures
-    ∙ unit_at-units c.self.inside.puts c.args.whom c.self.inside.queues.map.entries c.args.n c.self.invariant.sound
+    ∙ unit_at-units _ c.args.whom c.self.inside.queues.map.entries c.args.n c.self.invariant.sound
     ∙ ap (λ k. slice_get (units_for c.args.whom k.entries) c.args.n) c.self.view_is

@@ -10,7 +10,7 @@ on_ok (Err fault) follows p = tt
 
 pub returns-clause-each : goal.returns-clause-each
 returns-clause-each c =
-    let told = all-told c.self.inside.puts c.self.inside.queues.map.entries c.self.invariant.sound in
+    let told = all-told _ c.self.inside.queues.map.entries c.self.invariant.sound in
     on_ok c.oldest_of_each.result
     (λ oldest is. subst (λ (k : Kept). AreOldest oldest.items k.entries) c.self.view_is (subst (λ os. AreOldest os (entries_in c.self.inside.queues.map.entries)) (sym is) told))
     c.oldest_of_each.ensures

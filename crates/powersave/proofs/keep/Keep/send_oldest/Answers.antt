@@ -30,46 +30,46 @@ first_of bss sequence (u ∷ us) unit sent is frame follows =
     λ i. Some (octets i, more i)
 
 pub invariant_of-self : goal.invariant_of-self
-invariant_of-self c = kept_same _ _ _ _ _ _ c.self.invariant c.in_err-sent.ensures.err
+invariant_of-self c = kept_same _ _ _ _ _ _ _ c.self.invariant c.in_err-sent.ensures.err
 
 pub invariant_of-self-in_default : goal.invariant_of-self-in_default
 invariant_of-self-in_default c =
     let popped = subst (λ o. Sends c.args.whom c.args.bss c.args.seq c.self.inside.queues.map.entries o c.send.new.self.map.entries) c.in_default.is c.in_ok-sent.ensures.ok in
-    kept_empty _ _ _ _ _ _ c.self.invariant c.args.whom c.room_beside-self-inside.result popped c.room_beside-self-inside.ensures
+    kept_empty _ _ _ _ _ _ _ c.self.invariant c.args.whom c.room_beside-self-inside.result popped c.room_beside-self-inside.ensures
 
 pub returns-in_default-clause-sent : goal.returns-in_default-clause-sent
 returns-in_default-clause-sent c =
     let popped = subst (λ o. Sends c.args.whom c.args.bss c.args.seq c.self.inside.queues.map.entries o c.send.new.self.map.entries) c.in_default.is c.in_ok-sent.ensures.ok in
     none_first c.args.bss c.args.seq (units_for c.args.whom c.args.self.now.entries)
-    (popped.unit c.self.inside.puts c.self.invariant.sound ∙ ap (λ k. slice_get (units_for c.args.whom k.entries) 0) c.self.view_is)
+    (popped.unit _ c.self.invariant.sound ∙ ap (λ k. slice_get (units_for c.args.whom k.entries) 0) c.self.view_is)
 
 pub returns-in_default-clause-after : goal.returns-in_default-clause-after
 returns-in_default-clause-after c =
     let whom = c.args.whom in
     let seen = c.self.view_is in
     let popped = subst (λ o. Sends whom c.args.bss c.args.seq c.self.inside.queues.map.entries o c.send.new.self.map.entries) c.in_default.is c.in_ok-sent.ensures.ok in
-    let rest = popped.rest c.self.inside.puts c.self.invariant.sound ∙ ap (λ k. without_oldest whom k.entries) seen in
+    let rest = popped.rest _ c.self.invariant.sound ∙ ap (λ k. without_oldest whom k.entries) seen in
     let room = c.room_beside-self-inside.ensures ∙ ap (λ k. room_beside whom k.reserved) seen in
-    λ i. record { quota = (seen i).quota; entries = rest i; reserved = room i; puts = (seen i).puts }
+    λ i. record { quota = (seen i).quota; entries = rest i; reserved = room i; puts = (seen i).puts; in_front = (seen i).in_front }
 
 pub returns-in_default-clause-none : goal.returns-in_default-clause-none
 returns-in_default-clause-none c h =
     let whom = c.args.whom in
     let old = c.self.inside.queues.map.entries in
     let popped = subst (λ o. Sends whom c.args.bss c.args.seq old o c.send.new.self.map.entries) c.in_default.is c.in_ok-sent.ensures.ok in
-    popped.rest c.self.inside.puts c.self.invariant.sound
-    ∙ without_oldest_none whom (entries_in old) (popped.unit c.self.inside.puts c.self.invariant.sound)
+    popped.rest _ c.self.invariant.sound
+    ∙ without_oldest_none whom (entries_in old) (popped.unit _ c.self.invariant.sound)
     ∙ ap (λ k. k.entries) c.self.view_is
 
 pub overflow_sub-self : goal.overflow_sub-self
 overflow_sub-self c =
     let sends = subst (λ o. Sends c.args.whom c.args.bss c.args.seq c.self.inside.queues.map.entries o c.send.new.self.map.entries) c.in-Some.is c.in_ok-sent.ensures.ok in
-    some_left _ _ _ _ _ _ c.self.invariant c.args.whom sends.0 sends.1.0
+    some_left _ _ _ _ _ _ _ c.self.invariant c.args.whom sends.0 sends.1.0
 
 pub invariant_of-self-2 : goal.invariant_of-self-2
 invariant_of-self-2 c =
     let sends = subst (λ o. Sends c.args.whom c.args.bss c.args.seq c.self.inside.queues.map.entries o c.send.new.self.map.entries) c.in-Some.is c.in_ok-sent.ensures.ok in
-    kept_popped _ _ _ _ _ _ c.self.invariant c.args.whom sends.0 c.room_beside-self-inside.result sends.1.0 c.room_beside-self-inside.ensures
+    kept_popped _ _ _ _ _ _ _ c.self.invariant c.args.whom sends.0 c.room_beside-self-inside.result sends.1.0 c.room_beside-self-inside.ensures
 
 pub returns-clause-sent : goal.returns-clause-sent
 returns-clause-sent c =
@@ -78,15 +78,15 @@ returns-clause-sent c =
     let seen = c.self.view_is in
     let sends = subst (λ o. Sends whom c.args.bss c.args.seq old o c.send.new.self.map.entries) c.in-Some.is c.in_ok-sent.ensures.ok in
     first_of c.args.bss c.args.seq (units_for whom c.args.self.now.entries) sends.0 c.in-Some.sent
-    (sends.1.0.unit c.self.inside.puts c.self.invariant.sound ∙ ap (λ k. slice_get (units_for whom k.entries) 0) seen)
+    (sends.1.0.unit _ c.self.invariant.sound ∙ ap (λ k. slice_get (units_for whom k.entries) 0) seen)
     sends.1.1
-    (sends.1.2 ∙ ap (nat_lt 1) (count-units c.self.inside.puts whom old c.self.invariant.sound ∙ ap (λ k. length (units_for whom k.entries)) seen))
+    (sends.1.2 ∙ ap (nat_lt 1) (count-units _ whom old c.self.invariant.sound ∙ ap (λ k. length (units_for whom k.entries)) seen))
 
 pub returns-clause-after : goal.returns-clause-after
 returns-clause-after c =
     let whom = c.args.whom in
     let seen = c.self.view_is in
     let sends = subst (λ o. Sends whom c.args.bss c.args.seq c.self.inside.queues.map.entries o c.send.new.self.map.entries) c.in-Some.is c.in_ok-sent.ensures.ok in
-    let rest = sends.1.0.rest c.self.inside.puts c.self.invariant.sound ∙ ap (λ k. without_oldest whom k.entries) seen in
+    let rest = sends.1.0.rest _ c.self.invariant.sound ∙ ap (λ k. without_oldest whom k.entries) seen in
     let room = c.room_beside-self-inside.ensures ∙ ap (λ k. room_beside whom k.reserved) seen in
-    λ i. record { quota = (seen i).quota; entries = rest i; reserved = room i; puts = (seen i).puts }
+    λ i. record { quota = (seen i).quota; entries = rest i; reserved = room i; puts = (seen i).puts; in_front = (seen i).in_front }
