@@ -36,9 +36,11 @@ OURS = LAB.replace(":", "")
 # Words of the program that are wrong, files that can't be read, and what has to be said of them. my.toml, my.trace and
 # folder are there.
 WORDS = [
-    (["--", "--help"], "fault words", ["no word `--help`", "check CONFIG"]),
-    (["--", "help"], "fault words", ["no word `help`"]),
-    (["--", "--version"], "fault words", ["no word `--version`", "run CONFIG TRACE"]),
+    (["--", "--help"], "fault words", ["asks for the program's usage", "check CONFIG"]),
+    (["--", "help"], "fault words", ["`help` asks for the program's usage"]),
+    (["--", "--version"], "fault words", ["asks for the program's version", "run CONFIG TRACE"]),
+    (["--", "help", "check"], "fault words", ["no word `help` beside others", "check CONFIG"]),
+    (["--", "-V"], "fault words", ["no word `-V`", "check CONFIG"]),
     (["check"], "fault words", ["CONFIG is missing", "check CONFIG"]),
     (["run", "my.toml"], "fault words", ["TRACE is missing", "run CONFIG TRACE"]),
     (["run", "my.toml", "my.trace", "my.trace"], "fault words", ["two words", "play CONFIG TRACE..."]),

@@ -403,6 +403,8 @@ class Completion(ToolTest):
         for typed in ("run my.toml ", "play my.toml ", "play my.toml a.trace "):
             self.completed(f"apctl {typed}", "a.trace", "b.trace")
         self.completed("apctl live --o", "apctl live --octets ")
+        self.completed("apctl --h", "apctl --help ")
+        self.assertNotIn("my.toml", self.completed("apctl --help ", BELL))
         self.assertNotIn("trace", self.completed("apctl live --octets ", "my.toml", "other.toml"))
         for typed in ("check my.toml ", "live my.toml ", "run my.toml a.trace "):
             self.assertNotIn("b.trace", self.completed(f"apctl {typed}", BELL), typed)

@@ -21,7 +21,7 @@ use std::thread::Threads;
 use tasks::{answer, check_config, play_traces, run_joined, run_trace};
 use text_files::{Fault, show_fault};
 use text_io::{Counted, ReportFault};
-use words::{Task, task_of};
+use words::{Asked, Task, asked_of, write_page};
 
 /// The exit status if the line of a fault can't be written.
 const UNWRITTEN: u8 = 4;
@@ -49,7 +49,24 @@ fn tell(rt: &HostRuntime, fault: &Fault) -> u8
 /// Does what the words ask for. `threads` starts the threads of `play`.
 fn run<T: Threads + Wait + Sync>(rt: &HostRuntime, threads: &T) -> Result<(), Fault> {
     let words = given_words(rt)?;
-    match task_of(rt.alloc(), words.as_slice())?.ok_or(Fault::Words)? {
+    match asked_of(rt.alloc(), words.as_slice())? {
+        Asked::Task(task) => perform(rt, threads, &task),
+        Asked::Page(page) => {
+            // words that ask for no task are the fault, also where the page can't be written
+            let _ = write_page(page, &mut Counted::new(rt.stdout()));
+            Err(Fault::Words)
+        }
+        Asked::Nothing => Err(Fault::Words),
+    }
+}
+
+/// Performs a task.
+fn perform<T: Threads + Wait + Sync>(
+    rt: &HostRuntime,
+    threads: &T,
+    task: &Task<'_>,
+) -> Result<(), Fault> {
+    match task {
         Task::Joined => run_joined(rt),
         Task::Check { config } => check_config(rt, config),
         Task::Run { config, trace } => run_trace(rt, config, trace),

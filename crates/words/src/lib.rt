@@ -1,11 +1,22 @@
 //! The words that the program `apctl` is given after its name (*profile*).
 //!
-//! [`task_of`] answers the [`Task`] that they ask for. It promises that it ends, and nothing of its answer, which is
-//! shown by what the built program does. Files, and the fault of words that ask for nothing, are left to the program.
+//! [`asked_of`] answers what they ask for: a [`Task`], a [`Page`] of the program itself, or nothing. It promises which
+//! words ask for which page, and that no others do; [`write_page`] promises which text is written for a page. Neither
+//! promises which words ask for which task: what the built program does shows that. Files, and the fault of words that
+//! ask for no task, are left to the program.
 #![tactic(auto)]
 
+ghost use Rattle.std.specs.Prelude.{◌≡◌, None, IfOk, OnErr, map, string_bytes};
+ghost use Rattle.words.specs.Pages.{asked_page, page_for};
+
+mod asked;
+mod page;
+
+pub use asked::{Asked, Task};
 use clap::error::ErrorKind;
 use clap::{Arg, ArgAction, ArgMatches, Command};
+use page::page_of;
+pub use page::{Page, write_page};
 use std::alloc::{AllocError, Global};
 
 /// The subcommand that reads a configuration.
@@ -29,45 +40,20 @@ const CONFIG: &str = "CONFIG";
 /// What stands for the name of a trace's file, or for those of several.
 const TRACE: &str = "TRACE";
 
-/// What the program is asked to do.
-#[derive(Drop)]
-pub enum Task<'a> {
-    /// Without a word: run what standard input holds, a configuration and a trace.
-    Joined,
-    /// `check CONFIG`: read the configuration of a file.
-    Check {
-        /// The file's name, the word as it stands.
-        config: &'a str,
-    },
-    /// `run CONFIG TRACE`: run the trace of a file on the configuration of another.
-    Run {
-        /// The configuration's file.
-        config: &'a str,
-        /// The trace's file.
-        trace: &'a str,
-    },
-    /// `play CONFIG TRACE...`: play the traces of several files at once, on the configuration of another.
-    Play {
-        /// The configuration's file.
-        config: &'a str,
-        /// The traces' files, in order.
-        traces: Vec<&'a str>,
-    },
-    /// `live CONFIG`: answer the lines of standard input as they come, on the configuration of a file.
-    Live {
-        /// The configuration's file.
-        config: &'a str,
-    },
-    /// `live --octets CONFIG`: answer the records of standard input as they come, on the configuration of a file.
-    LiveOctets {
-        /// The configuration's file.
-        config: &'a str,
-    },
+/// What the words ask for, of which the first is the program's own name. A page is told exactly if they ask for it.
+/// `AllocError` if memory ran out, never where they ask for a page.
+pub fn asked_of<'a>(alloc: Global, words: &'a [String]) -> Result<Asked<'a>, AllocError>
+    ensures page { IfOk result (λ asked. asked_page asked ≡ page_for (map string_bytes words.now)) }
+    ensures memory { OnErr result (page_for (map string_bytes words.now) ≡ None) }
+{
+    if let Some(page) = page_of(words) {
+        return Ok(Asked::Page(page));
+    }
+    Ok(task_of(alloc, words)?.map_or(Asked::Nothing, Asked::Task))
 }
 
-/// The task that the words ask for, of which the first is the program's own name. `None` for any others, also if
-/// they ask for help; `AllocError` if memory ran out.
-pub fn task_of<'a>(alloc: Global, words: &'a [String]) -> Result<Option<Task<'a>>, AllocError> {
+/// The task that the words ask for, if any.
+fn task_of<'a>(alloc: Global, words: &'a [String]) -> Result<Option<Task<'a>>, AllocError> {
     if words.len() <= 1 {
         return Ok(Some(Task::Joined));
     }

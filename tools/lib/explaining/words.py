@@ -14,6 +14,8 @@ from explaining.source import DASHES, Finding, quoted
 FORMS = ("check CONFIG, run CONFIG TRACE, play CONFIG TRACE..., live CONFIG and live --octets CONFIG; without words it "
          "reads standard input")
 OCTETS = "--octets"
+# What the program writes of itself, by the words that ask for it alone.
+PAGES = {**dict.fromkeys(("--help", "-h", "help"), "usage"), "--version": "version"}
 # Words of tools, by those that people give the program; of them the tools themselves have no word for what they do.
 OF_OTHERS = {"status": "live", "events": "live", "kick": "live", "reload": "live", "check-radio": "live",
              "check-networks": "live", "explain": "explain", "frame": "frame", "picture": "picture"}
@@ -75,8 +77,12 @@ def of_all_words(words: list[str]) -> Finding | None:
 def of_known_word(words: list[str]) -> Finding | None:
     """A first word that is the program's, another tool's, or several in one."""
     first, rest = words[0], words[1:]
-    if first in ("-h", "--help", "help", "-V", "--version"):
-        return Finding(f"the program has no word {quoted(first)}", None, f"its words are {FORMS}")
+    if not rest and first in PAGES:
+        return Finding(f"{quoted(first)} asks for the program's {PAGES[first]}, which it writes to standard output, "
+                       "and for nothing to be done", None, f"its words are {FORMS}")
+    if first in (*PAGES, "-V"):
+        return Finding(f"the program has no word {quoted(first)} beside others" if first in PAGES else
+                       f"the program has no word {quoted(first)}", None, f"its words are {FORMS}")
     if first in SUBCOMMANDS:
         return of_subcommand(first, rest)
     several = names_within(first)
