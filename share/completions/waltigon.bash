@@ -6,7 +6,7 @@ _waltigon() {
     local radios=''
     case ${1##*/} in
     waltigon-capture-from-report) options='--network --out' ;;
-    waltigon-capture-from-run) options='--clutter --out' ;;
+    waltigon-capture-from-run) options='--clutter --out --program' ;;
     waltigon-config-from-hostapd) options='--open --out' ;;
     waltigon-explain) options='--program --said --lines' offered='check run play live' ;;
     waltigon-frame)
@@ -28,7 +28,7 @@ _waltigon() {
         fi
         ;;
     waltigon-live-demo) options='--program --stay' takes_files='' ;;
-    waltigon-picture) options='--out --from --to --station --network --overview --stations' ;;
+    waltigon-picture) options='--out --from --to --station --network --overview --stations --program' ;;
     waltigon-report-to-json) options='--without-frames' ;;
     waltigon-status) options='--demo --names --host --from --station-metrics' ;;
     waltigon-trace-from-capture)

@@ -2,6 +2,7 @@
 import json
 from typing import NamedTuple
 
+import standard_input
 import toml_text
 from frames import (BEACON, BEACON_FIXED_LEN, DSSS_PARAMETER_SET, EXTENDED_SUPPORTED_RATES, HT_OPERATION,
                     PROBE_RESPONSE, SSID, SUPPORTED_RATES, TIM, address_of, address_text, elements, first_of, number)
@@ -51,11 +52,11 @@ class Network(NamedTuple):
 def networks_of(path):
     """The addresses of the networks of a configuration, and its beacon interval."""
     try:
-        with open(path, encoding="utf-8", newline="") as file:
+        with open(standard_input.path_of(path), encoding="utf-8", newline="") as file:
             config = toml_text.loads(file.read())
         return [address_of(network["bssid"]) for network in config["network"]], int(config["interval"])
     except (OSError, ValueError, KeyError, TypeError) as fault:
-        raise ConfigError(f"{path}: no configuration with networks: {fault}") from None
+        raise ConfigError(f"{standard_input.name_of(path)}: no configuration with networks: {fault}") from None
 
 
 def beaconing(frames):

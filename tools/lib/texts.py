@@ -5,6 +5,7 @@ import sys
 import tomllib
 from typing import NamedTuple, Optional
 
+import standard_input
 import toml_text
 from frames import address_of, address_text
 
@@ -91,11 +92,9 @@ def frames_text(number):
 
 def read_text(path):
     """The text of a file, or of standard input for `-`."""
-    if path == "-":
-        if sys.stdin is None:
-            raise TextError("standard input is closed")
-        return sys.stdin.buffer.read().decode("utf-8", "replace")
-    with open(path, encoding="utf-8", errors="replace", newline="") as file:
+    if path == standard_input.WORD and sys.stdin is None:
+        raise TextError("standard input is closed")
+    with open(standard_input.path_of(path), encoding="utf-8", errors="replace", newline="") as file:
         return file.read()
 
 
@@ -171,14 +170,6 @@ def join_texts(config, trace):
             raise TextError(f"a configuration and a trace were named, and one of them has a line {SEPARATOR}, behind "
                             "which a trace stands: leave the other out")
     return f"{config}\n{SEPARATOR}\n{trace}"
-
-
-def is_config(text):
-    """Whether a text is a configuration alone."""
-    try:
-        return SEPARATOR not in text.split("\n") and "network" in toml_text.loads(text)
-    except tomllib.TOMLDecodeError:
-        return False
 
 
 def options_of(config):

@@ -65,6 +65,35 @@ class Commands(ToolTest):
         self.assertEqual(self.run_tool("my.toml", "wrong.trace")[1].split("\n")[1], "fault L2 line 2")
         self.assertNotIn("command:", self.run_tool("--said", "fault C3", "my.toml")[1])
 
+    def test_standard_input_stands_among_files(self):
+        """`-` is a configuration, a trace or both; what the program says of it names it so that it can be run again."""
+        for words, given, status, says in (
+                (["my.toml", "-"], TRACE, 0, "command: build/apctl run my.toml /dev/stdin (`run` is added)"),
+                (["-", "my.trace"], CONFIG, 0, "command: build/apctl run /dev/stdin my.trace (`run` is added)"),
+                (["-"], CONFIG, 0, "command: build/apctl check /dev/stdin (`check` is added)"),
+                (["-"], f"{CONFIG}---\n{TRACE}", 0, "command: build/apctl < /dev/stdin (`<` is added)"),
+                (["my.toml", "-"], "T\nA 4\n", 1, "/dev/stdin:2:3: an odd number of digits")):
+            done, found = self.run_tool(*words, given=given)
+            self.assertEqual(done, status, words)
+            self.assertIn(says, found)
+            self.assertNotIn("/dev/fd", found)
+        self.assertIn("A 4", self.run_tool("my.toml", "-", given="T\nA 4\n")[1])
+        shown = self.run_tool("--lines", "my.toml", "-", given=TRACE)[1]
+        self.assertEqual(shown.replace("/dev/stdin:", "my.trace:"), self.run_tool("--lines", "my.toml", "my.trace")[1])
+        done = subprocess.run([os.path.join(ROOT, "tools", "explain"), "-", "-"], input="", capture_output=True,
+                              text=True, check=False)
+        self.assertEqual((done.returncode, done.stdout), (2, ""))
+        self.assertIn("- stands twice", done.stderr)
+
+    def test_a_word_that_is_nothing_is_a_file_that_is_missing(self):
+        """One that is like no word of the program; what stands behind it leaves that open."""
+        status, found = self.run_tool("nosuch")
+        self.assertEqual(status, 4)
+        self.assertIn("fault file nosuch", found)
+        self.assertIn("`nosuch` isn't there", found)
+        self.assertIn("and no file of this name is there", self.run_tool("nosuch", "my.trace")[1])
+        self.assertEqual(self.run_tool("chekc")[1].split("\n")[0], "fault words")
+
     def test_help_leads_to_the_words_that_were_refused(self):
         """Who has `fault words` finds the form that explains it."""
         self.assertIn("fault words", self.run_tool("--help")[1])

@@ -410,7 +410,8 @@ class Picture(PictureTest):
         for both in ((my_config, INPUT), (INPUT, my_trace)):
             self.refused("picture", *both, REPORT, says="one of them has a line ---")
         self.refused("picture", my_config.replace("toml", "none"), my_trace, REPORT, says="No such file")
-        self.assertEqual(tool("picture", my_trace)[0], 2)
+        self.refused("picture", my_trace, says="has no configuration before a line ---")
+        self.assertEqual(tool("picture")[0], 2)
 
     def test_what_is_no_run_is_refused(self):
         """A file that isn't there, what is no report, a trace without a line, and names that aren't in the run."""

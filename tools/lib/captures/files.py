@@ -6,6 +6,7 @@ from fractions import Fraction
 from itertools import count
 from typing import NamedTuple, Optional
 
+import standard_input
 from captures.blocks import Damaged, WholeBlocks
 
 logging.getLogger("scapy").setLevel(logging.CRITICAL)
@@ -59,12 +60,14 @@ class Heard(NamedTuple):
 
 def read_capture(path):
     """Yields each frame of a capture file, in the file's order. Of a file that ends within a frame, as one that is
-    still written does, it yields those before, and says so on standard error."""
+    still written does, it yields those before, and says so on standard error. `-` is standard input."""
     try:
-        reader = RawPcapReader(path)
+        reader = RawPcapReader(standard_input.path_of(path))
     except (OSError, Scapy_Exception, EOFError, zlib.error) as fault:
+        path = standard_input.name_of(path)
         reason = getattr(fault, "strerror", None) or "it is no pcap or pcapng file"
         raise CaptureError(f"{path}: {reason}") from None
+    path = standard_input.name_of(path)
     blocks = reader.f = WholeBlocks(reader, isinstance(reader, RawPcapNgReader))
     for number in count(1):
         try:
@@ -94,21 +97,23 @@ def captured(path, reader, octets, told, number):
 
 def read_air(path):
     """Yields each frame of a monitor-mode capture, without radiotap."""
+    name = standard_input.name_of(path)
     for frame in read_capture(path):
         if frame.link == RADIOTAP:
-            yield without_radiotap(path, frame)
+            yield without_radiotap(name, frame)
         elif frame.link == PLAIN_80211:
             yield Heard(frame.time, frame.octets, frame.is_whole, None, False, frame.number)
         else:
-            raise CaptureError(f"{path}: {link_name(frame.link)}: it is no capture in monitor mode with radiotap or "
+            raise CaptureError(f"{name}: {link_name(frame.link)}: it is no capture in monitor mode with radiotap or "
                                "plain 802.11 headers")
 
 
 def read_wire(path):
     """Yields each frame of a capture of an Ethernet port."""
+    name = standard_input.name_of(path)
     for frame in read_capture(path):
         if frame.link != ETHERNET:
-            raise CaptureError(f"{path}: {link_name(frame.link)}: it is no capture of an Ethernet port")
+            raise CaptureError(f"{name}: {link_name(frame.link)}: it is no capture of an Ethernet port")
         yield frame
 
 

@@ -98,11 +98,21 @@ def of_known_word(words: list[str]) -> Finding | None:
     return None
 
 
+def is_strange(words: list[str]) -> bool:
+    """Whether nothing is known of these words, and they are like no word of the program: a file may be meant."""
+    return not (of_all_words(words) or of_known_word(words) or meant_by(words[0]))
+
+
+def meant_by(word: str) -> list[str]:
+    """The command that a word means by another name or nearly, if any."""
+    return [CALLED[word.lower()]] if word.lower() in CALLED else \
+        difflib.get_close_matches(word.lower(), list(SUBCOMMANDS), 1, 0.6)
+
+
 def of_other_word(words: list[str]) -> Finding:
     """A first word that nobody has."""
     first, rest = words[0], words[1:]
-    close = [CALLED[first.lower()]] if first.lower() in CALLED else \
-        difflib.get_close_matches(first.lower(), list(SUBCOMMANDS), 1, 0.6)
+    close = meant_by(first)
     if close:
         write = shlex.join([close[0], *rest]) if len(rest) >= LEAST[close[0]] else SUBCOMMANDS[close[0]]
         return Finding(f"the program has no word {quoted(first)}", None, f"write `{write}`")
@@ -118,10 +128,9 @@ def of_other_word(words: list[str]) -> Finding:
         return Finding(f"the program has no word {quoted(first)}, and no options", None, f"{more}its words are {FORMS}")
     if is_like_file(first):
         return of_missing_command(words)
-    if rest and all(os.path.isfile(word) for word in rest):
-        return Finding(f"the program has no word {quoted(first)}", None, f"write `{form_for(rest)}`; its words are "
-                       f"{FORMS}")
-    return Finding(f"the program has no word {quoted(first)}", None, f"its words are {FORMS}")
+    said = f"the program has no word {quoted(first)}, and no file of this name is there"
+    write = f"write `{form_for(rest)}`; " if rest and all(os.path.isfile(word) for word in rest) else ""
+    return Finding(said, None, f"{write}its words are {FORMS}")
 
 
 def of_missing_command(files: list[str]) -> Finding:
@@ -133,7 +142,7 @@ def of_missing_command(files: list[str]) -> Finding:
         return Finding(f"{said}: it is a configuration and a trace in one, with a line `---`", None, f"write {whole}")
     meant = sorted(files, key=lambda name: not CONFIGURATION.search(text_of(name)))
     command = form_for(meant).split()[0]
-    given = standard_input() if len(files) == 1 and CONFIGURATION.search(text_of(first)) else None
+    given = standard_input_file() if len(files) == 1 and CONFIGURATION.search(text_of(first)) else None
     if given:
         return Finding(f"the command `run` is missing: {said}; the trace is on standard input, which `run` doesn't "
                        "read", None, f"write `{shlex.join(['run', first, given])}`, without `<`")
@@ -287,7 +296,7 @@ def of_missing(first: str, files: list[str], form: str) -> Finding:
         return Finding(f"{quoted(files[0])} is a trace, and after `{first}` a configuration stands before it", None,
                        f"write `{first} CONFIG {files[0]}`")
     what = "TRACE" if files else "CONFIG"
-    given = standard_input() if files or first == "check" else None
+    given = standard_input_file() if files or first == "check" else None
     if given and first == "check":
         return Finding("after `check` the word CONFIG is missing, and standard input isn't read for it", None,
                        f"write `{shlex.join([first, given])}`, without `<`")
@@ -297,7 +306,7 @@ def of_missing(first: str, files: list[str], form: str) -> Finding:
     return Finding(f"after `{first}` the word {what} is missing", None, f"write `{form}`")
 
 
-def standard_input() -> str | None:
+def standard_input_file() -> str | None:
     """The name of the file on standard input; None where it is none."""
     try:
         if not stat.S_ISREG(os.fstat(0).st_mode):
