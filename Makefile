@@ -33,7 +33,7 @@ run: apctl ## proves what the program stands on, builds it, and runs it on an ex
 
 # Runs the program without any proof, and says so on standard error: the same report, or its beginning where it has more
 # than 1 MiB. Where the program stands built of these sources, that runs at once.
-try: ## runs the program without any proof on an example or on INPUT=FILE, in a minute
+try: ## runs the program without any proof on an example or on INPUT=FILE, in one to two minutes
 	@.ci/try < "$$INPUT_NAME"
 
 # Reads the configuration of the file CONFIG alone, without any proof: how many networks it has, or its first fault,

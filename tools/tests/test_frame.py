@@ -7,7 +7,7 @@ import re
 import shlex
 import subprocess
 
-from common import CASES, ROOT, ToolTest, heard, input_of, mutated, report_of, tool, with_report
+from common import CASES, ROOT, ToolTest, heard, input_of, mutated, needs_program, report_of, tool, with_report
 from fields import fields_on_air, fields_on_wire
 from framing.networks import Networks
 from framing.reading_out import lines_for
@@ -18,7 +18,7 @@ from texts import read_text
 from writing import frame_of, wanted_of
 
 FIRST, PAGE = CASES["first_trace"], os.path.join(ROOT, "docs", "FIRST_TRACE.md")
-MOST_WORDS, MUTATIONS = 700, 3000
+MOST_WORDS, MUTATIONS = 1000, 3000
 LAB, OURS, STATION = "02:00:00:00:00:01", "020000000001", "02aa00000001"
 RECORDED = glob.glob(os.path.join(ROOT, "crates", "recorded_frames", "specs", "*.antt"))
 RATES = "010482840b16"
@@ -255,16 +255,20 @@ class Page(ToolTest):
     """docs/FIRST_TRACE.md."""
 
     def test_trace_is_the_example(self):
-        """The trace that is shown is that of examples/first_trace, and the example's table has a row for each line."""
-        trace = read_text(os.path.join(FIRST, "input")).partition("\n---\n")[2]
-        page = read_text(PAGE)
-        self.assertIn(f"```\n{trace}```\n", page)
-        table = page.partition("| Line | It says")[2].partition("\n\n")[0]
-        self.assertEqual(len(re.findall(r"^\| \d+ \|", table, re.M)), trace.count("\n"))
+        """Each line of examples/first_trace is shown, as `tools/explain --lines` shows it, and those that it names are
+        what it says of them."""
+        page, lines = read_text(PAGE), read_text(os.path.join(FIRST, "input")).split("\n")
+        first = lines.index("---") + 1
+        for number, line in enumerate(lines, 1):
+            if number > first and line and not line.startswith("#"):
+                self.assertRegex(page, rf"(?m)^examples/first_trace/input:{number}: .*\n    {re.escape(line)}$")
+        for number, kind in ((21, "A 0801"), (23, "W "), (26, "A c000")):
+            self.assertIn(f"line {number}", page)
+            self.assertTrue(lines[number - 1].startswith(kind), number)
 
     def test_it_is_short(self):
-        """It has at most 700 words, the bars of its tables left out."""
-        self.assertLessEqual(len(read_text(PAGE).replace("|", " ").split()), MOST_WORDS)
+        """It has at most 1,000 words."""
+        self.assertLessEqual(len(read_text(PAGE).split()), MOST_WORDS)
 
     def test_octets_are_those_of_the_frames(self):
         """The two octets with which a frame begins are named as the tool names them."""
@@ -277,13 +281,14 @@ class Page(ToolTest):
             self.assertTrue(said.startswith(names.get(kind, kind)), said)
             self.assertEqual("dozes" in said, "Power Management" in flags, said)
 
+    @needs_program
     def test_commands_answer_so(self):
         """Each command of the page that has an answer there gives it."""
-        shown = re.findall(r"^\$ (.*)\n((?:(?!\$ |```).*\n)+)", read_text(PAGE), re.M)
-        self.assertEqual(len(shown), 2)
+        shown = re.findall(r"^\$ ((?:.*\\\n)*.*)\n((?:(?!\$ |```).*\n)+)", read_text(PAGE), re.M)
+        self.assertEqual(len(shown), 3)
         for command, answer in shown:
             done = subprocess.run(["bash", "-c", command], capture_output=True, text=True, cwd=ROOT, check=True)
-            self.assertEqual(done.stdout, answer, command)
+            self.assertEqual(done.stdout.rstrip("\n"), answer.rstrip("\n"), command)
 
     def test_station_of_the_page(self):
         """The addresses that it names are those of the trace."""
