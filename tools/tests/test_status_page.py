@@ -5,8 +5,9 @@ import time
 
 from browser import Browser, needs_chromium
 from common import ToolTest
-from status.demo import demo_of
+from status.demo import demo_of, make_history
 from status.document import Untold, complete
+from status.history import History
 from status.names import Names
 from status.server import serve
 from statuses import busy, document, network, only_known, station
@@ -36,8 +37,9 @@ OVERFLOWS = """(() => {
     if (!text || parent.closest('script, select, noscript') || !parent.checkVisibility()) continue;
     const range = document.createRange();
     range.selectNodeContents(node);
-    const room = parent.closest('td, .card, #figures div, label, header, footer, #lost').getBoundingClientRect();
-    const row = parent.closest('tr, #figures div, #find, header, .card > p, li, footer');
+    const room = parent.closest(
+      'td, .card, #figures div, #places a, label, header, footer, #lost').getBoundingClientRect();
+    const row = parent.closest('tr, #figures div, #find, #places, header, .card > p, li, footer');
     for (const box of Array.from(range.getClientRects()).filter(box => box.width)) {
       if (leaves(box, room) || box.right > wide + 1 || box.left < -1) found.push('leaves its box: ' + text);
       if (row) rows.set(row, [...rows.get(row) || [], [box, text]]);
@@ -113,6 +115,7 @@ class Shown(ToolTest):
         self.told = twenty()
         self.server = self.serve(0)
         self.browser.size(*DESK)
+        self.browser.open("about:blank")  # the page of the test before asks a server that is closed
         self.browser.faults.clear()
 
     def serve(self, port):
@@ -167,11 +170,72 @@ class Shown(ToolTest):
             for told in one["stations"]:
                 self.assertEqual(told["address"] in text, told["state"] == "associated", told)
         for words in ("Gäste ☕", "20 (6 doze)", "e4965d3, channel 6, phy0", "1 d 2 h", "0.4 ms, 7.9 ms", "no wire",
-                      "−30 dBm", "54 Mb/s", "5.5 Mb/s", "2.8 kB", "375 frames",
+                      "−30 dBm", "54 Mb/s", "5.5 Mb/s", "2.8 kB",
                       "5 by status 1 (max_known reached, or another SSID)",
                       "18 stations that only authenticated", "Proved of the program", "Not proved, only tested: "):
             self.assertIn(words, text)
         self.assertEqual(self.browser.faults, [])
+
+    def test_each_column_has_a_head(self):
+        """In a wide window two groups of four columns, apart from each other; in a narrow one the four heads stand
+        above the first group of each station. Each group's numbers stand in one row."""
+        self.open()
+        ways = "[...document.querySelectorAll('{}')].map(way => [...way.children].map(cell => {}))"
+        heads = self.browser.value(ways.format("section:first-child thead .way", "cell.textContent"))
+        self.assertEqual(heads, [["rate", "octets", "frames", "now"]] * 2)
+        third = "section:first-child tbody tr:nth-child(3) .way"
+        self.assertEqual(self.browser.value(ways.format(third, "cell.textContent")),
+                         [["5.5 Mb/s", "343.9 kB", "375", "–"], ["54 Mb/s", "26.6 kB", "250", "–"]])
+        edge = "Math.round(cell.getBoundingClientRect().{})"
+        self.assertEqual(self.browser.value(ways.format(third, edge.format("right"))),
+                         self.browser.value(ways.format("section:first-child thead .way", edge.format("right"))))
+        [to, back] = self.browser.value(ways.format(third, edge.format("left")))
+        self.assertGreater(back[0] - to[3], 2 * (to[3] - to[2]) * 0.6, "the groups run together")
+        shown = "getComputedStyle(cell, '::before').content"
+        for width in (390, 1024):
+            self.browser.size(width, 900)
+            self.assertEqual(self.browser.value(ways.format(third, shown)),
+                             [[f'"{head}"' for head in heads[0]], ["none"] * 4])
+            tops = self.browser.value(ways.format(third, edge.format("bottom")))
+            self.assertEqual([len(set(each)) for each in tops], [1, 1], "a rate stands in a row of its own")
+
+    def test_figures_fill_their_rows(self):
+        """Of one network and of several none stands alone in a row, unless it is as wide as the row."""
+        lefts = "[...document.querySelectorAll('#figures div')].map(it => [it.offsetTop, it.offsetWidth])"
+        for told in (twenty(), document(network(1, b"guests", [station(1)]))):
+            self.open(told)
+            for width in (390, 1024, 1280, 1920):
+                self.browser.size(width, 900)
+                found = self.browser.value(lefts)
+                rows = [[wide for top, wide in found if top == row] for row in sorted({top for top, _ in found})]
+                ends = {sum(row) + 8 * (len(row) - 1) for row in rows}
+                self.assertLessEqual(max(ends) - min(ends), 2, (width, rows))
+
+    def test_links_lead_to_networks(self):
+        """On a telephone too: a link for each of several, and back. One network has none, and no sums of its own."""
+        self.open(busy(16, 100))
+        self.browser.size(*TELEPHONE)
+        links = ("[...document.querySelectorAll('#places a')].filter(it => it.checkVisibility())"
+                 ".map(it => it.textContent)")
+        self.assertEqual(self.browser.value(links), [f"network {number}" for number in range(1, 17)])
+        self.browser.value("document.querySelectorAll('#places a')[11].click()")
+        top = "document.querySelectorAll('#networks section')[11].getBoundingClientRect().top"
+        self.browser.wait(f"Math.abs({top}) < 20")
+        self.browser.value("document.querySelectorAll('#networks .up')[11].click()")
+        self.browser.wait("window.scrollY < 200")
+        self.open(busy(1, 100))
+        self.browser.wait(f"{links}.length === 0")
+        text = self.browser.value(TEXT)
+        for words in ("to the top", "networks\n1", "air\n"):
+            self.assertNotIn(words, text.replace("share of the air\n", ""))
+        self.fit((390, 1024, 1280, 1920), "one")
+
+    def test_a_refusal_is_no_fault(self):
+        """It stands in the colour of all counts."""
+        self.open()
+        colour = ("getComputedStyle([...document.querySelectorAll('.card > p')]"
+                  ".find(it => it.textContent.includes('{}'))).color")
+        self.assertEqual(self.browser.value(colour.format("by status 1")), self.browser.value(colour.format("unread")))
 
     def test_no_text_leaves_its_box_after_a_year(self):
         """In windows of 360 to 2,560 pixels, in light and in dark, no text covers another or leaves its box."""
@@ -249,7 +313,8 @@ class Shown(ToolTest):
         found = self.graphs("#networks section:nth-child(2)")
         self.assertEqual([text for text, _ in found],
                          ["share of the air|4.0 %|at most 4.0 %", "to stations|16.0 kb/s|at most 16.0 kb/s",
-                          "from stations|3.2 kb/s|at most 3.2 kb/s", "stations|2|at most 2", "lost|0.4/s|at most 0.4/s"])
+                          "from stations|3.2 kb/s|at most 3.2 kb/s", "stations|2|at most 2",
+                          "lost|0.4/s|at most 0.4/s, 640 in all"])
         self.assertEqual([count for _, count in found], [2] * 5)
         self.fit((390, 1280, 2560), "sixteen")
         self.browser.value("document.querySelector('td.address button').click()")
@@ -262,22 +327,46 @@ class Shown(ToolTest):
         self.assertEqual(self.browser.faults, [])
 
     def test_rates_of_now_stand_beside_counts(self):
-        """By two answers: how fast counts grow, and how much of the air is used. It is unused only where nobody sends."""
+        """By two answers: how fast counts grow. What the graphs tell stands there alone, and the share of all networks
+        is the sum of theirs; it is unused only where nobody sends."""
         text = self.open(busy(2, 100))
-        self.assertNotIn("air\nunused", text)
-        self.assertIn("share of the air not known yet", text)
+        for words in ("air\n–", "share of the air\n–\n\nnot known yet", "stations\n2\n\nnot known yet", "40 in all"):
+            self.assertIn(words, text)
+        self.remember([busy(2, 100), busy(2, 105)])
         self.told = busy(2, 110)
         self.browser.wait(f"{TEXT}.includes('% used')")
         text = self.browser.value(TEXT)
-        for words in ("6.0 % used", "2.0 % of the air", "4.0 % of the air", "33,000 events (300/s)", "22 units lost (0.2/s)",
-                      "8.0 kb/s"):
+        for words in ("6.0 % used", "share of the air\n2.0 %", "share of the air\n4.0 %", "33,000 events (300/s)",
+                      "44 in all", "8.0 kb/s"):
             self.assertIn(words, text)
+        self.assertEqual([text.count(words) for words in ("of the air", "lost")], [2, 2])
         quiet = busy(2, 120)
-        for one, before in zip(quiet["networks"], self.told["networks"]):
+        for one, before in zip(quiet["networks"], busy(2, 105)["networks"]):
             one["air"] = before["air"]
+        self.remember([quiet])
         self.told = quiet
         self.browser.wait(f"{TEXT}.includes('unused')")
-        self.assertEqual(self.browser.value(TEXT).count("nothing sent but beacons"), 2)
+
+    def test_ten_minutes_are_made_up(self):
+        """The graphs of the demonstration are full at its start, and vary; its counts never fall."""
+        history = History()
+        make_history(history, 0.0)
+        told = history.document(0.0)
+        self.assertEqual((told["seconds"][0], told["seconds"][-1], len(told["seconds"])), (600.0, 5.0, 120))
+        for one in told["networks"]:
+            for name in ("air", "to", "from"):
+                known = [number for number in one[name] if number is not None]
+                self.assertGreaterEqual(len(known), 118, name)
+                self.assertGreater(max(known), 1.5 * min(known), name)
+                self.assertGreaterEqual(min(known), 0, name)
+            self.assertGreater(len(set(one["stations"])), 2)
+        self.assertGreater(max(number for number in told["networks"][1]["lost"] if number is not None), 0)
+        before, later = ({one["bssid"]: one for one in demo_of(0.0, now)["networks"]} for now in (10.0, 250.0))
+        for bssid, one in before.items():
+            for name in ("events", "clock", "unread", "lost"):
+                self.assertLessEqual(one["counts"][name], later[bssid]["counts"][name])
+            left = sum(later[bssid]["leaves"].values())
+            self.assertEqual(later[bssid]["joins"] - left, len(later[bssid]["stations"]))
 
     def test_names_that_the_operator_gave(self):
         """They stand below the addresses, as text, and stations are found by them."""

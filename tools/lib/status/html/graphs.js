@@ -1,12 +1,20 @@
 
 // Small lines of the last ten minutes. /history.json tells how many seconds before now each point was, and of each series
-// a number or null for each point.
+// a number or null for each point. Of a network that the status tells of, `now` is its own number, `beside` stands
+// behind that, and `more` behind the bounds.
 const SPAN = 600, WIDE = 240, HIGH = 40, ROOM = 2, HISTORY_MS = 5000;
 const NETWORK_SERIES = [
   { key: "air", name: "share of the air", shown: percent, most: 1 },
   { key: "to", name: "to stations", shown: bits }, { key: "from", name: "from stations", shown: bits },
-  { key: "stations", name: "stations", shown: count }, { key: "lost", name: "lost", shown: each => perSecond(each) },
+  { key: "stations", name: "stations", shown: count, now: network => network.associated,
+    beside: network => network.dozing ? " (" + several(network.dozing, "dozes", "doze") + ")" : "" },
+  { key: "lost", name: "lost", shown: each => perSecond(each),
+    more: network => ", " + count(lostOf(network)) + " in all" },
 ];
+// What a network lost: units that it couldn't keep, and frames that weren't sent.
+function lostOf(network) {
+  return network.counts && Object.values(network.air.unsent).reduce((sum, number) => sum + number, network.counts.lost);
+}
 const STATION_SERIES = [
   { key: "to", name: "to it", shown: bits }, { key: "from", name: "from it", shown: bits },
   { key: "signal", name: "signal", shown: signal, least: -100, most: -20 },
@@ -39,7 +47,7 @@ const pathOf = piece => "M" + piece.map(([x, y]) => x.toFixed(1) + " " + y.toFix
 const groundOf = piece => "M" + piece[0][0].toFixed(1) + " " + HIGH + "L" + pathOf(piece).slice(1) + "V" + HIGH + "Z";
 function draw(path, text) { if (path.getAttribute("d") !== text) path.setAttribute("d", text); }
 
-function fillGraph(graph, series, history) {
+function fillGraph(graph, series, history, network) {
   const numbers = history?.[series.key] ?? [], known = numbers.filter(number => number !== null);
   const least = series.least ?? 0, most = series.most ?? Math.max(...known, 1e-9);
   const place = (seconds, number) => [WIDE * (1 - seconds / SPAN),
@@ -48,15 +56,17 @@ function fillGraph(graph, series, history) {
   const [ground, line] = graph.querySelectorAll("path");
   draw(ground, found.map(groundOf).join(""));
   draw(line, found.map(pathOf).join(""));
-  const now = numbers.length ? numbers[numbers.length - 1] : null, top = known.length ? Math.max(...known) : null;
-  put(graph.querySelector(".now"), series.shown(now));
-  const bounds = top === null ? "not known yet" : series.least === undefined ? "at most " + series.shown(top) :
-    series.shown(Math.min(...known)) + " to " + series.shown(top);
+  const last = series.now ? series.now(network) : numbers.at(-1) ?? null;
+  const top = known.length ? Math.max(...known) : null;
+  const now = series.shown(last) + (series.beside?.(network) ?? "");
+  put(graph.querySelector(".now"), now);
+  const bounds = (top === null ? "not known yet" : series.least === undefined ? "at most " + series.shown(top) :
+    series.shown(Math.min(...known)) + " to " + series.shown(top)) + (series.more?.(network) ?? "");
   put(graph.querySelector(".most"), bounds);
-  put(graph.querySelector("title"), series.name + " in the last ten minutes: " + bounds + ", now " + series.shown(now));
+  put(graph.querySelector("title"), series.name + " in the last ten minutes: " + bounds + ", now " + now);
 }
-function fillGraphs(graphs, all, history) {
-  all.forEach((series, place) => fillGraph(graphs.children[place], series, history));
+function fillGraphs(graphs, all, history, network) {
+  all.forEach((series, place) => fillGraph(graphs.children[place], series, history, network));
 }
 
 // What is known of networks, and of stations that are opened: by their BSSIDs, and by BSSID and address.

@@ -1,16 +1,14 @@
+// Of the whole radio. What several networks have together stands here; what one alone has, its graphs tell.
 function figures(told) {
-  const beacons = told.beacons, sum = key => told.networks.reduce((sum, network) => sum + network[key], 0);
-  const associated = sum("associated"), doze = sum("dozing");
-  const share = airOf(told.networks);
+  const beacons = told.beacons, isOne = told.networks.length === 1;
   const pairs = [
     ["runs for", duration(told.since)],
-    ["air", share === null ? unknown : share > 0 ? percent(share) + " used" : "unused"],
-    ["networks", count(told.networks.length)],
-    ["stations", count(associated) + (doze ? " (" + several(doze, "dozes", "doze") + ")" : "")],
-    ["beacons sent", brief(beacons.sent), count(beacons.sent)],
+    ...isOne ? [] : figuresOfAll(told.networks),
+    ["beacons", brief(beacons.sent) + " (" + brief(beacons.missed) + " missed)",
+      count(beacons.sent) + " sent, " + several(beacons.missed, "interval", "intervals") + " missed"],
     ["late: mean, worst", milliseconds(beacons.late_ms_mean) + ", " + milliseconds(beacons.late_ms_worst)],
-    ["intervals missed", brief(beacons.missed), count(beacons.missed)],
   ];
+  at("figures").className = isOne ? "few" : "";
   each(at("figures"), pairs, pair => pair[0], pair => {
     const made = document.createElement("div");
     put(add(made, "dt"), pair[0]);
@@ -22,12 +20,33 @@ function figures(told) {
   });
 }
 
+function figuresOfAll(networks) {
+  const sum = key => networks.reduce((sum, network) => sum + network[key], 0), doze = sum("dozing");
+  const share = airOf(networks);
+  return [
+    ["air", share === null ? unknown : share > 0 ? percent(share) + " used" : "unused"],
+    ["networks", count(networks.length)],
+    ["stations", count(sum("associated")) + (doze ? " (" + several(doze, "dozes", "doze") + ")" : "")],
+  ];
+}
+
+// What stands of each way of a station's data, in four columns below their heads.
+const WAY = ["rate", "octets", "frames", "now"];
+function wayOf(into) {
+  const way = add(into, "span", "way");
+  for (const label of WAY) add(way, "span").dataset.label = label;
+  return way;
+}
 function tableOf(into, isOnly) {
   const table = add(into, "table", isOnly ? "only" : ""), head = add(add(table, "thead"), "tr");
   const names = ["station", "state", isOnly ? "known for" : "here for", "heard", "signal"];
   for (const name of names) put(add(head, "th"), name);
   if (!isOnly) put(add(head, "th", "short"), "kept");
-  for (const name of isOnly ? [""] : ["sent to it", "heard from it"]) put(add(head, "th", "wide"), name);
+  for (const name of isOnly ? [""] : ["sent to it", "heard from it"]) {
+    const group = add(head, "th", "wide");
+    put(add(group, "span", "group"), name);
+    if (!isOnly) for (const label of wayOf(group).children) put(label, label.dataset.label);
+  }
   return add(table, "tbody");
 }
 function rowOf() {
@@ -38,9 +57,9 @@ function rowOf() {
   add(add(row, "td", "state"), "span", "mark");
   for (const label of ["here for", "heard", "signal", "kept"]) add(row, "td").dataset.label = label;
   for (const label of ["to it", "from it"]) {
-    const way = add(add(row, "td", "ways"), "span", "way");
-    way.parentNode.dataset.label = label;
-    for (let cell = 0; cell < 4; cell++) add(way, "span");
+    const ways = add(row, "td", "ways");
+    ways.dataset.label = label;
+    wayOf(ways);
   }
   return row;
 }
@@ -74,10 +93,11 @@ function fillRow(row, { station, network }) {
     put(parts[1], octets(number));
     parts[1].title = count(number) + " octets";
     const frames = station["frames_" + way];
-    put(parts[2], brief(frames) + (frames === 1 ? " frame" : " frames"));
+    put(parts[2], brief(frames));
     parts[2].title = several(frames, "frame", "frames");
     put(parts[3], bits(growth(keyOf(network, station), "octets_" + way, station)));
-    parts[3].title = "now";
+    parts[0].title = "the rate of the last frame";
+    parts[3].title = "how fast the octets grow now";
   });
 }
 
@@ -113,7 +133,7 @@ function remember(told) {
   seconds = before && told.since > before.since ? told.since - before.since : null;
   counted = new Map();
   for (const network of before?.networks ?? []) {
-    counted.set(network.bssid, { ...network.counts, seconds: network.air.seconds });
+    counted.set(network.bssid, { ...network.counts });
     for (const station of network.stations) counted.set(keyOf(network, station), station);
   }
   before = told;
@@ -127,19 +147,14 @@ const growing = (key, name, now) => {
   return number ? " (" + perSecond(number) + ")" : "";
 };
 
-// The part of the time in which frames of networks were sent, beacons left out; null where it isn't known yet.
+// The part of the time in which frames of networks were sent, beacons left out, as their graphs have it; null where it
+// isn't known yet.
 function airOf(networks) {
-  const shares = networks.map(network => growth(network.bssid, "seconds", network.air));
+  const shares = networks.map(network => histories.get(network.bssid)?.air.at(-1) ?? null);
   return shares.includes(null) ? null : shares.reduce((sum, share) => sum + share, 0);
 }
-function airText(network) {
-  const share = airOf([network]);
-  const part = share === null ? "share of the air not known yet" : share > 0 ? percent(share) + " of the air" :
-    "nothing sent but beacons";
-  const weight = network.air.weight === 1 ? "" : " (weight " + network.air.weight + ")";
-  const unsent = Object.entries(network.air.unsent).map(([reason, number]) => count(number) + " not sent: " + reason);
-  return [part + weight, several(network.air.waiting, "frame waits", "frames wait"), ...unsent].join(", ");
-}
+const unsentText = network => Object.entries(network.air.unsent).map(
+  ([reason, number]) => count(number) + " not sent: " + reason).join(", ");
 
 // The stations that are searched for, in the order that is asked for. By a number the greatest comes first; who has
 // none, comes last.
@@ -171,29 +186,44 @@ function cardOf() {
   add(card, "h2");
   add(card, "p", "quiet");
   graphsOf(card, NETWORK_SERIES);
-  for (const name of ["quiet", "quiet", "refused", "none"]) add(card, "p", name);
+  for (const name of ["quiet", "quiet", "quiet", "none"]) add(card, "p", name);
   tableOf(card, false);
   const rest = add(card, "details");
   add(rest, "summary");
   tableOf(rest, true);
   add(card, "p", "quiet");
+  const up = add(card, "a", "up");
+  up.href = "#told";
+  put(up, "to the top");
   return card;
 }
+// Links to the networks, where there are several.
+function leadTo(networks) {
+  at("places").hidden = networks.length < 2;
+  each(at("places"), networks, network => network.bssid, () => document.createElement("a"), (link, network) => {
+    link.href = "#" + network.bssid;
+    put(link, network.name);
+  });
+}
 function fillCard(card, network) {
-  const [name, place, graphs, air, counts, refused, none, table, rest, more] = card.children;
+  const [name, place, graphs, counts, unsent, refused, none, table, rest, more, up] = card.children;
+  card.id = network.bssid;
+  up.hidden = shown.networks.length < 2;
   const associated = network.stations.filter(station => station.state === "associated");
   const others = network.stations.filter(station => station.state !== "associated");
   put(name, network.name);
   const down = network.wire_down === null ? "" : ", which went down " + duration(network.wire_down) + " ago";
-  put(place, network.bssid + (network.wire === null ? ", no wire" : ", wire " + network.wire + down));
-  fillGraphs(graphs, NETWORK_SERIES, histories.get(network.bssid));
-  put(air, airText(network));
+  put(place, network.bssid + (network.wire === null ? ", no wire" : ", wire " + network.wire + down) +
+    (network.air.weight === 1 ? "" : ", weight " + network.air.weight));
+  fillGraphs(graphs, NETWORK_SERIES, histories.get(network.bssid), network);
+  put(unsent, unsentText(network));
+  unsent.hidden = !unsent.textContent;
   const told = network.counts;
   const grows = key => growing(network.bssid, key, told);
-  put(counts, told === null ? "no counts yet" : [several(told.events, "event", "events") + grows("events"),
+  const waits = several(network.air.waiting, "frame waits", "frames wait");
+  put(counts, told === null ? "no counts yet, " + waits : [several(told.events, "event", "events") + grows("events"),
     several(told.clock, "beacon interval", "beacon intervals"), count(told.unread) + " unread" + grows("unread"),
-    several(told.lost, "unit", "units") + " lost" + grows("lost"),
-    several(told.kept, "unit", "units") + " kept" + heldText(network)].join(", "));
+    several(told.kept, "unit", "units") + " kept" + heldText(network), waits].join(", "));
   const refusals = Object.entries(network.refusals);
   refused.hidden = !refusals.length;
   put(refused, "refused: " + refusals.map(([status, number]) => count(number) + " by status " + status +

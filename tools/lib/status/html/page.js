@@ -27,7 +27,9 @@ function show(told) {
 }
 
 function arrange() {
-  if (shown) each(at("networks"), shown.networks, network => network.bssid, cardOf, fillCard);
+  if (!shown) return;
+  leadTo(shown.networks);
+  each(at("networks"), shown.networks, network => network.bssid, cardOf, fillCard);
 }
 at("search").addEventListener("input", arrange);
 at("sort").addEventListener("change", arrange);
