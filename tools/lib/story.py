@@ -29,6 +29,8 @@ RESPONSES = {ASSOCIATION_REQUEST: ASSOCIATION_RESPONSE, REASSOCIATION_REQUEST: R
 NOTHING = "nothing"
 # The text of a mark of a unit that the bridge handed to the program: it went back, and no wire brought it.
 WENT_BACK = "back"
+# That of a unit behind which further ones wait, as its frame says (More Data).
+MORE = "more"
 # What a network hears, in kinds.
 REQUESTS, DATA_FRAMES, POLLS, FROM_WIRE, UNREAD = "requests", "data", "polls", "from the wire", "unread"
 
@@ -141,9 +143,9 @@ class Story:
         """Remembers what this line brought about."""
         self.marks.append(Mark(self.line, what, whom, text, letter, sender))
 
-    def end_keeping(self, kept, how):
+    def end_keeping(self, kept, how, text=""):
         """A unit isn't kept any more."""
-        self.mark(how, kept.whom)
+        self.mark(how, kept.whom, text)
         self.keepings.append(Keeping(kept.whom, kept.line, self.line, how, kept.sender))
 
     def count_unread(self, station):
@@ -165,7 +167,9 @@ class Story:
 
     def pop_unit(self, unit):
         """The next frame, with this unit."""
-        self.pop(lambda frame: frame.type == DATA and Unit(frame.receiver, frame.third, frame.body) == unit, "a unit")
+        def is_it(frame):
+            return frame.type == DATA and Unit(frame.receiver, frame.third, frame.body) == unit
+        return self.pop(is_it, "a unit")
 
     def begin_interval(self):
         """A beacon, and the group's units after one with a DTIM. Where units age, the old ones are lost before it."""
@@ -193,9 +197,9 @@ class Story:
     def release(self, whom, most=None):
         """Units that were kept for somebody are sent, in order of arrival."""
         for kept in [kept for kept in self.kept if kept.whom == whom][:most]:
-            self.pop_unit(kept.unit)
+            frame = self.pop_unit(kept.unit)
             self.kept.remove(kept)
-            self.end_keeping(kept, "delivered")
+            self.end_keeping(kept, "delivered", MORE if frame.more_data else "")
 
     def drop(self, station):
         """No unit is kept for a station any more."""

@@ -3,6 +3,7 @@ import os
 import re
 import shutil
 import tomllib
+import xml.etree.ElementTree as tree
 
 from common import ROOT, ToolTest, needs_program, run_program, run_to_end, text_of
 
@@ -41,6 +42,8 @@ WRONG = [
     ("tools/lib/told.py", "RULES.md", "RULE.md", "no document docs/RULE.md"),
     ("tools/lib/told.py", "'docs'", "'tools'", "no document tools/README.md"),
 ]
+
+SVG = "{http://www.w3.org/2000/svg}"
 
 
 class Documents(ToolTest):
@@ -116,3 +119,36 @@ class Readme(ToolTest):
         section = next(block for block in self.blocks() if block.startswith("network "))
         self.assertIn(section, report)
         self.assertEqual(report.count("\nair "), 1)
+
+
+class Drawn(ToolTest):
+    """docs/bridge_frame_way.svg, which is drawn by hand."""
+
+    def test_no_line_crosses_a_box(self):
+        """Each line runs straight, outside all boxes, from the edge of one to that of another."""
+        root = tree.fromstring(text_of("docs", "bridge_frame_way.svg"))
+        boxes = [tuple(float(box.get(name)) for name in ("x", "y", "width", "height"))
+                 for box in root.iter(f"{SVG}rect") if box.get("rx")]
+        lines = [corners(path.get("d")) for path in root.iter(f"{SVG}path") if path.get("marker-end")]
+        self.assertGreater(len(boxes), 20)
+        self.assertGreater(len(lines), 18)
+        for line in lines:
+            for (x, y), (to_x, to_y) in zip(line, line[1:]):
+                self.assertTrue(x == to_x or y == to_y, line)
+                for left, top, width, height in boxes:
+                    is_apart = max(x, to_x) <= left or min(x, to_x) >= left + width or max(y, to_y) <= top or \
+                        min(y, to_y) >= top + height
+                    self.assertTrue(is_apart, (line, left, top))
+            for x, y in (line[0], line[-1]):
+                self.assertTrue(any(left - 3 <= x <= left + width + 3 and top - 3 <= y <= top + height + 3
+                                    for left, top, width, height in boxes), line)
+
+
+def corners(path):
+    """The corners of a path of straight lines."""
+    found = []
+    for kind, numbers in re.findall(r"([MHV])([^MHV]*)", path):
+        x, y = found[-1] if found else (0.0, 0.0)
+        first, *rest = map(float, numbers.split())
+        found.append({"M": (first, *rest), "H": (first, y), "V": (x, first)}[kind])
+    return found

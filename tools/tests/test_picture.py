@@ -13,7 +13,7 @@ import configurations
 import long_run
 from PIL import Image, ImageFont
 from common import (CASES, DEVICES, GUEST, OFFICE, PROGRAM, ROOT, THREE, ToolTest, heard, input_of, needs_program,
-                    report_of, run_program, tool, with_report)
+                    report_of, run_program, run_to_end, tool, with_report)
 from drawing.columns import Clock
 from fields import fields_on_air, fields_on_wire
 from drawing.overview import stretches_of
@@ -44,6 +44,8 @@ MARKS = {GUEST: [("answered", PHONE, 2, "A"), ("answered", PHONE, 3, "J"), ("lef
                    ("DTIM beacon", "beacons", 35, "")]}
 WORDS = {(OFFICE, 6): "aid 1", (OFFICE, 8): "aid 2", (GUEST, 3): "aid 1", (DEVICES, 11): "aid 1",
          (DEVICES, 26): "aid 1", (DEVICES, 35): "group"}
+# The unit behind which another one waits.
+MORE_DATA = (DEVICES, 28)
 
 
 class Box(NamedTuple):
@@ -96,10 +98,10 @@ class Shapes:
         """All texts."""
         return {"".join(element.itertext()) for element in self.texts}
 
-    def overlapping(self):
-        """Pairs of texts that overlap, and those that stand outside the picture."""
+    def overlapping(self, width=WIDTH):
+        """Pairs of texts that overlap, and those that stand outside a picture of this width."""
         boxes = sorted(map(box_of, self.texts), key=lambda box: box.top)
-        found = [(box.text, "outside") for box in boxes if box.left < 0 or box.right > WIDTH]
+        found = [(box.text, "outside") for box in boxes if box.left < 0 or box.right > width]
         for place, box in enumerate(boxes):
             for other in boxes[place + 1:]:
                 if other.top >= box.bottom:
@@ -191,10 +193,34 @@ class Picture(PictureTest):
         for group in shapes.marks():
             words = ["".join(text.itertext()) for text in group.iter(f"{SVG}text")]
             wanted = [group.get("data-letter")] if group.get("data-letter") else []
-            label = WORDS.get((bytes.fromhex(group.get("data-network")), int(group.get("data-lines"))))
-            if label and (group.get("data-what") != "delivered"):
-                wanted.append(label)
+            place = bytes.fromhex(group.get("data-network")), int(group.get("data-lines"))
+            if group.get("data-what") == "delivered":
+                wanted += ["more"] * (place == MORE_DATA)
+            elif WORDS.get(place):
+                wanted.append(WORDS[place])
             self.assertEqual(words, wanted, group.attrib)
+        self.assertIn("more: its frame says More Data", shapes.words())
+        self.assertNotIn("more: its frame says More Data", self.of_example("probe_is_answered").words())
+
+    def test_more_data_is_what_frames_say(self):
+        """A unit says `more` where its frame has More Data, in each example with units that were kept."""
+        count = Counter()
+        for name in ("station_dozes_and_polls", "station_wakes", "group_units_at_the_dtim", "units_over_the_quota"):
+            folder = CASES[name]
+            lines, sections = input_of(folder)[1], report_of(folder)
+            for story in stories(sections, lines, read_config(read_text(os.path.join(folder, "input")))):
+                frames = {}
+                for number, octets in story.frames:
+                    if octets[0] == 0x08:
+                        frames.setdefault(number, []).append(bool(octets[1] & 0x20))
+                delivered = {}
+                for mark in story.marks:
+                    if mark.what == "delivered":
+                        delivered.setdefault(mark.line, []).append(mark.text == "more")
+                for number, marks in delivered.items():
+                    self.assertEqual(marks, frames[number][:len(marks)], (name, number))
+                    count.update(marks)
+        self.assertGreaterEqual(min(count[True], count[False]), 2)
 
     def test_shapes_stand_where_their_lines_do(self):
         """Marks of a line are right of those of the lines before, below its number; bars go from their first line to
@@ -677,7 +703,7 @@ class Overviews(PictureTest):
     def test_links_lead_to_strips(self):
         """In a long picture each stretch of each network leads to the strip in which it begins; a short picture has no
         overview."""
-        trace, report = self.long_run(5000)
+        trace, report = self.long_run(2500)
         shapes = self.shapes(trace, report)
         self.assertEqual(shapes.overlapping(), [])
         strips = sorted(int(group.get("id").removeprefix("strip-")) for attributes, group in shapes.groups
@@ -732,17 +758,17 @@ class Labels(PictureTest):
         self.assertEqual(Shapes(text.replace(again, again + again, 1)).overlapping(), [("devices", "devices")])
 
     @needs_program
-    def test_run_of_5000_lines(self):
-        """In the picture of 5,000 lines, in each of its forms."""
-        trace, report = self.long_run(5000)
+    def test_run_of_2500_lines(self):
+        """In the picture of 2,500 lines, in each of its forms."""
+        trace, report = self.long_run(2500)
         shapes = self.shapes(trace, report)
         self.assertEqual(shapes.overlapping(), [])
-        self.assertGreater(len(shapes.marks()), 1000)
+        self.assertGreater(len(shapes.marks()), 700)
         self.assertGreater(len(shapes.of(what="roaming")), 10)
         numbers = [tuple(map(int, group.get("data-lines").split("-"))) for group in shapes.of(what="quiet")]
         lines = {line for first, *last in numbers for line in range(first, (last or [first])[0] + 1)}
         shown = {int(group.get("data-lines").split("-")[0]) for group in shapes.marks()}
-        self.assertGreater(len(lines | shown), 4500)
+        self.assertGreater(len(lines | shown), 2250)
         for network in (0, 1):
             address = long_run.with_colons(long_run.bssid_of(network))
             self.assertEqual(self.shapes(trace, report, "--network", address).overlapping(), [])
@@ -779,6 +805,42 @@ class Forms(PictureTest):
         return int(re.search(rb"/Count (\d+)", text)[1])
 
     @needs_program
+    def test_run_in_pages(self):
+        """Of 18,000 lines an SVG is an overview, each column of which leads to the page that has its first line; pages
+        lead to each other and back. A converter takes each of these."""
+        trace, report = self.long_run(18_000)
+        status, stdout, stderr = tool("picture", trace, report, "--out", self.path("my run.svg"))
+        self.assertEqual((status, stdout), (0, ""))
+        names = sorted(os.listdir(self.path("my run.pages")))
+        self.assertRegex(stderr, rf"my run.svg: an overview; {len(names)} pages of detail are in \S.*my run.pages\n$")
+        self.assertGreater(len(names), 50)
+        overview = Shapes(self.read("my run.svg"))
+        self.assertLess(os.path.getsize(self.path("my run.svg")), 1 << 20)
+        pages = [Shapes(self.read(os.path.join("my run.pages", name))) for name in names]
+        begins = [min(int(attributes["id"].removeprefix("strip-")) for attributes, _ in page.groups
+                      if attributes.get("id", "").startswith("strip-")) for page in pages]
+        self.assertEqual(begins, sorted(begins))
+        links = list(overview.root.iter(f"{SVG}a"))
+        self.assertGreater(len(links), 60)
+        for link in links:
+            first = int(link.find(f"{SVG}g").get("data-stretch").split("-")[0])
+            page = max(place for place, begin in enumerate(begins) if begin <= max(first, begins[0]))
+            self.assertEqual(link.get("href"), f"my%20run.pages/{names[page]}")
+        for place, page in enumerate(pages):
+            self.assertEqual(page.overlapping(), [], names[place])
+            wanted = ["../my%20run.svg", *names[max(place - 1, 0):place], *names[place + 1:place + 2]]
+            self.assertEqual([link.get("href") for link in page.root.iter(f"{SVG}a")], wanted)
+            self.assertLess(float(page.root.get("height")), 2 * 1414)
+        shown = {int(group.get("data-lines").split("-")[0]) for page in pages for group in page.marks()}
+        self.assertGreater(len(shown), 5000)
+        for name in (self.path("my run.svg"), self.path("my run.pages", names[-1])):
+            done = run_to_end(["rsvg-convert", "--output", self.path("x.png"), name])
+            self.assertEqual((done.returncode, done.stderr), (0, ""))
+        status, stdout, stderr = tool("picture", trace, report)
+        self.assertIn("the overview alone, since all would be more than 32767 pixels high", stderr)
+        self.assertEqual(Shapes(stdout).marks(), [])
+
+    @needs_program
     def test_png_that_would_be_too_high(self):
         """It has the overview alone, and the tool says so."""
         trace, report = self.long_run(20000)
@@ -797,8 +859,12 @@ class Forms(PictureTest):
         text = read_text(path)
         self.assertEqual(set(re.findall(r"[a-z]+://[^\"' <]*", text)), {"http://www.w3.org/2000/svg"})
         self.assertEqual(re.findall(r"<(?:link|img|iframe|object)|\ssrc=|@import|url\(", text), [])
-        picture = re.search(r"<svg.*</svg>", text, re.DOTALL)[0]
-        self.assertEqual(Shapes(picture).words(), self.of_three().words())
+        wide, narrow = map(Shapes, re.findall(r"<svg.*?</svg>", text, re.DOTALL))
+        self.assertEqual(wide.words(), self.of_three().words())
+        self.assertEqual(narrow.overlapping(374), [])
+        of_marks = [Counter(tuple(group.get(f"data-{name}") for name in ("network", "lines", "what", "row"))
+                            for group in shapes.marks()) for shapes in (wide, narrow)]
+        self.assertEqual(of_marks[0], of_marks[1])
         words, lines = (json.loads(re.search(rf"const {name} = (.*);\n", text)[1]) for name in ("WORDS", "LINES"))
         trace = input_of(THREE)[1]
         self.assertEqual(list(lines), [str(line.number) for line in trace])

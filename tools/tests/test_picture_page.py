@@ -61,19 +61,25 @@ class Asked(ToolTest):
             self.assertLessEqual(self.browser.value(table), width)
         self.assertEqual(self.browser.faults, [])
 
-    def test_names_stay_in_sight(self):
-        """Where the picture is wider than the window, the names of networks and rows stay at its left, above the
-        shapes."""
-        self.browser.size(390, 844)
-        self.browser.value("document.getElementById('picture').scrollLeft = 400")
-        lefts = "[...document.querySelectorAll('#picture text.name')].map(name => name.getBoundingClientRect().left)"
-        self.browser.wait(f"Math.min(...{lefts}) >= 0")
-        found = self.browser.value(lefts)
-        self.assertGreater(len(found), 10)
-        self.assertLess(max(found), 150)
-        box = "document.querySelector('#picture text.name:last-of-type').getBoundingClientRect()"
-        top = f"box = {box}, document.elementFromPoint((box.left + box.right) / 2, (box.top + box.bottom) / 2).tagName"
-        self.assertEqual(self.browser.value(top), "text")
+    def test_it_uses_the_width(self):
+        """The search stands above all. In a window of any width the picture is as wide as its box, and no text of it is
+        cut or smaller than nine pixels; a telephone has a picture of its own."""
+        for width in (390, 760, 1024, 1280, 1920):
+            self.browser.size(width, 900)
+            found = self.browser.value("""(() => {
+                const box = document.getElementById('picture').getBoundingClientRect();
+                const [picture] = [...document.querySelectorAll('#picture svg')].filter(it => it.checkVisibility());
+                const wide = picture.getBoundingClientRect(), scale = wide.width / picture.viewBox.baseVal.width;
+                const texts = [...picture.querySelectorAll('text')];
+                return [box.width - wide.width, document.getElementById('ask').getBoundingClientRect().bottom - box.top,
+                        Math.max(...texts.map(it => it.getBoundingClientRect().right)) - box.right,
+                        Math.min(...texts.map(it => it.getAttribute('font-size') * scale)), box.width / innerWidth];
+            })()""")
+            self.assertLess(abs(found[0]), 20, width)
+            self.assertLessEqual(found[1], 0, width)
+            self.assertLessEqual(found[2], 0, width)
+            self.assertGreater(found[3], 7, width)
+            self.assertGreater(found[4], 0.7, width)
         self.assertEqual(self.browser.faults, [])
 
     def test_it_is_dark_where_the_reader_is(self):
@@ -130,6 +136,31 @@ class Long(ToolTest):
                                             ".getBoundingClientRect())")
                 window = browser.value("document.getElementById('picture').clientHeight")
                 self.assertTrue(-5 <= top < window / 2 and bottom > 0, (width, place, top, bottom))
-                browser.value("document.querySelector('#told a').click(); 0")
+                browser.value("document.querySelector('header a').click(); 0")
                 browser.wait("document.getElementById('picture').scrollTop < 40")
+        self.assertEqual(browser.faults, [])
+
+    @needs_program
+    def test_pages_of_detail(self):
+        """Of 6,000 lines there are an overview, one for each kind of window, and pages below it to which it leads. In a
+        narrow window these are wider, and names of rows stay at their left, above the shapes."""
+        trace, report = self.files_of_run(f"{long_run.config()}---\n{long_run.trace(6000)}")
+        self.assertEqual(tool("picture", trace, report, "--out", self.path("long.html")), (0, "", ""))
+        browser = Browser()
+        self.addCleanup(browser.close)
+        browser.size(390, 844)
+        browser.open(f"file://{self.path('long.html')}")
+        self.assertGreater(browser.value("document.querySelectorAll('.detail svg').length"), 20)
+        link = "document.querySelectorAll('.narrow a')[5]"
+        browser.value(f"{link}.dispatchEvent(new MouseEvent('click', {{ bubbles: true, cancelable: true }})); 0")
+        browser.wait(f"location.hash === {link}.getAttribute('href')")
+        browser.wait("document.getElementById('picture').scrollTop > 900")
+        browser.value("document.getElementById('picture').scrollLeft = 400")
+        in_sight = ("[...document.querySelectorAll('.detail text.name')]"
+                    ".map(name => [name, name.getBoundingClientRect()])"
+                    ".filter(([, box]) => box.top > 120 && box.bottom < 450)")
+        browser.wait(f"(it => it.length && it.every(([, box]) => box.left >= 0 && box.left < 150))({in_sight})")
+        top = ("(([name, box]) => document.elementFromPoint((box.left + box.right) / 2, (box.top + box.bottom) / 2)"
+               f" === name)({in_sight}[0])")
+        self.assertTrue(browser.value(top))
         self.assertEqual(browser.faults, [])

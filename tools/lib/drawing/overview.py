@@ -7,15 +7,16 @@ from dataclasses import dataclass, field
 from typing import NamedTuple
 
 from drawing.colours import BLUE, DARK, GREEN, GREY, GRID, LIGHT, LILAC, ORANGE, PALE, PURPLE, RED, STATES, YELLOW
-from drawing.svg import text_width
+from drawing.svg import text_width, wrapped
 from frames import BEACON, DATA, Frame
 from story import ASSOCIATED, DATA_FRAMES, DOZING, FROM_WIRE, POLLS, REQUESTS, UNREAD
 
-WIDTH, MARGIN, LEFT = 1000, 12, 230
-BODY = WIDTH - LEFT - MARGIN
+MARGIN, LEFT = 12, 230
+# Where the picture is narrow, names have less room, and columns stay as wide as words below them need.
+NARROW, NARROW_LEFT, LEAST_WIDE = 700, 186, 18
 SCREEN, MOST_STRETCHES, MOST_SHARE = 880, 40, 4
 HEAD, TEXT, SMALL, LEAST = 13, 10.5, 9.5, 8
-AXIS, GAP, MOST_BLOCK, NAME_WIDTH = 16, 7, 220, 120
+AXIS, GAP, MOST_BLOCK, NAME_GAP = 16, 7, 220, 110
 # A lower network has rows that are all of one height.
 LOW = 70
 BEACONS, ANSWERS, UNITS, ON_WIRE = "beacons", "answers", "units", "on the wire"
@@ -64,18 +65,18 @@ def step_of(length, most):
         exponent += 1
 
 
-def stretches_of(lines, clock):
-    """Lines as at most 41 stretches, and how long each is, in words: of the same time where no stretch has more than a
-    fourth of all lines then, else of the same number of lines."""
+def stretches_of(lines, clock, most=MOST_STRETCHES):
+    """Lines as at most one more than so many stretches, and how long each is, in words: of the same time where no
+    stretch has more than a fourth of all lines then, else of the same number of lines."""
     length = clock.length(lines) if clock.is_known else 0
     if length > 0:
-        step = step_of(length, MOST_STRETCHES)
+        step = step_of(length, most)
         columns = by_time(lines, clock, step)
         if MOST_SHARE * max(map(len, columns.values())) <= len(lines):
             begins = column_at(lines[0], clock, step)
             return [stretch_of(column - begins, group, f"{column * step:.10g}")
                     for column, group in columns.items()], f"{step:g} s"
-    step = max(1, round(step_of(len(lines), MOST_STRETCHES)))
+    step = max(1, round(step_of(len(lines), most)))
     groups = [lines[at:at + step] for at in range(0, len(lines), step)]
     return [stretch_of(column, group, clock.text(group[0])) for column, group in enumerate(groups)], (
         "1 line" if step == 1 else f"{step} lines")
@@ -157,22 +158,29 @@ def most_at_once(spans, stretches):
 
 
 class Overview:
-    """The overview of some lines in the networks of these lanes."""
+    """The overview of some lines in the networks of these lanes, in a picture of this width."""
 
-    def __init__(self, lanes, lines, clock):
-        self.lanes, self.clock = lanes, clock
-        self.stretches, self.each = stretches_of(lines, clock)
+    def __init__(self, lanes, lines, clock, width):
+        self.lanes, self.clock, self.width = lanes, clock, width
+        self.left_edge = LEFT if width > NARROW else NARROW_LEFT
+        body = width - self.left_edge - MARGIN
+        self.stretches, self.each = stretches_of(lines, clock, min(MOST_STRETCHES, int(body / LEAST_WIDE)))
         self.counts = [counts_of(lane, self.stretches) for lane in lanes]
-        self.wide = BODY / (self.stretches[-1].column + 1)
+        self.wide = body / (self.stretches[-1].column + 1)
         self.words_height = max(text_width(words_of(stretch), LEAST) for stretch in self.stretches) + 8
 
     def draw(self, canvas, y, title, link_of=None):
         """Draws it from this height on, and answers where it ends. `link_of` gives what a stretch leads to."""
         begun = y
-        canvas.text(MARGIN, y + HEAD, title, HEAD, weight="bold")
+        room = self.width - 2 * MARGIN
+        for text in wrapped(title, HEAD, room, "bold"):
+            canvas.text(MARGIN, y + HEAD, text, HEAD, weight="bold")
+            y += HEAD + 4
         leads = "a click on it leads there" if link_of else "the words below it draw it alone"
-        canvas.text(MARGIN, y + HEAD + 17, f"Overview: a column is {self.each} of the trace; {leads}", TEXT)
-        y = self.legend(canvas, y + HEAD + 27)
+        for text in wrapped(f"Overview: a column is {self.each} of the trace; {leads}", TEXT, room):
+            canvas.text(MARGIN, y + 13, text, TEXT)
+            y += 13
+        y = self.legend(canvas, y + 10)
         self.axis(canvas, y)
         y += AXIS
         room = SCREEN - (y - begun) - self.words_height
@@ -192,7 +200,7 @@ class Overview:
             if not used:
                 continue
             width = sum(text_width(kind, SMALL) + 26 for kind, _ in used) + text_width(row, SMALL, "bold") + 16
-            if x > MARGIN and x + width > WIDTH - MARGIN:
+            if x > MARGIN and x + width > self.width - MARGIN:
                 x, y = float(MARGIN), y + 17
             canvas.text(x, y + 10, row, SMALL, weight="bold")
             x += text_width(row, SMALL, "bold") + 8
@@ -205,24 +213,25 @@ class Overview:
 
     def left(self, stretch):
         """Where a stretch begins."""
-        return LEFT + self.wide * stretch.column
+        return self.left_edge + self.wide * stretch.column
 
     def axis(self, canvas, y):
         """When stretches begin, as many as have room."""
-        canvas.text(LEFT - 6, y + 11, self.clock.name if self.clock.is_known else "", SMALL, anchor="end", fill=PALE)
+        name = self.clock.name if self.clock.is_known else ""
+        canvas.text(self.left_edge - 6, y + 11, name, SMALL, anchor="end", fill=PALE)
         free = 0.0
         for stretch in self.stretches:
             x = self.left(stretch)
             end = x + text_width(stretch.time, SMALL)
-            if x >= free and end <= WIDTH - 2:
+            if x >= free and end <= self.width - 2:
                 canvas.text(x, y + 11, stretch.time, SMALL)
                 free = end + 6
 
     def block(self, canvas, y, height, lane, counts, link_of):
         """One network: its names, and of each row a bar for each stretch."""
-        canvas.line(MARGIN, y, WIDTH - MARGIN, y, GRID)
+        canvas.line(MARGIN, y, self.width - MARGIN, y, GRID)
         size = TEXT if height >= LOW else SMALL
-        name = shortened(lane.section.name, size)
+        name = shortened(lane.section.name, size, self.left_edge - NAME_GAP)
         canvas.text(MARGIN, y + 11, name, size, weight="bold")
         canvas.text(MARGIN, y + 22, lane.section.bssid.hex(":"), LEAST, fill=PALE)
         rows = self.rows(canvas, y + 2, height - 2, counts)
@@ -238,8 +247,9 @@ class Overview:
             room, most = height * weight / sum(weights), max(height_of(row, each) for each in counts)
             found.append((row, kinds, most, top, room - 2))
             label = f"{row}, up to {most:,}" if most else f"{row}: none"
-            canvas.text(LEFT - 6, top + room - 3, label, SMALL if height >= LOW else LEAST, anchor="end", fill=PALE)
-            canvas.line(LEFT, top + room - 2, WIDTH - MARGIN, top + room - 2, GRID)
+            size = SMALL if height >= LOW else LEAST
+            canvas.text(self.left_edge - 6, top + room - 3, label, size, anchor="end", fill=PALE)
+            canvas.line(self.left_edge, top + room - 2, self.width - MARGIN, top + room - 2, GRID)
             top += room
         return found
 
@@ -284,10 +294,10 @@ def height_of(row, counts):
     return sum(kinds.values()) if row in ("heard", "sent") else max(kinds.values(), default=0)
 
 
-def shortened(name, size):
+def shortened(name, size, room):
     """As much of a name as has room."""
-    if text_width(name, size, "bold") <= NAME_WIDTH:
+    if text_width(name, size, "bold") <= room:
         return name
-    while text_width(f"{name}…", size, "bold") > NAME_WIDTH:
+    while text_width(f"{name}…", size, "bold") > room:
         name = name[:-1]
     return f"{name}…"

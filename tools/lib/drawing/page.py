@@ -1,15 +1,24 @@
 """A picture as one HTML page that needs nothing from elsewhere: it scrolls, and a pointer on a shape shows the lines of
 the trace that it is of, and the frames that came and went with them, field by field."""
 import json
+from typing import NamedTuple
 
 from fields import fields_on_air, fields_on_wire, kind_of
 
 PAGE = """<!DOCTYPE html>
 <html lang="en"><head><meta charset="utf-8">
 <meta name="viewport" content="width=device-width, initial-scale=1"><title>{title}</title><style>
-body {{ margin: 0; font: 14px "DejaVu Sans", Verdana, sans-serif; color: #222; display: flex; }}
-#picture {{ flex: none; height: 100vh; overflow: auto; }}
-#told {{ flex: 1; height: 100vh; overflow: auto; border-left: 1px solid #c9ced6; padding: 0 12px; min-width: 320px;
+body {{ margin: 0; font: 14px "DejaVu Sans", Verdana, sans-serif; color: #222; display: flex; flex-direction: column;
+  height: 100vh; }}
+header {{ display: flex; flex-wrap: wrap; align-items: center; gap: 4px 14px; padding: 8px 12px;
+  border-bottom: 1px solid #c9ced6; }}
+#ask {{ flex: 0 1 420px; min-width: 0; box-sizing: border-box; font: inherit; padding: 4px 8px; }}
+main {{ flex: 1; min-height: 0; display: flex; }}
+#picture {{ flex: 1; min-width: 0; overflow: auto; }}
+#picture svg {{ display: block; width: 100%; height: auto; }}
+.narrow {{ display: none; }}
+.detail svg {{ min-width: 900px; content-visibility: auto; }}
+#told {{ flex: 0 0 clamp(360px, 26vw, 520px); overflow: auto; border-left: 1px solid #c9ced6; padding: 0 12px;
   box-sizing: border-box; }}
 #told h2 {{ font-size: 14px; margin: 14px 0 4px; }}
 #told h3 {{ font-size: 13px; margin: 10px 0 2px; font-weight: normal; color: #555; }}
@@ -17,26 +26,34 @@ body {{ margin: 0; font: 14px "DejaVu Sans", Verdana, sans-serif; color: #222; d
 #told td {{ border-top: 1px solid #e6e8eb; padding: 2px 8px 2px 0; vertical-align: top; }}
 #told td:nth-child(2) {{ font-family: "DejaVu Sans Mono", monospace; word-break: break-all; max-width: 220px; }}
 #told code {{ word-break: break-all; font-size: 12px; }}
-@media (max-width: 1350px) {{
-  body {{ flex-direction: column; height: 100vh; }}
-  #picture {{ flex: 3; height: auto; min-height: 0; }}
-  #told {{ flex: 2; height: auto; min-height: 0; min-width: 0; border-left: none; border-top: 1px solid #c9ced6; }}
+a {{ color: #1f5fa8; }}
+@media (max-width: 1399px) {{
+  main {{ flex-direction: column; }}
+  #picture {{ min-height: 0; }}
+  #told {{ flex: none; max-height: 40vh; border-left: none; border-top: 1px solid #c9ced6; }}
 }}
-#ask {{ width: 100%; box-sizing: border-box; font: inherit; margin-top: 12px; padding: 4px; }}
+@media (max-width: 759px) {{
+  .wide {{ display: none; }}
+  .narrow {{ display: block; max-width: 560px; }}
+}}
 text.name {{ paint-order: stroke; stroke: white; stroke-width: 5px; stroke-linejoin: round; }}
 @media (prefers-color-scheme: dark) {{
   text.name {{ stroke: #15181d; }}
   :root {{ color-scheme: dark; }}
   body {{ background: #15181d; color: #e4e6ea; }}
-  #told, #told td {{ border-color: #3c434d; }}
+  header, #told, #told td {{ border-color: #3c434d; }}
   #told h3 {{ color: #9aa0a8; }}
+  a {{ color: #7db7f0; }}
 }}
 g[data-lines], g[data-span] {{ cursor: pointer; }}
 g.asked > circle, g.asked > rect, g.asked > path {{ stroke: #c8202d; stroke-width: 3; }}
-</style></head><body><div id="picture">{picture}</div><div id="told">
-<input id="ask" placeholder="a line's number, or an address or digits">
-{overview}<p id="found">Point at a shape: its line and its frames are shown here. A click holds them, a second one lets
-go. Enter goes from one find to the next.</p><div id="lines"></div></div>
+</style></head><body>
+<header><input id="ask" type="search" placeholder="a line's number, or an address or digits"><span id="found"></span>
+{overview}</header>
+<main><div id="picture"><div id="top"></div><div class="wide">{wide}</div><div class="narrow">{narrow}</div>
+<div class="detail">{detail}</div></div><div id="told">
+<p>Point at a shape: its line and its frames are shown here. A click holds them, a second one lets go. In the search
+Enter goes from one find to the next.</p><div id="lines"></div></div></main>
 <script>
 "use strict";
 const WORDS = {words};
@@ -98,6 +115,8 @@ function mark(group) {{
   show(...range(group));
   held = true;
 }}
+// Of the pictures for wide and for narrow windows one is shown.
+const isShown = shape => shape.closest(".wide, .narrow, .detail").offsetParent !== null;
 function matches(group, words) {{
   const [first, last] = range(group);
   if (/^[0-9]{{1,7}}$/.test(words)) return first <= Number(words) && Number(words) <= last;
@@ -111,7 +130,8 @@ function matches(group, words) {{
 document.getElementById("ask").addEventListener("keydown", event => {{
   if (event.key !== "Enter") return;
   const words = event.target.value.trim();
-  const groups = [...document.querySelectorAll("g[data-lines]")].filter(group => matches(group, words));
+  const groups = [...document.querySelectorAll("g[data-lines]")].filter(
+    group => isShown(group) && matches(group, words));
   at = words === asked ? at + 1 : 0;
   asked = words;
   found.textContent = groups.length ? "find " + (at % groups.length + 1) + " of " + groups.length : "nothing found";
@@ -120,15 +140,25 @@ document.getElementById("ask").addEventListener("keydown", event => {{
 const shown = document.getElementById("picture"), names = [...document.querySelectorAll("#picture text.name")];
 // Names stay in sight where the picture is wider than its window, above the shapes.
 names.forEach(name => name.ownerSVGElement.appendChild(name));
-shown.addEventListener("scroll", () =>
-  names.forEach(name => name.setAttribute("transform", "translate(" + shown.scrollLeft + " 0)")));
+let moved = 0;
+function move() {{
+  if (shown.scrollLeft === moved) return;
+  moved = shown.scrollLeft;
+  const scales = new Map();
+  for (const name of names) {{
+    const picture = name.ownerSVGElement;
+    if (!scales.has(picture)) scales.set(picture, picture.viewBox.baseVal.width / (picture.clientWidth || 1));
+    name.setAttribute("transform", "translate(" + moved * scales.get(picture) + " 0)");
+  }}
+}}
+shown.addEventListener("scroll", move);
 shown.addEventListener("mouseover", point);
 shown.addEventListener("click", point);
 </script></body></html>
 """
 
 # What leads back to the overview of a long run.
-OVERVIEW = '<p><a href="#overview">Overview</a></p>'
+OVERVIEW = '<a href="#top">Overview</a>'
 
 
 class Words:
@@ -148,8 +178,16 @@ class Words:
         return {"octets": octets.hex(), "fields": flat}
 
 
-def page_of(picture, lines, stories, clock, title):
-    """The page of a picture, of these lines and of what the networks sent for them."""
+class Pictures(NamedTuple):
+    """The pictures of a page: for a wide window, for a narrow one, and pages of detail that stand below either."""
+
+    wide: str
+    narrow: str
+    detail: tuple
+
+
+def page_of(pictures, lines, stories, clock, title):
+    """The page of pictures, of these lines and of what the networks sent for them."""
     words = Words()
     told = {line.number: line_told(line, clock, words) for line in lines}
     for story in stories:
@@ -161,9 +199,10 @@ def page_of(picture, lines, stories, clock, title):
             if number in told:
                 by = words.place(f"{story.section.name} put on the wire")
                 told[number]["sent"].append({"by": by, **words.frame(octets, fields_on_wire(octets))})
-    overview = OVERVIEW if 'id="overview"' in picture else ""
-    return PAGE.format(picture=picture, overview=overview, lines=as_script(told), words=as_script(list(words.places)),
-                       title=title.replace("&", "&amp;").replace("<", "&lt;"))
+    overview = OVERVIEW if 'id="overview"' in pictures.wide else ""
+    title = title.replace("&", "&amp;").replace("<", "&lt;")
+    return PAGE.format(wide=pictures.wide, narrow=pictures.narrow, detail="\n".join(pictures.detail), title=title,
+                       overview=overview, lines=as_script(told), words=as_script(list(words.places)))
 
 
 def as_script(data):

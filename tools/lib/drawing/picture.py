@@ -2,18 +2,21 @@
 lines of the trace from left to right. Each shape says what it is by attributes, so that a program can read the picture
 as well."""
 import bisect
+import itertools
 from contextlib import nullcontext
 
-from drawing.colours import (DARK, GREEN, GREY, GRID, GROUND, ORANGE, PALE, PURPLE, QUIET, RED, RULE, STATES, YELLOW)
+from drawing.colours import (DARK, GREEN, GREY, GRID, GROUND, LINK, ORANGE, PALE, PURPLE, QUIET, RED, RULE, STATES,
+                             YELLOW)
 from drawing.columns import (BEACON_KINDS, BEACONS, CIRCLE_SLOT, CIRCLED, OTHERS, PAD, SLOT, SMALL, Lane, columns_of,
                              drop_silences, strips_of)
 from drawing.overview import Overview
-from drawing.svg import Canvas, text_width
+from drawing.svg import MOST_HEIGHT, Canvas, text_width, wrapped
 from drawing.words import mark_text
-from story import ASSOCIATED, DOZING, GROUP, NOTHING, WIRE
+from story import ASSOCIATED, DOZING, GROUP, MORE, NOTHING, WIRE
 
 WIDTH, MARGIN, LEFT = 1000, 12, 146
-BODY = WIDTH - LEFT - MARGIN
+# Of a picture for a telephone, beside which nothing stands.
+NARROW = 374
 ROW, TITLE, AXIS, STRIP_GAP, LANE_GAP = 24, 17, 27, 18, 4
 MIDDLE, BAR, KEPT_AT, KEPT_BAR, KEPT_PITCH, TRACKS = 8, 11, 14.5, 2.4, 3.0, 3
 TEXT, HEAD, RADIUS, MARK = 10.5, 13, 7, 4.5
@@ -73,9 +76,11 @@ def roaming_of(lanes):
 
 
 class Picture:
-    """All that is asked for of a run. `chosen` are the stations that are shown, all where it is empty."""
+    """All that is asked for of a run. `chosen` are the stations that are shown, all where it is empty. Strips are as
+    wide as the picture, and `name` stands before what links find."""
 
-    def __init__(self, stories, clock, chosen=(), most_stations=40):
+    def __init__(self, stories, clock, chosen=(), most_stations=40, width=WIDTH):
+        self.width, self.name = width, "" if width == WIDTH else f"width-{width}-"
         names = [story.section.name for story in stories]
         self.lanes = [Lane(story, frozenset(chosen), names.count(story.section.name) == 1) for story in stories]
         drop_silences(self.lanes)
@@ -90,7 +95,8 @@ class Picture:
         """Chooses these lines of the trace alone; states are those that the lines before left. Without strips there is
         an overview alone."""
         self.lines = lines
-        self.strips = strips_of(columns_of(self.lanes, lines, self.clock), BODY) if in_strips else []
+        columns = columns_of(self.lanes, lines, self.clock) if in_strips else []
+        self.strips = strips_of(columns, self.width - LEFT - MARGIN)
 
     def name_roaming(self):
         """Where a station joins a second network, its mark says so."""
@@ -107,6 +113,11 @@ class Picture:
         """Whether an overview stands before the strips."""
         return sum(map(self.height_of, self.strips)) > LONG
 
+    @property
+    def is_too_high(self):
+        """Whether no converter takes it in one piece."""
+        return sum(map(self.height_of, self.strips)) + LONG > MOST_HEIGHT
+
     def whole(self):
         """One picture, as an SVG; an overview leads to the strips."""
         self.begin(with_legend=False)
@@ -116,46 +127,74 @@ class Picture:
         self.headline()
         self.legend()
         for strip in self.strips:
-            with self.canvas.group(id=strip_name(strip)) if is_long else nullcontext():
+            with self.canvas.group(id=self.name + strip_name(strip)) if is_long else nullcontext():
                 self.strip(strip)
         self.height = self.y + MARGIN
         return self.canvas.written(self.height)
 
-    def overview_alone(self):
-        """The overview, as an SVG."""
+    def overview_alone(self, link_of=None):
+        """The overview, as an SVG. `link_of` gives what a stretch leads to."""
         self.begin(with_legend=False)
-        self.overview(None)
+        self.overview(link_of)
         return self.canvas.written(self.y + MARGIN)
 
     def overview(self, link_of):
         """Draws the overview."""
-        found = Overview(self.lanes, self.lines, self.clock)
-        with self.canvas.group(id="overview"):
+        found = Overview(self.lanes, self.lines, self.clock, self.width)
+        with self.canvas.group(id=f"{self.name}overview"):
             self.y = found.draw(self.canvas, self.y, self.title(), link_of) + STRIP_GAP
 
-    def strip_of(self, stretch):
-        """The place of the strip in which a stretch begins."""
-        place = bisect.bisect_right([strip.first for strip in self.strips], stretch.first) - 1
-        return f"#{strip_name(self.strips[place])}"
+    def place_of(self, stretch):
+        """In which strip a stretch begins."""
+        return bisect.bisect_right([strip.first for strip in self.strips], stretch.first) - 1
 
-    def pages(self):
-        """The picture as pages of a sheet's form, as many strips on each as fit; the legend stands on the first, and an
-        overview on a page before it."""
-        pages, before = [self.overview_alone()] * self.is_long, None
+    def strip_of(self, stretch):
+        """What leads to the strip in which a stretch begins."""
+        return f"#{self.name}{strip_name(self.strips[self.place_of(stretch)])}"
+
+    def sheets(self):
+        """The strips of each page of a sheet's form, as many as fit; the legend stands on the first."""
+        self.begin()
+        found, y = [], self.y
         for strip in self.strips:
             height = self.height_of(strip)
-            if before is None or self.y + height > PAGE_HEIGHT:
-                if before is not None:
-                    pages.append(self.canvas.written(max(self.y + MARGIN, PAGE_HEIGHT)))
-                self.begin(with_legend=before is None)
-            self.strip(strip)
-            before = strip
-        return [*pages, self.canvas.written(max(self.y + MARGIN, PAGE_HEIGHT))]
+            if not found or y + height > PAGE_HEIGHT:
+                y = float(MARGIN) if found else y
+                found.append([])
+            found[-1].append(strip)
+            y += height
+        return found
+
+    def pages(self, lead=None):
+        """These pages; above the strips of each stands what `lead` gives for its place, pairs of words and the names
+        that they lead to, where there is one."""
+        for place, strips in enumerate(self.sheets()):
+            self.begin(with_legend=place == 0)
+            if lead is not None:
+                self.lead(lead(place))
+            for strip in strips:
+                with self.canvas.group(id=self.name + strip_name(strip)):
+                    self.strip(strip)
+            yield self.canvas.written(max(self.y + MARGIN, PAGE_HEIGHT))
+
+    def lead(self, words):
+        """Words beside each other that lead elsewhere."""
+        x = float(MARGIN)
+        for text, target in words:
+            with self.canvas.link(target):
+                self.canvas.text(x, self.y + TEXT, text, TEXT, fill=LINK if target else PALE)
+            x += text_width(text, TEXT) + 18
+        self.y += TEXT + 10
+
+    def page_of(self, sheets, stretch):
+        """The place of the page on which a stretch begins."""
+        ends = list(itertools.accumulate(map(len, sheets)))
+        return bisect.bisect_right(ends, self.place_of(stretch))
 
     def begin(self, with_legend=True):
         """A new canvas, with the words above all."""
-        self.canvas, self.y = Canvas(WIDTH), float(MARGIN)
-        self.canvas.rectangle(0, 0, WIDTH, 100_000, GROUND)
+        self.canvas, self.y = Canvas(self.width), float(MARGIN)
+        self.canvas.rectangle(0, 0, self.width, 1_000_000, GROUND)
         if with_legend:
             self.headline()
             self.legend()
@@ -170,14 +209,17 @@ class Picture:
 
     def headline(self):
         """What the picture is of."""
-        self.canvas.text(MARGIN, self.y + HEAD, self.title(), HEAD, weight="bold")
-        self.y += HEAD + 10
+        for text in wrapped(self.title(), HEAD, self.width - 2 * MARGIN, "bold"):
+            self.canvas.text(MARGIN, self.y + HEAD, text, HEAD, weight="bold")
+            self.y += HEAD + 5
+        self.y += 5
         for lane in self.lanes:
             section = lane.section
-            text = (f"{section.name} · {section.bssid.hex(':')} · events {section.events}, clock {section.clock}, "
+            told = (f"{section.name} · {section.bssid.hex(':')} · events {section.events}, clock {section.clock}, "
                     f"unread {section.unread}, lost {section.lost}, kept {section.kept}")
-            self.canvas.text(MARGIN, self.y + TEXT, text, TEXT)
-            self.y += TEXT + 5
+            for text in wrapped(told, TEXT, self.width - 2 * MARGIN):
+                self.canvas.text(MARGIN, self.y + TEXT, text, TEXT)
+                self.y += TEXT + 5
         self.y += 4
 
     def legend(self):
@@ -190,6 +232,9 @@ class Picture:
         entries += [("letter", letter, name) for letter, name in LETTERS if letter in letters]
         entries += [("mark", what, name) for what, name in MEANINGS.items()
                     if what in used and what not in ("answered", "left")]
+        texts = {mark.text for lane in self.lanes for line in self.lines for mark in lane.marks_at(line.number)
+                 if mark.what == "delivered"}
+        entries += [("mark", "delivered", "more: its frame says More Data")] * (MORE in texts)
         entries += [("kept bar", "", "as long as it is kept")] * ("kept" in used)
         entries += [("roaming", "", "in two networks")] * any(
             strip.overlaps(roaming.begins, roaming.ends) for roaming in self.roaming for strip in self.strips)
@@ -198,7 +243,7 @@ class Picture:
         x = float(MARGIN)
         for kind, what, name in entries:
             width = 22 + text_width(name, SMALL) + 14
-            if x + width > WIDTH - MARGIN:
+            if x > MARGIN and x + width > self.width - MARGIN:
                 x, self.y = float(MARGIN), self.y + 19
             self.legend_entry(x, self.y + 8, kind, what)
             self.canvas.text(x + 22, self.y + 11.5, name, SMALL)
@@ -291,7 +336,7 @@ class Picture:
     def label(self, x, y, text, taken):
         """A label of the axis, where there is room for it."""
         end = x + text_width(text, SMALL)
-        if not text or end > WIDTH - 2 or any(begin < end + 4 and x < other for begin, other in taken):
+        if not text or end > self.width - 2 or any(begin < end + 4 and x < other for begin, other in taken):
             return False
         taken.append((x, end + 4))
         self.canvas.text(x, y, text, SMALL)
@@ -319,7 +364,7 @@ class Picture:
         if more:
             x = max(LEFT + 6, MARGIN + text_width(lane.name, TEXT, "bold") + 10)
             self.canvas.text(x, self.y + 12, more, SMALL, fill=PALE)
-        self.canvas.line(MARGIN, self.y + 0.5, WIDTH - MARGIN, self.y + 0.5, RULE, 0.8)
+        self.canvas.line(MARGIN, self.y + 0.5, self.width - MARGIN, self.y + 0.5, RULE, 0.8)
         middles = {row: self.y + TITLE + ROW * number + MIDDLE for number, row in enumerate(rows)}
         roaming = {other.station for other in self.roaming if strip.overlaps(other.begins, other.ends)
                    and place in other.places}

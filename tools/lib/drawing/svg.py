@@ -39,6 +39,18 @@ def text_width(text, size, weight="normal"):
     return font(weight).getlength(text) * size / MEASURED_AT
 
 
+def wrapped(text, size, width, weight="normal"):
+    """A text in lines that are at most so wide, broken between words."""
+    lines = [""]
+    for word in text.split(" "):
+        longer = f"{lines[-1]} {word}".lstrip()
+        if lines[-1] and text_width(longer, size, weight) > width:
+            lines.append(word)
+        else:
+            lines[-1] = longer
+    return lines
+
+
 def number(value):
     """A coordinate, short."""
     return f"{value:.1f}".removesuffix(".0")

@@ -1,7 +1,7 @@
 """What a mark of a picture says, in words, for who points at it."""
 from drawing.columns import BEACON_KINDS, OTHERS
 from fields import REASONS, STATUSES
-from story import GROUP, NOTHING, WENT_BACK, WIRE
+from story import GROUP, MORE, NOTHING, WENT_BACK, WIRE
 
 ASKS = {"P": "asks which networks are there", "A": "authenticates", "J": "asks to associate",
         "R": "asks to reassociate",
@@ -31,7 +31,8 @@ def words_of(item):
         sender = f" from {who(item.sender)}" if item.sender is not None else ""
         sender = " that went back to the program" if item.text == WENT_BACK else sender
         whom = "" if item.what == "wired" or item.row == WIRE else f" for {who(item.row)}"
-        return f"a unit{sender}{whom} {UNITS[item.what]}"
+        more = ", and says that more wait (More Data)" if item.text == MORE else ""
+        return f"a unit{sender}{whom} {UNITS[item.what]}{more}"
     frame = "a unit that went back to the program" if item.text == WENT_BACK else "a frame from the wire"
     asks = f"{who(item.row)} {ASKS[item.letter]}" if item.letter else frame
     endings = {"answered": f", and is answered{': ' + item.text.replace('aid', 'identifier') if item.text else ''}",
