@@ -12,10 +12,12 @@ BODIES_OF_A_CHECK = 16
 
 
 class Edit(NamedTuple):
-    """In this file of the crate the old text, which stands there once, becomes the new one."""
+    """In this file of the crate the old text, which stands there once, becomes the new one. Where it turns a definition
+    it may name the law that has to refuse it, by its home."""
     file: str
     old: str
     new: str
+    law: str = ""
 
 
 class NotApplied(Exception):
@@ -42,8 +44,8 @@ def bodies_of(crate):
     for name, edits in tomllib.loads(read(path)).items():
         if not NAME.fullmatch(name):
             raise NotApplied(f"{name}: no name of a body")
-        if not isinstance(edits, list) or not all(set(edit) == {"file", "old", "new"} for edit in edits):
-            raise NotApplied(f"{name}: not a list of edits, each with file, old and new")
+        if not isinstance(edits, list) or not all({*edit} - {"law"} == {"file", "old", "new"} for edit in edits):
+            raise NotApplied(f"{name}: not a list of edits, each with file, old and new, and perhaps a law")
         made[name] = [Edit(**edit) for edit in edits]
     return made
 
@@ -52,7 +54,7 @@ def applied(edits, folder):
     """What the files of a crate hold before these edits and after them, two dictionaries by path. Refuses, by
     `NotApplied`, an edit whose file isn't there, whose old text doesn't stand there once, or that changes nothing."""
     were, texts = {}, {}
-    for file, old, new in edits:
+    for file, old, new, _ in edits:
         path = f"{folder}/{file}"
         if not PATH.fullmatch(file):
             raise NotApplied(f"{file} is no file of src/, specs/ or proofs/")

@@ -1,5 +1,6 @@
-"""The functions whose bodies or proofs the edits of a wrong body turn. A function is named by its home: its module or
-its type, and its name."""
+"""The functions whose bodies, claims or proofs the edits of a wrong body turn. A function is named by its home: its
+module or its type, and its name."""
+import enum
 import os
 import re
 
@@ -14,6 +15,13 @@ OWNER = re.compile(
 )
 # The files of a function's proof.
 PROOFS = ("Answers.antt", "Invariants.antt", "Proof.antt")
+
+
+class Part(enum.Enum):
+    """What of a function a line stands in: its body or its proof, what it claims (its `ensures`), or anything else."""
+    BODY = enum.auto()
+    CLAIM = enum.auto()
+    OTHER = enum.auto()
 
 
 def without_brackets(words):
@@ -35,21 +43,31 @@ def owner_at(lines, number):
     return "".join([found["type"], found["trait"] or "", *names])
 
 
+def part_of(lines, first, begin, end, number):
+    """What of a function a line stands in, where the function and its body begin and end in these lines."""
+    if begin < number < end:
+        return Part.BODY
+    clause = next((line for line in lines[number:first:-1] if CLAUSE.match(line)), "")
+    return Part.CLAIM if number < begin and clause.lstrip().startswith("ensures") else Part.OTHER
+
+
 def function_at(path, lines, number):
-    """The function of a source file that a line stands in, by its home, and whether the line stands in its body. Its
-    attributes and comments above it belong to it."""
+    """The function of a source file that a line stands in, by its home, and what of it that is. Its attributes and
+    comments above it belong to it."""
     while number + 1 < len(lines) and lines[number].lstrip().startswith(("#[", "//")):
         number += 1
     for first in range(number, -1, -1):
         head = FUNCTION.match(lines[first])
         if head:
             rest = range(first, len(lines))
-            begin = next((it for it in rest if lines[it].endswith("{") and not CLAUSE.match(lines[it])), first)
-            end = next((it for it in rest if it > begin and lines[it].startswith(head[1] + "}")), begin)
+            opened = (it for it in rest if lines[it].endswith(("{", "{}")) and not CLAUSE.match(lines[it]))
+            begin, closing = next(opened, first), (head[1] + "}", head[1] + "{}")
+            end = next((it for it in rest if it >= begin and lines[it].startswith(closing)), begin)
             module = path.removeprefix("src/").removesuffix(".rt").removesuffix("/mod")
             above = owner_at(lines, first) if head[1] else module
-            return (f"{above}/{head[2]}", begin < number < end) if number <= end else (None, False)
-    return None, False
+            part = part_of(lines, first, begin, end, number)
+            return (f"{above}/{head[2]}", part) if number <= end else (None, Part.OTHER)
+    return None, Part.OTHER
 
 
 def home_of(folder):
@@ -70,25 +88,37 @@ def changed_lines(text, old, new):
     return first + min(same, len(lines) - 1), first + max(len(lines) - behind - 1, same)
 
 
-def function_of(path, text, old, new):
-    """The function, by its home, whose body or proof an edit of this text of a file turns; none elsewhere."""
+def turned_by(path, text, edit):
+    """The function, by its home, of which an edit of this text of a file turns a part, and that part; or the law that
+    the edit names."""
+    if edit.law:
+        return edit.law, Part.CLAIM
     above, _, file = path.rpartition("/")
     if above.startswith("proofs/") and file in PROOFS:
-        return home_of(above.removeprefix("proofs/"))
-    if not path.startswith("src/") or old not in text:
-        return None
-    (function, begins), (other, ends) = (
-        function_at(path, text.splitlines(), it) for it in changed_lines(text, old, new)
-    )
-    return function if begins and ends and function == other else None
+        return home_of(above.removeprefix("proofs/")), Part.BODY
+    if not path.startswith("src/") or edit.old not in text:
+        return None, Part.OTHER
+    changed = changed_lines(text, edit.old, edit.new)
+    begin, end = (function_at(path, text.splitlines(), it) for it in changed)
+    return begin if begin == end else (None, Part.OTHER)
+
+
+def all_turned(name, edits):
+    """What the edits of a crate turn, one after the other: for each its function and the part of it."""
+    texts = {}
+    for edit in edits:
+        text = texts.get(edit.file) or read(f"{ROOT}/crates/{name}/{edit.file}")
+        yield turned_by(edit.file, text, edit)
+        texts[edit.file] = text.replace(edit.old, edit.new)
 
 
 def functions_of(name, edits):
-    """The functions whose bodies or proofs these edits turn, one after the other, by their homes; none where they turn
-    anything else."""
-    found, texts = set(), {}
-    for path, old, new in edits:
-        text = texts.get(path) or read(f"{ROOT}/crates/{name}/{path}")
-        found.add(function_of(path, text, old, new))
-        texts[path] = text.replace(old, new)
+    """The functions whose bodies, claims or proofs these edits turn, one after the other, by their homes, and the laws
+    that they name; none where they turn anything else."""
+    found = {(None if part is Part.OTHER else function) for function, part in all_turned(name, edits)}
     return set() if None in found else found
+
+
+def turn_a_claim(name, edits):
+    """Whether any of these edits turns what a function claims: those that cite it would be proved by that."""
+    return any(part is Part.CLAIM for _, part in all_turned(name, edits))
