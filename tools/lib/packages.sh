@@ -6,6 +6,12 @@
 bridge_packages=(cargo rustc librust-ahash-dev librust-hex-dev librust-humantime-dev librust-libc-dev
     librust-serde-dev librust-serde-json-dev)
 
+# What building for arm64 takes on another machine, and what runs it there.
+# shellcheck disable=SC2034
+cross_packages=(gcc-aarch64-linux-gnu libc6-dev-arm64-cross libstd-rust-dev:arm64)
+# shellcheck disable=SC2034
+emulating_packages=(qemu-user libc6:arm64 libgcc-s1:arm64)
+
 # Those of these packages that aren't installed, a line each.
 missing_packages() {
     local package
@@ -31,6 +37,9 @@ install_packages() {
         as_root=(sudo)
     fi
     echo "$0: these packages of Debian are missing, and are installed now: $*" >&2
+    if [[ "$*" == *:arm64* && $(dpkg --print-architecture) != arm64 ]]; then
+        "${as_root[@]}" dpkg --add-architecture arm64 || exit 1
+    fi
     "${as_root[@]}" apt-get update >&2 || exit 1
     "${as_root[@]}" env DEBIAN_FRONTEND=noninteractive apt-get install -y --no-install-recommends "$@" >&2 || exit 1
 }
