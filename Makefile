@@ -13,6 +13,16 @@ $(error there is no target $(firstword $(OTHERS)), and nothing was begun; `make`
     as in `make try INPUT=my.input` and `make try-check CONFIG=my.toml`)
 endif
 
+# For which machine these targets build, by Debian's name of it: amd64 or arm64. Without it, for the one on which they
+# run.
+FOR_ARCH = apctl bridge deb fuzz
+ifneq ($(ARCH),)
+ifneq ($(filter-out $(FOR_ARCH), $(or $(MAKECMDGOALS), help)),)
+$(error ARCH is for $(FOR_ARCH), and nothing was begun)
+endif
+endif
+export ARCH
+
 # Begins nothing: says what there is to make.
 help: ## says this
 	@echo 'make TARGET, where TARGET is one of'
@@ -84,12 +94,14 @@ stress: apctl ## plays four traces at once, a hundred times or TIMES=N times
 	@bench/stress $(TIMES)
 
 # Runs the program over hostile frames, wired frames, traces and records, each drawn from a fixed seed, and compares
-# each answer with those of two models, octet for octet. The last line is 'N compared, M differ'.
+# each answer with those of two models, octet for octet. The last line is 'N compared, M differ'. With ARCH=arm64 the
+# program for that machine runs by qemu-aarch64, and the last line says whether it passed.
 fuzz: apctl ## compares the program with two models of the rules over hostile input
-	@bench/fuzz
+	@if [ "$$ARCH" = arm64 ] && [ "$$(uname -m)" != aarch64 ]; then .ci/arm64 fuzz; else bench/fuzz; fi
 
 # The built program, build/apctl, of proved crates. An earlier one stays until it is built, and where a proof fails;
-# .ci/origin tells which it is.
+# .ci/origin tells which it is. With ARCH=arm64 build/arm64/apctl, over the same libraries, for which it takes Debian's
+# packages gcc-aarch64-linux-gnu, libc6-dev-arm64-cross and libstd-rust-dev:arm64, and installs those that are missing.
 apctl: ## proves the program and builds it, as build/apctl
 	@.ci/build
 
@@ -109,8 +121,9 @@ test-tools: ## tests the tools of tools/
 	@tools/dev/install
 	@tools/dev/test
 
-# The bridge of tools/live, build/bridge/release/bridge, by Debian's own cargo. Takes Debian's packages that
-# tools/bridge/build names, and installs those that are missing.
+# The bridge of tools/live, build/bridge/release/bridge, by Debian's own cargo, and with ARCH=arm64
+# build/arm64/bridge/release/bridge. Takes Debian's packages that tools/bridge/build names, and installs those that are
+# missing.
 bridge: ## builds the bridge of tools/live, by Debian's cargo
 	@tools/bridge/build
 
@@ -162,8 +175,9 @@ install: ## installs build/apctl, man pages and tools below PREFIX=/usr/local
 uninstall: ## takes away what was installed below PREFIX
 	@DESTDIR="$(DESTDIR)" share/install --uninstall "$(PREFIX)"
 
-# Packs the program that stands built, with the bridge, as build/waltigon_VERSION_amd64.deb. Takes Debian's packages
-# debhelper and lintian, and those of `make bridge`, and installs those that are missing. It proves no program, and says
-# at once where none is built.
+# Packs the program that stands built, with the bridge, as build/waltigon_VERSION_amd64.deb, and the proved libraries as
+# build/libwaltigon-dev_VERSION_amd64.deb; with ARCH=arm64 those for that machine. Takes Debian's packages debhelper and
+# lintian, and those of `make bridge`, and installs those that are missing. It proves no program, and says at once where
+# none is built.
 deb: ## packs build/apctl, bridge and tools as a package for Debian
 	@share/deb

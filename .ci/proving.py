@@ -24,7 +24,9 @@ import time
 from concurrent.futures import FIRST_COMPLETED, ThreadPoolExecutor, wait
 from typing import NamedTuple
 
-ROOT = os.path.dirname(os.path.dirname(os.path.abspath(__file__)))
+import machines
+from machines import AMD64, ROOT
+
 PROGRAM = "apctl"
 # What a crate is proved and built of.
 PARTS = ("src", "specs", "proofs")
@@ -47,18 +49,6 @@ LOGIC = "dac8208d650f15bf"
 NICE, NEAR = "10", 0.8
 
 begun = time.monotonic()
-
-
-class Machine(NamedTuple):
-    """What is built for: its name among the compiler's targets, and what the linker takes, below the toolchain's
-    folder: its own tools, the libraries of the C library's memory and of the system's calls."""
-    target: str
-    tools: str
-    memory: str
-    system: str
-
-
-MACHINE = Machine("x86_64-unknown-linux-gnu", "toolchain", "c/liblibc_c.a", "c/libos_c.a")
 
 
 def say(text):
@@ -94,9 +84,14 @@ def proved_by_gate(name):
     return os.path.join(folder(name), "out", "rlib")
 
 
-def static_library(name):
-    """Where the static library of a crate is built."""
-    return os.path.join(folder(name), "out", f"lib{name}.a")
+def static_library(name, machine=AMD64):
+    """Where the static library of a crate is built for a machine."""
+    return os.path.join(machines.below(os.path.join(folder(name), "out"), machine), f"lib{name}.a")
+
+
+def made_program(machine):
+    """Where the program's own files are while it is built for a machine."""
+    return made(PROGRAM) if machine == AMD64 else os.path.join(folder(PROGRAM), "out", machine.arch)
 
 
 def text_of(path):
@@ -184,10 +179,10 @@ def stamp_of(crates, name):
     return whole.hexdigest()
 
 
-def sum_of_made(name):
-    """The checksum of all that was made of a crate, as it stands now."""
-    files = [os.path.join(at, file) for at, _, files in os.walk(made(name)) for file in files]
-    return sum_of([it for it in files if it != os.path.join(made(name), "stamp")], made(name))
+def sum_of_made(place):
+    """The checksum of all that was made in a folder, as it stands now."""
+    files = [os.path.join(at, file) for at, _, files in os.walk(place) for file in files]
+    return sum_of([it for it in files if it != os.path.join(place, "stamp")], place)
 
 
 def words_for(crates, name, processes, place=made):
@@ -219,35 +214,35 @@ def run_prover(name, words):
     return status or int(not re.search("^logic=proved ", said, re.M)), said
 
 
-def is_kept(name, stamp):
-    """Whether what was made of a crate was made of this, and stands as it was made."""
-    return text_of(os.path.join(made(name), "stamp")).decode() == f"{stamp} {sum_of_made(name)}"
+def is_kept(place, stamp):
+    """Whether what was made in a folder was made of this, and stands as it was made."""
+    return text_of(os.path.join(place, "stamp")).decode() == f"{stamp} {sum_of_made(place)}"
 
 
-def begin(name):
-    """Leaves nothing of what was made of a crate before."""
-    shutil.rmtree(made(name), ignore_errors=True)
-    os.makedirs(made(name))
+def begin(place):
+    """Leaves nothing of what was made in a folder before."""
+    shutil.rmtree(place, ignore_errors=True)
+    os.makedirs(place)
 
 
-def keep(crates, name, stamp):
-    """Writes down of what a crate was made, unless that was changed meanwhile: who knows what was read then."""
-    if stamp_of(crates, name) == stamp:
-        with open(os.path.join(made(name), "stamp"), "w") as file:
-            file.write(f"{stamp} {sum_of_made(name)}")
+def keep(place, stamp, now):
+    """Writes down of what something was made, unless that was changed meanwhile: who knows what was read then."""
+    if now == stamp:
+        with open(os.path.join(place, "stamp"), "w") as file:
+            file.write(f"{stamp} {sum_of_made(place)}")
 
 
 def prove(crates, name, processes, gives_way):
     """Proves a library by this number of processes, which may give way to others, unless that was done before: the
     status, and what the prover said."""
     stamp = stamp_of(crates, name)
-    if is_kept(name, stamp):
+    if is_kept(made(name), stamp):
         return 0, ""
-    begin(name)
+    begin(made(name))
     words = [*words_for(crates, name, processes), "--statements", "-o", os.path.join(made(name), f"{name}.rlib")]
     status, said = run_prover(name, ["nice", "-n", NICE, *words] if gives_way else words)
     if status == 0:
-        keep(crates, name, stamp)
+        keep(made(name), stamp, stamp_of(crates, name))
     return status, said
 
 
@@ -318,55 +313,86 @@ def processes_that_fit(crate):
     return processes
 
 
-def make_program(crates, processes, machine=MACHINE):
-    """Proves the program over what its libraries state, builds it and links it: the status, and what was said."""
-    linked, tools = os.path.join(made(PROGRAM), PROGRAM), ["--toolchain", of_kit(machine.tools)]
-    words = [*words_for(crates, PROGRAM, processes), *tools, "--backend", "llvm", "-o", f"{linked}.o"]
-    status, said = run_prover(PROGRAM, words)
+def verdict(said):
+    """The prover's verdict in what it said."""
+    return re.search("^logic=.*", said, re.M)[0]
+
+
+def words_of(machine):
+    """The words of the prover for what is built for a machine. Where that can't be built, this ends."""
+    words = ["--toolchain", machines.tools_for(machine, kit())]
+    return words if machine == AMD64 else [*words, "--target", machine.target]
+
+
+def make_program(crates, processes, machine=AMD64, place=made):
+    """Proves the program over what its libraries state, each in its folder, builds it for a machine, and links it: the
+    status, and what was said."""
+    linked, calls = os.path.join(made_program(machine), PROGRAM), machines.calls_for(machine, kit())
+    words = [*words_for(crates, PROGRAM, processes, place), *words_of(machine)]
+    status, said = run_prover(PROGRAM, [*words, "--backend", "llvm", "-o", f"{linked}.o"])
     if status:
         return status, said
-    words = [of_kit("bin", "rattle-link"), "--target", machine.target, *tools, "-o", linked, f"{linked}.o"]
-    return called(PROGRAM, [*words, of_kit(machine.system), of_kit(machine.memory)])
+    words = [of_kit("bin", "rattle-link"), "--target", machine.target, *words_of(machine)[:2]]
+    status, told = called(PROGRAM, [*words, "-o", linked, f"{linked}.o", *calls])
+    return status, said + told
 
 
-def build_program(crates):
-    """Has the program made, unless that was done before: whether it is there."""
-    say(f"{PROGRAM}: proving and building it")
+def program_stamp(crates, machine):
+    """The checksum of all that the program is built of for a machine."""
     stamp = stamp_of(crates, PROGRAM)
-    if is_kept(PROGRAM, stamp):
+    if machine == AMD64:
+        return stamp
+    calls = b"".join(map(text_of, machines.calls_for(machine, kit())))
+    return hashlib.sha256(f"{stamp} {machine.target} ".encode() + calls).hexdigest()
+
+
+def build_program(crates, machine=AMD64, place=made):
+    """Has the program made for a machine, unless that was done before: whether it is there. Over libraries in other
+    folders than its own it is made anew."""
+    say(f"{PROGRAM}: proving and building it" + told_of(machine))
+    folder_of_it = made_program(machine)
+    stamp = program_stamp(crates, machine)
+    if place is made and is_kept(folder_of_it, stamp):
         return True
-    begin(PROGRAM)
-    status, said = make_program(crates, processes_that_fit(crates[PROGRAM]))
+    begin(folder_of_it)
+    status, said = make_program(crates, processes_that_fit(crates[PROGRAM]), machine, place)
     if status:
         say(f"{PROGRAM}: not built")
         print(said, file=sys.stderr)
         return False
-    keep(crates, PROGRAM, stamp)
-    say(f"{PROGRAM}: proved and built")
+    if place is made:
+        keep(folder_of_it, stamp, program_stamp(crates, machine))
+    say(f"{PROGRAM}: proved and built{told_of(machine, said)}")
     return True
 
 
-def is_older(crates, name):
+def told_of(machine, said=None):
+    """Of another machine than the toolchain's: which it is, and the verdict for it, which is one of its own."""
+    if machine == AMD64:
+        return ""
+    return f" for {machine.arch}" + (f", by a verdict of its own: {verdict(said)}" if said else "")
+
+
+def is_older(crates, name, machine=AMD64):
     """Whether the static library of a crate is missing, or older than a file of it or of what it stands on. One that
     was brought here from another machine counts by its time too, so it is told by no sum."""
     try:
-        built = os.stat(static_library(name)).st_mtime_ns
+        built = os.stat(static_library(name, machine)).st_mtime_ns
     except FileNotFoundError:
         return True
     files = [file for it in (name, *below(crates, name)) for file in crates[it].files()]
     return any(os.stat(it).st_mtime_ns > built for it in files)
 
 
-def build_static(crates, name, processes, place=made, machine=MACHINE):
-    """Proves a crate over what its libraries state, each in its folder, and builds its static library: the status, and
-    what was said."""
-    library = static_library(name)
+def build_static(crates, name, processes, place=made, machine=AMD64):
+    """Proves a crate over what its libraries state, each in its folder, and builds its static library for a machine:
+    the status, and what was said."""
+    library = static_library(name, machine)
     os.makedirs(os.path.dirname(library), exist_ok=True)
     with contextlib.suppress(FileNotFoundError):
         os.remove(library)
-    words = [*words_for(crates, name, processes, place), "--crate-type", "staticlib"]
-    words += ["--toolchain", of_kit(machine.tools), "-o", f"{library}.part"]
-    status, said = run_prover(name, words)
+    words = [*words_for(crates, name, processes, place), "--crate-type", "staticlib", *words_of(machine)]
+    status, said = run_prover(name, [*words, "-o", f"{library}.part"])
     if status == 0:
         os.replace(f"{library}.part", library)
     return status, said

@@ -66,7 +66,8 @@ class SmallCrate(ToolTest):
         self.write("wrong/part.toml", BODY.format("twice", "walk(1)", "walk(2)"))
         self.write("wrong/gate.txt", "# none\n")
         os.makedirs(self.path(".ci"))
-        for name in ("wrong/bodies.py", "wrong/functions.py", "wrong/check", "wrong/try", ".ci/proving.py"):
+        for name in ("wrong/bodies.py", "wrong/functions.py", "wrong/check", "wrong/try", ".ci/machines.py",
+                     ".ci/proving.py"):
             shutil.copy(os.path.join(ROOT, name), self.path(name))
 
 

@@ -22,7 +22,7 @@ use libc::{c_int, c_ulong};
 
 use crate::control::faults::Fault;
 use crate::os::landlock::{allow_name, domain, OF_ITSELF, READ_FILE};
-use crate::os::seccomp::{Calls, Rule, ANY, OF_BRIDGE, OF_PROGRAM};
+use crate::os::seccomp::{of_bridge, of_program, Calls, Rule};
 use crate::os::system_call::checked;
 
 /// The head of capset(2), and its two halves of three sets.
@@ -59,7 +59,7 @@ fn control_process(what: c_int, number: c_ulong) -> io::Result<()> {
 /// The bridge keeps to its list of calls from now on. Of all processes it may end this one, its program.
 pub fn keep_to_calls(program: u32) -> Result<(), Fault> {
     let ends_program = Rule::OfProcess(libc::SYS_kill, program);
-    let calls = Calls::of(OF_BRIDGE.iter().chain(ANY).chain([&ends_program]));
+    let calls = Calls::of(of_bridge().chain([&ends_program]));
     calls.take_on().map_err(|fault| Fault::of("no list of calls can be kept to (seccomp)", &fault))
 }
 
@@ -99,7 +99,7 @@ impl Bounds {
     /// For this program and its configuration, with so many octets of address space.
     pub fn of(program: &str, config: &str, memory: u64) -> Result<Bounds, Fault> {
         let domain = domain(program.as_ref(), config.as_ref()).map_err(|fault| Fault::of(program, &fault))?;
-        Ok(Bounds { domain, calls: Calls::of(OF_PROGRAM.iter().chain(ANY)), memory })
+        Ok(Bounds { domain, calls: Calls::of(of_program()), memory })
     }
 
     /// What a command starts runs within them.

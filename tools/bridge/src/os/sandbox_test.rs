@@ -28,7 +28,7 @@ fn bridge_that(calls: impl Fn() -> c_long + Send + Sync + 'static) -> Option<i32
 
 /// The same of a bridge with this program.
 fn bridge_with(program: u32, calls: impl Fn() -> c_long + Send + Sync + 'static) -> Option<i32> {
-    let list = Calls::of(OF_BRIDGE.iter().chain(ANY).chain([&Rule::OfProcess(libc::SYS_kill, program)]));
+    let list = Calls::of(of_bridge().chain([&Rule::OfProcess(libc::SYS_kill, program)]));
     let outcome = process_that(move || {
         no_new_privileges();
         list.take_on()?;
@@ -281,7 +281,7 @@ fn a_thread_that_writes_keeps_to_the_calls_of_the_bridge() {
                 to.write_all(&[piece, &vec![7; 1 << 20]].concat()).unwrap();
             })?;
             no_new_privileges();
-            Calls::of(OF_BRIDGE.iter().chain(ANY)).take_on()?;
+            Calls::of(of_bridge()).take_on()?;
             assert_eq!(writer.push(vec![7; 1 << 16]), Ok(()));
             let mut octets = vec![0; (1 << 16) + (1 << 20)];
             far.read_exact(&mut octets)?;

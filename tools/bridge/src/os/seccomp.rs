@@ -8,6 +8,7 @@ use std::io;
 use libc::{c_int, c_long, c_ulong, sock_filter};
 
 use crate::os::system_call::checked;
+use processor::ARCHITECTURE;
 
 /// What becomes of a call, by its number and perhaps one of its arguments, of which the low half is looked at.
 #[derive(Debug, Clone, Copy)]
@@ -35,10 +36,6 @@ const ALLOW: u32 = 0x7fff_0000;
 const ERRNO: u32 = 0x0005_0000;
 const FOR_ALL_THREADS: c_ulong = 1;
 const KILL_PROCESS: u32 = 0x8000_0000;
-#[cfg(target_arch = "x86_64")]
-const ARCHITECTURE: u32 = 0xc000_003e;
-#[cfg(target_arch = "aarch64")]
-const ARCHITECTURE: u32 = 0xc000_00b7;
 /// From this number on calls are those of another interface of the same processor.
 const OTHER_INTERFACE: u32 = 0x4000_0000;
 const NUMBER_AT: u32 = 0;
@@ -62,8 +59,38 @@ const ASKED: &[u32] = &[
     libc::SIOCGIFFLAGS as u32,
 ];
 
+/// What is of one processor: its number of <linux/audit.h>, and the older calls that it has beside those of all.
+#[cfg(target_arch = "x86_64")]
+mod processor {
+    use super::{Rule, WRITES};
+
+    pub const ARCHITECTURE: u32 = 0xc000_003e;
+    pub const ANY: &[Rule] = &[Rule::Allowed(libc::SYS_poll), Rule::Refused(libc::SYS_access, libc::EACCES)];
+    pub const OF_BRIDGE: &[Rule] = &[
+        Rule::Allowed(libc::SYS_epoll_wait),
+        Rule::Refused(libc::SYS_readlink, libc::EACCES),
+        Rule::Refused(libc::SYS_open, libc::EACCES),
+    ];
+    pub const OF_PROGRAM: &[Rule] = &[
+        // Where its own file is.
+        Rule::Allowed(libc::SYS_readlink),
+        Rule::Without(libc::SYS_open, 1, WRITES),
+        Rule::Allowed(libc::SYS_arch_prctl),
+        Rule::Allowed(libc::SYS_stat),
+    ];
+}
+#[cfg(target_arch = "aarch64")]
+mod processor {
+    use super::Rule;
+
+    pub const ARCHITECTURE: u32 = 0xc000_00b7;
+    pub const ANY: &[Rule] = &[];
+    pub const OF_BRIDGE: &[Rule] = &[];
+    pub const OF_PROGRAM: &[Rule] = &[];
+}
+
 /// What any program needs that has begun: its memory, its end, its signals and the time.
-pub const ANY: &[Rule] = &[
+const ANY: &[Rule] = &[
     Rule::Allowed(libc::SYS_read),
     Rule::Allowed(libc::SYS_write),
     Rule::Allowed(libc::SYS_writev),
@@ -97,10 +124,6 @@ pub const ANY: &[Rule] = &[
     Rule::Refused(libc::SYS_faccessat, libc::EACCES),
     // A program that panics tells the frames of its stack by it, if the environment asks for them.
     Rule::Refused(libc::SYS_getcwd, libc::EACCES),
-    #[cfg(target_arch = "x86_64")]
-    Rule::Allowed(libc::SYS_poll),
-    #[cfg(target_arch = "x86_64")]
-    Rule::Refused(libc::SYS_access, libc::EACCES),
 ];
 
 /// What the bridge asks by fcntl(2): to copy a descriptor, and how one is waited for and handed on. To whom the kernel
@@ -113,11 +136,8 @@ const DESCRIPTORS: &[u32] = &[
     libc::F_SETFL as u32,
 ];
 
-/// What the bridge does once it serves: it waits, reads and sends. It may end the program besides (`Rule::OfProcess`).
-/// It sends on a socket without an address, so by its interface alone, and sends no descriptors.
-pub const OF_BRIDGE: &[Rule] = &[
-    #[cfg(target_arch = "x86_64")]
-    Rule::Allowed(libc::SYS_epoll_wait),
+/// The bridge, beside what any program needs.
+const OF_BRIDGE: &[Rule] = &[
     Rule::Allowed(libc::SYS_epoll_pwait),
     Rule::Allowed(libc::SYS_recvmmsg),
     Rule::Null(libc::SYS_sendto, ADDRESS),
@@ -141,14 +161,10 @@ pub const OF_BRIDGE: &[Rule] = &[
     Rule::Refused(libc::SYS_statx, libc::EACCES),
     Rule::Refused(libc::SYS_newfstatat, libc::EACCES),
     Rule::Refused(libc::SYS_readlinkat, libc::EACCES),
-    #[cfg(target_arch = "x86_64")]
-    Rule::Refused(libc::SYS_readlink, libc::EACCES),
-    #[cfg(target_arch = "x86_64")]
-    Rule::Refused(libc::SYS_open, libc::EACCES),
 ];
 
-/// What the program does: it is loaded, opens its configuration, and reads and writes. It may have threads.
-pub const OF_PROGRAM: &[Rule] = &[
+/// The program, beside what any one needs.
+const OF_PROGRAM: &[Rule] = &[
     Rule::Allowed(libc::SYS_readv),
     Rule::Allowed(libc::SYS_pread64),
     Rule::Allowed(libc::SYS_mmap),
@@ -162,8 +178,6 @@ pub const OF_PROGRAM: &[Rule] = &[
     Rule::Allowed(libc::SYS_uname),
     // Where its own file is.
     Rule::Allowed(libc::SYS_readlinkat),
-    #[cfg(target_arch = "x86_64")]
-    Rule::Allowed(libc::SYS_readlink),
     // Landlock says which files: itself and its configuration.
     Rule::Allowed(libc::SYS_execve),
     Rule::Without(libc::SYS_openat, 2, WRITES),
@@ -172,13 +186,18 @@ pub const OF_PROGRAM: &[Rule] = &[
     Rule::Refused(libc::SYS_clone3, libc::ENOSYS),
     Rule::Refused(libc::SYS_ioctl, libc::ENOTTY),
     Rule::Refused(libc::SYS_fcntl, libc::EPERM),
-    #[cfg(target_arch = "x86_64")]
-    Rule::Without(libc::SYS_open, 1, WRITES),
-    #[cfg(target_arch = "x86_64")]
-    Rule::Allowed(libc::SYS_arch_prctl),
-    #[cfg(target_arch = "x86_64")]
-    Rule::Allowed(libc::SYS_stat),
 ];
+
+/// What the bridge does once it serves: it waits, reads and sends. It may end the program besides (`Rule::OfProcess`).
+/// It sends on a socket without an address, so by its interface alone, and sends no descriptors.
+pub fn of_bridge<'a>() -> impl Iterator<Item = &'a Rule> {
+    processor::OF_BRIDGE.iter().chain(OF_BRIDGE).chain(ANY).chain(processor::ANY)
+}
+
+/// What the program does: it is loaded, opens its configuration, and reads and writes. It may have threads.
+pub fn of_program<'a>() -> impl Iterator<Item = &'a Rule> {
+    OF_PROGRAM.iter().chain(processor::OF_PROGRAM).chain(ANY).chain(processor::ANY)
+}
 
 /// A list of calls, as the kernel takes it.
 #[derive(Debug)]

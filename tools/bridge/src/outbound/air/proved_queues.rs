@@ -145,8 +145,9 @@ extern "C" {
     fn downlink_change(radio: *mut RadioHandle, network: usize, receiver: usize, change: u8, until: u64) -> Changed;
 }
 
-// The toolchain's own way to the C library's memory.
-#[link(name = "libc_c", kind = "static")]
+// The way to the C library's memory: the toolchain's own, or ours where it has none (`tools/c_calls`).
+#[cfg_attr(target_arch = "x86_64", link(name = "libc_c", kind = "static"))]
+#[cfg_attr(target_arch = "aarch64", link(name = "c_calls", kind = "static"))]
 extern "C" {}
 
 /// The networks of a radio.
