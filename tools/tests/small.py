@@ -15,9 +15,9 @@ COPIED = (".ci", "share", "tools/lib", "tools/guest/stations.py", "tools/guest/R
           "HANDLES")
 # Parts of the gate that look at the machine, at this repository and its tools, or run long: there they say that all is
 # well.
-QUIET = (".ci/packages", ".ci/documents", ".ci/first-version", ".ci/lint", ".ci/refused", "wrong/check", "wrong/try",
-         "tools/guest/air/build", "tools/bridge/build", "tools/dev/test", "tests/help", "tests/words", "tests/refuse",
-         "tests/devices", "tests/live", "tests/octets", "bench/fuzz", "bench/stress")
+QUIET = (".ci/packages", ".ci/arm64", ".ci/documents", ".ci/first-version", ".ci/lint", ".ci/refused", "wrong/check",
+         "wrong/try", "tools/guest/air/build", "tools/bridge/build", "tools/dev/test", "tests/help", "tests/words",
+         "tests/refuse", "tests/devices", "tests/live", "tests/octets", "bench/fuzz", "bench/stress")
 # The toolchain stands in the small repository's own folder. Each of its commands fails where a file `fails` is there, and
 # waits where a file `waits` is; the program that they build has the text of the crate's source. The prover writes down
 # which crates it was called for, and says what a proved crate's verdict is, but where a file `says_nothing` is there.

@@ -63,6 +63,52 @@ class Packages(ToolTest):
         self.assertRegex(lines[-1], r"^[1-9]\d* passed, 1 failed$")
 
 
+class Arm64(ToolTest):
+    """What is built and tested for arm64, where Debian's packages for that are there, and where they aren't."""
+
+    FILES = (".ci/arm64", ".ci/machines.py", "tools/lib/words.sh", "tools/lib/packages.sh", "tools/lib/machine.sh")
+
+    def said(self, part, there=(), gone=""):
+        """Runs `.ci/arm64` in a folder of its own: its status, its lines, and what was asked of apt-get."""
+        for name in self.FILES:
+            self.write(name, text_of(*name.split("/")), 0o755)
+        for name, text in (("bin/apt-get", APT), ("bin/dpkg-query", QUERY), ("bin/sudo", SUDO), ("log", ""),
+                           ("bin/dpkg", '#!/bin/sh\necho "dpkg $*" >>"$LOG"\n'), ("there", "\n".join([*there, ""])),
+                           ("tests/check", '#!/bin/sh\necho "$LIMITS $1"; echo "7 passed, 1 failed"; exit 1\n')):
+            self.write(name, text, 0o755)
+        more = {"PATH": f"{self.path('bin')}:{os.environ['PATH']}", "LOG": self.path("log"), "MOST": "99",
+                "THERE": self.path("there"), "GONE": gone, "UPDATED": "0"}
+        done = run_to_end([self.path(".ci/arm64"), part], env={**os.environ, **more})
+        return done.returncode, done.stdout.splitlines(), self.read("log").splitlines()
+
+    def packages(self):
+        """The packages that it takes."""
+        script = text_of("tools", "lib", "packages.sh")
+        words = ["bash", "-euc", f'{script}\necho "${{cross_packages[@]}}" "${{emulating_packages[@]}}"']
+        return run_to_end(words).stdout.split()
+
+    def test_what_is_missing_is_installed(self):
+        """After the machine was named to dpkg."""
+        status, lines, asked = self.said("packages")
+        self.assertEqual((status, lines), (0, ["1 passed, 0 failed"]))
+        self.assertEqual(asked[0], "dpkg --add-architecture arm64")
+        self.assertEqual(sorted(self.read("there").split()), sorted(self.packages()))
+
+    def test_what_can_not_be_had_is_told_and_fails_nothing(self):
+        """One line says so, of the packages and of each part."""
+        for part in ("packages", "check", "fuzz"):
+            status, lines, _ = self.said(part, gone="libstd-rust-dev:arm64")
+            self.assertEqual((status, len(lines), lines[-1]), (0, 2, "0 passed, 0 failed"), lines)
+            self.assertRegex(lines[0], "^not tested: ")
+
+    def test_where_they_are_there_a_part_counts(self):
+        """What a part says is said, and its status."""
+        status, lines, asked = self.said("check", self.packages())
+        program = self.path("build/arm64/by-qemu/apctl")
+        self.assertEqual((status, lines, asked), (1, [f"no {program}", "7 passed, 1 failed"], []))
+        self.assertIn(f"exec qemu-aarch64 {self.path('build/arm64/apctl')} ", self.read("build/arm64/by-qemu/apctl"))
+
+
 class Counted(ToolTest):
     """The last line of a crate's tests."""
 
