@@ -68,6 +68,8 @@ class Figures:
     delays: list[float]
     # What the program counts as lost; None of hostapd.
     counted: int | None = None
+    # How many may be lost besides, since the radio had them already.
+    with_radio: int = 0
     # More that the row counts, in words, and what of that doesn't hold.
     more: str = ""
     more_misses: list[str] = field(default_factory=list)
@@ -94,9 +96,9 @@ class Figures:
                 f"{f'; {self.more}' if self.more else ''}")
 
     def misses(self, slowest: float) -> list[str]:
-        """What doesn't hold of the aims: none lost but what the program counted, at most one in a thousand twice or out
-        of order, no delay above so many milliseconds, and what the row asks for besides."""
-        lost = self.sent - self.came - (self.counted or 0)
+        """What doesn't hold of the aims: none lost but what the program counted and what the radio had, at most one in
+        a thousand twice or out of order, no delay above so many milliseconds, and what the row asks for besides."""
+        lost = self.sent - self.came - (self.counted or 0) - self.with_radio
         odd = self.twice + self.out_of_order
         found = ((lost > 0, f"{lost} lost that the program didn't count"),
                  (odd > self.sent / 1000, f"{odd} twice or out of order"),

@@ -160,6 +160,23 @@ class WakesOnce(Habit):
         self.due = NEVER
 
 
+class DozesAtUnit(Habit):
+    """Stays awake, and dozes for so many seconds as soon as it hears a unit, once each time that it is told to."""
+
+    def __init__(self, seconds: float) -> None:
+        self.seconds = seconds
+        self.is_told = False
+
+    def hears_unit(self, station: "MadeUp", has_more: bool) -> None:
+        if self.is_told:
+            station.say(True)
+            self.is_told, self.due = False, time.monotonic() + self.seconds
+
+    def act(self, station: "MadeUp") -> None:
+        station.say(False)
+        self.due = NEVER
+
+
 class Turns(Habit):
     """Dozes or wakes at moments that are given, whatever beacons say: each with whether it dozes then."""
 
@@ -235,6 +252,8 @@ class MadeUp:
     next_number: int = 0
     last_number: int | None = None
     rate: int = FASTEST
+    # Whether it takes units for groups too.
+    takes_groups: bool = False
 
     @property
     def interface(self) -> str:
@@ -342,7 +361,7 @@ class MadeUp:
         elif frame.type == MANAGEMENT and receiver == address_of(self.hardware):
             self.answer = frame
             self.was_sent_away |= frame.subtype in (DEAUTHENTICATION, DISASSOCIATION)
-        elif frame.type == DATA and receiver == address_of(self.hardware):
+        elif frame.type == DATA and (self.takes_groups or receiver == address_of(self.hardware)):
             self.take_unit(frame, now)
 
     def take_beacon(self, beacon: Frame) -> None:

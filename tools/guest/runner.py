@@ -12,11 +12,12 @@ from stations import Failed
 
 
 class Runner:
-    """Tries cases, and counts those that passed. Each word chooses the cases whose name has it; no word chooses all."""
+    """Tries cases, and counts those that passed. Each word chooses the cases whose name has it; no word chooses all. A
+    case may be marked as one that fails today: it counts as failed where it passes, and else as neither."""
 
     def __init__(self, words: list[str]) -> None:
         self.words = words
-        self.passed = self.failed = 0
+        self.passed = self.failed = self.marked = 0
 
     def is_asked(self, *names: str) -> bool:
         """Whether the words choose one of these cases."""
@@ -26,23 +27,38 @@ class Runner:
         """Whether a case is tried: also one that others need may be."""
         return self.is_asked(name)
 
-    def case(self, name: str, call: Callable[[], str | None]) -> bool | None:
-        """Tries one case, and tells of it: whether it passed, or nothing where it is left out."""
+    def case(self, name: str, call: Callable[[], str | None], fails: str = "") -> bool | None:
+        """Tries one case, and tells of it: whether it passed, or nothing where it is left out. `fails` marks it, and
+        says why it fails today."""
         if not self.is_tried(name):
             return None
         begun = time.monotonic()
         try:
             told = call()
         except Exception as fault:
-            self.failed += 1
-            print(f"FAILED: {name}: {fault} ({time.monotonic() - begun:.0f} s)", flush=True)
-            self.after_failure()
-            if not isinstance(fault, Failed):
-                traceback.print_exc()
+            self.tell_failure(name, fault, fails, time.monotonic() - begun)
             return False
-        self.passed += 1
-        print(f"passed: {name}{f': {told}' if told else ''} ({time.monotonic() - begun:.0f} s)", flush=True)
+        if fails:
+            self.failed += 1
+            print(f"FAILED: {name}: marked as failing, and it passed", end="")
+        else:
+            self.passed += 1
+            print(f"passed: {name}", end="")
+        print(f"{f': {told}' if told else ''} ({time.monotonic() - begun:.0f} s)", flush=True)
         return True
+
+    def tell_failure(self, name: str, fault: Exception, fails: str, seconds: float) -> None:
+        """Tells of a case that failed. One that is marked fails only as a case does, and by no other fault."""
+        is_expected = bool(fails) and isinstance(fault, Failed)
+        if is_expected:
+            self.marked += 1
+            print(f"fails as marked: {name}: {fault}; {fails} ({seconds:.0f} s)", flush=True)
+        else:
+            self.failed += 1
+            print(f"FAILED: {name}: {fault} ({seconds:.0f} s)", flush=True)
+        self.after_failure()
+        if not isinstance(fault, Failed):
+            traceback.print_exception(fault)
 
     def after_failure(self) -> None:
         """What is done once a case has failed."""
@@ -50,8 +66,10 @@ class Runner:
     def end(self) -> int:
         """Tells of all cases: the program's status."""
         print(f"{os.uname().release}, {time.monotonic():.0f} seconds since the guest's start", flush=True)
+        if self.marked:
+            print(f"marked as failing, and failed, which counts as neither: {self.marked}")
         print(f"{self.passed} passed, {self.failed} failed")
-        return 1 if self.failed or not self.passed else 0
+        return 1 if self.failed or not self.passed + self.marked else 0
 
 
 class Beside(Runner):
