@@ -2,6 +2,7 @@ pub mod Beacons
 pub mod Aging
 pub mod Statuses
 pub mod AloneLaws
+pub mod ReturnLaws
 pub mod AnswerRows
 pub mod Clocks
 pub mod FrameSizes

@@ -9,3 +9,4 @@ pub mod NetworkView
 pub mod ReceivedEvents
 pub mod BssView
 pub mod Samples
+pub mod Returns

@@ -8,11 +8,13 @@ ghost use Rattle.network.specs.Network.{Network, alone, empty_network, step, age
 ghost use Rattle.network.specs.NetworkView.{sent_before};
 ghost use Rattle.network.specs.Sizes.{IsWithinSizes};
 ghost use Rattle.network.specs.Sound.{IsSoundNetwork};
+ghost use Rattle.network.specs.Returns.{Told, after_told, events_in, returns_in, AreCarried};
 ghost use Rattle.network.specs.BssView.{sent_by};
 
 use ap_config::checked_numbers;
 use encapsulation::one_ethernet_frame;
 use mac_frame::one_frame;
+use powersave::returns_in_its_place;
 use roster::{came_in_turn, kept_counts, kept_for_dozing};
 use stations::{changes_stay_sound, lengths_after, modes_alone, others_stay};
 use tim::one_tim;
@@ -24,6 +26,18 @@ pub fn reachable()
         → IsSoundNetwork s (length es) (2 * length es) (alone s es) }
 {
     stays_sound();
+}
+
+/// The same of every network to which units came back, too, each of which fits a frame (*profile*): one unit more for
+/// each of them.
+pub fn reachable_with_returns()
+    ensures { (s : Setting) (told : List Told) → network_fault s.network ≡ None → AreCarried told
+        → IsSoundNetwork s (events_in told) (2 * events_in told + returns_in told) (after_told s empty_network told) }
+{
+    stays_sound();
+    // units stand as they came, and one that comes back is one more
+    came_in_turn();
+    returns_in_its_place();
 }
 
 /// What holds of every network that can be reached holds after one event more.

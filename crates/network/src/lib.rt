@@ -37,7 +37,10 @@ mod reply;
 mod shown;
 
 pub use bss::{Bss, Refusal};
-pub use laws::{frame_sizes, nothing_ages, one_step, reachable, sent_frames, steps_append};
+pub use laws::{
+    frame_sizes, nothing_ages, one_step, reachable, reachable_with_returns, sent_frames,
+    steps_append,
+};
 pub use network::{Network, NetworkRefusal, Sent};
 pub use opening::{Open, open_networks};
 pub use received_event::ReceivedEvent;

@@ -23,7 +23,7 @@ sent-one s from bss frame (u ∷ us) n is =
     let sent = unit_frame s.network.bssid (others_follow us) u in
     ap unsent (sym (ap (send sent) (sym (nothing-replied left)) ∙ after-sent (no_reply n.sequence) left sent))
 
--- where there is none, nothing is sent
+-- where none is, nothing else changes
 sent-none : (s : Setting) (from bss : List ℕ) (us : List DataUnit) (n : Network) → option_map (λ first. first.0) (first_frame bss n.sequence us) ≡ None
     → unsent (after_reply (serving s us (no_reply n.sequence)) (unit_taken (Served from) n)) ≡ unsent (unit_taken (Served from) n)
 sent-none s from bss [] n is = ap unsent (nothing-replied (unit_taken (Served from) n))
