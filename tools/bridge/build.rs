@@ -14,7 +14,7 @@ fn main() {
     // By names alone: before a library is first built, its folder isn't there to step out of.
     let out = folder.ancestors().find(|it| it.ends_with("out"));
     let crates = out.and_then(|it| it.ancestors().nth(2)).expect("the library's folder stands in that of a crate");
-    for record in ["FrameTold", "Taken", "Turn", "Chosen", "Added", "Changed"] {
+    for record in ["FrameTold", "Taken", "Chosen", "Added", "Changed"] {
         let of_library = fields(&crates.join("downlink_c/src/numbers.rt"), &format!("pub struct {record} {{"));
         let of_bridge = fields(Path::new("src/outbound/air/proved_queues.rs"), &format!("struct {record} {{"));
         assert_eq!(of_library, of_bridge, "the library and the bridge lay {record} out differently");

@@ -15,11 +15,11 @@ use Rattle.downlink.specs.Receiver.{takes_way, goes, way_goes, within, sending_f
 use Rattle.downlink.specs.Receiver.{frame_that_comes, way_of, right_beside, sent_another_way, next_sent, without_next}
 use Rattle.downlink.specs.Receiver.{turn_answer, after_turn}
 use Rattle.downlink.specs.Receiver.{has_ticket, may_go_again, told_answer, after_told, next_leaving, in_mode}
-use Rattle.downlink.specs.Receiver.{after_dozing, after_settling, after_polling}
+use Rattle.downlink.specs.Receiver.{after_dozing, after_settling, after_polling, ignores_polls, right_after_poll}
 use Rattle.downlink.specs.Calls.{Call, Comes, Turn, Told, Returns, GivesUp, Joins, Leaves, Dozes, Settles, Wakes, Polls}
 use Rattle.downlink.specs.Calls.{step, answer, answers}
 use Rattle.downlink.specs.Laws.{one_if, count, stays_asleep, all_stay_asleep, is_poll, is_present, is_new_unit}
-use Rattle.downlink.specs.Laws.{GoesByPolls}
+use Rattle.downlink.specs.Laws.{right_count, GoesByPolls}
 use Rattle.downlink.proofs.Counts.{count-append, first_counted}
 use Rattle.downlink.proofs.Fates.{told_by, deaf_to_crowding, deaf_to_leaving, deaf_to_giving_up, deaf_to_loss, turn_told}
 
@@ -32,10 +32,6 @@ is_awake Dozing = false
 -- a unit that waits and goes
 abbrev pub is_unit_to_go : Frame → Bool
 is_unit_to_go f = goes f && f.is_unit
-
-abbrev pub right_count : Option ℕ → ℕ
-right_count None = 0
-right_count (Some until) = 1
 
 -- how many units may still go before the next poll
 abbrev pub due : Queue → ℕ
@@ -197,7 +193,11 @@ polls_asleep : (until : ℕ) (mode : StationMode) (q : Queue) → is_awake q.mod
 polls_asleep until Absent q h = (h, omega arith)
 polls_asleep until Awake q h = (h, omega arith)
 polls_asleep until FallsAsleep q h = (h, omega arith)
-polls_asleep until Dozing q h = (h, omega arith)
+polls_asleep until Dozing q h =
+    let rights : right_count (right_after_poll until (ignores_polls q) q.right) ≤ right_count q.right + 1 =
+    elim (ignores_polls q) as (λ b. right_count (right_after_poll until b q.right) ≤ right_count q.right + 1)
+    [ true ↦ omega arith | false ↦ omega arith ] in
+    (h, omega (arith, rights))
 
 -- ---- one call, and any number of them
 

@@ -1,4 +1,5 @@
 pub mod Counts
+pub mod Room
 pub mod Conserved
 pub mod Lists
 pub mod InOrder
@@ -7,6 +8,7 @@ pub mod Fates
 pub mod Twice
 pub mod MadeUp
 pub mod Asleep
+pub mod OneAnswer
 pub mod ReceiverRows
 pub mod Bounds
 pub mod Waits

@@ -14,15 +14,17 @@ use Rattle.downlink.specs.Receiver.{Queue, new_queue}
 use Rattle.downlink.specs.Calls.{Call, Comes, Turn, Told, Returns, GivesUp, Joins, Leaves, Dozes, Settles, Wakes, Polls}
 use Rattle.downlink.specs.Calls.{step, after, answers}
 use Rattle.downlink.specs.Laws.{one_if, count, held, brings, is_gone, goes_first, goes_again, waits_again, tells, IsWithin}
-use Rattle.downlink.specs.Laws.{came_by, came, went, is_new_unit}
+use Rattle.downlink.specs.Laws.{came_by, came, went, is_new_unit, answers_on_their_way}
 use Rattle.downlink.specs.Parts.{put_at, after_one, own_call, own_answers}
 use Rattle.downlink.specs.Networks.{Network, new_network, NetworkCall, To, TurnOfOne, Pauses as NetworkPauses, turn_of, goes_to}
 use Rattle.downlink.specs.Networks.{network_step, network_after, calls_to}
 use Rattle.downlink.specs.Radios.{Radio, RadioCall, Of, Next, NextOf, Pauses, Used, receiver_at, goes_to_network, radio_step}
 use Rattle.downlink.specs.Radios.{radio_after, radio_answers, own_calls}
 use Rattle.downlink.specs.RadioReceivers.{answers_to, calls_in, calls_at, came_for_by, came_at_by, came_at, IsReceiverAloneInRadio}
-use Rattle.downlink.specs.RadioReceivers.{LosesNothing, MakesNothingUp, DoublesNothing, KeepsOrder, LetsSleep, frames_waiting, HoldsFew}
+use Rattle.downlink.specs.RadioReceivers.{LosesNothing, MakesNothingUp, DoublesNothing, KeepsOrder, LetsSleep, AnswersPollsInTurn}
+use Rattle.downlink.specs.RadioReceivers.{frames_waiting, HoldsFew}
 use Rattle.downlink.proofs.Asleep.{goes_by_polls}
+use Rattle.downlink.proofs.OneAnswer.{answers_one_at_a_time}
 use Rattle.downlink.proofs.Bounds.{is_bounded}
 use Rattle.downlink.proofs.Conserved.{is_conserved}
 use Rattle.downlink.proofs.Counts.{count-append}
@@ -215,6 +217,13 @@ lets_sleep r calls place receiver q e present asleep =
     let falls = named_in r place receiver q Dozes (slice_get r.networks place) refl e in
     let alone = receiver_alone_in_radio dozing calls place receiver (step q Dozes) falls in
     omega (arith, goes_by_polls q own present asleep, ap (count is_new_unit) alone.1)
+
+pub answers_polls_in_turn : AnswersPollsInTurn
+answers_polls_in_turn r calls place receiver most later e l =
+    let own : List Call = calls_at place receiver r calls in
+    let alone = receiver_alone_in_radio r calls place receiver (new_queue most) e in
+    let Few : Queue → Type 0 = λ q. answers_on_their_way q ≤ 1 in
+    subst Few (same_Some (after (new_queue most) own) later (sym alone.0 ∙ l)) (answers_one_at_a_time most own)
 
 -- ---- bounds
 

@@ -90,6 +90,31 @@ a_lost_answer_to_a_poll_goes_once_more_and_then_back : said (Joins ∷ Dozes ∷
 unfolding said told unit
 a_lost_answer_to_a_poll_goes_once_more_and_then_back = refl
 
+a_poll_is_ignored_while_the_answer_waits : said (Joins ∷ Dozes ∷ Settles ∷ Polls 9 ∷ unit 1 ∷ Polls 9 ∷ unit 2 ∷ Turn 1 ∷ Turn 2 ∷ Returns ∷ [])
+    ≡ (1, Goes) ∷ (2, HandedBack) ∷ []
+unfolding said told unit
+a_poll_is_ignored_while_the_answer_waits = refl
+
+a_poll_is_ignored_while_the_answer_is_out : said (Joins ∷ Dozes ∷ Settles ∷ Polls 9 ∷ unit 1 ∷ Turn 1 ∷ Polls 9 ∷ Told 1 true ∷ unit 2 ∷ Turn 2 ∷ [])
+    ≡ (1, Goes) ∷ (1, Acknowledged) ∷ []
+unfolding said told unit
+a_poll_is_ignored_while_the_answer_is_out = refl
+
+a_poll_is_ignored_while_the_answer_waits_to_go_once_more : said (Joins ∷ Dozes ∷ Settles ∷ Polls 9 ∷ unit 1 ∷ Turn 1 ∷ Told 1 false ∷ Polls 9 ∷ unit 2 ∷ Turn 2 ∷ Turn 3 ∷ [])
+    ≡ (1, Goes) ∷ (1, WaitsAgain) ∷ (1, GoesAgain) ∷ []
+unfolding said told unit
+a_poll_is_ignored_while_the_answer_waits_to_go_once_more = refl
+
+a_poll_after_the_answer_succeeded_is_answered : said (Joins ∷ Dozes ∷ Settles ∷ Polls 9 ∷ unit 1 ∷ Turn 1 ∷ Told 1 true ∷ Polls 9 ∷ unit 2 ∷ Turn 2 ∷ [])
+    ≡ (1, Goes) ∷ (1, Acknowledged) ∷ (2, Goes) ∷ []
+unfolding said told unit
+a_poll_after_the_answer_succeeded_is_answered = refl
+
+a_poll_is_ignored_while_a_unit_is_out_that_went_before_the_doze : said (Joins ∷ unit 1 ∷ Turn 1 ∷ Dozes ∷ Settles ∷ Polls 9 ∷ unit 2 ∷ Turn 2 ∷ [])
+    ≡ (1, Goes) ∷ []
+unfolding said told unit
+a_poll_is_ignored_while_a_unit_is_out_that_went_before_the_doze = refl
+
 what_the_radio_had_as_the_station_dozed_goes_back : said (Joins ∷ unit 1 ∷ Turn 1 ∷ Dozes ∷ Told 1 false ∷ [])
     ≡ (1, Goes) ∷ (1, HandedBack) ∷ []
 unfolding said told unit

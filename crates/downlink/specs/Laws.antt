@@ -1,6 +1,6 @@
 -- What becomes of all frames of a receiver, over any list of calls.
 use Rattle.std.specs.Prelude.{ℕ, ◌≡◌, ◌≤◌, ◌+◌, Bool, true, false, ◌&&◌, List, [], ◌∷◌, ◌++◌, length, map}
-use Rattle.std.specs.Prelude.{◌⊎◌}
+use Rattle.std.specs.Prelude.{◌⊎◌, Option, Some, None}
 use Rattle.std.specs.Option.{option_to_list}
 use Rattle.downlink.specs.declared.frame.Frame.{Frame}
 use Rattle.downlink.specs.declared.frame.Sent.{Sent}
@@ -10,7 +10,7 @@ use Rattle.downlink.specs.declared.answer.Fate.TheVariants.{Goes, GoesAgain, Ack
 use Rattle.downlink.specs.declared.answer.Fate.TheVariants.{Late, Crowded, Left, GivenUp}
 use Rattle.downlink.specs.declared.station_mode.StationMode.{StationMode}
 use Rattle.downlink.specs.declared.station_mode.StationMode.TheVariants.{Absent, Awake, FallsAsleep, Dozing}
-use Rattle.downlink.specs.Receiver.{Queue, new_queue}
+use Rattle.downlink.specs.Receiver.{Queue, new_queue, answers_poll}
 use Rattle.downlink.specs.Calls.{Call, Comes, Turn, Told, Returns, GivesUp, Joins, Leaves, Dozes, Settles, Wakes, Polls}
 use Rattle.downlink.specs.Calls.{step, after, answers}
 
@@ -216,6 +216,23 @@ is_new_unit a = goes_first a.fate && a.frame.is_unit
 abbrev pub GoesByPolls : Type 0
 GoesByPolls = (q : Queue) (calls : List Call) → is_present q.mode ≡ true → all_stay_asleep calls ≡ true
     → count is_new_unit (answers (step q Dozes) calls) ≤ count is_poll calls
+
+-- how many units may answer a poll that may still be answered
+abbrev pub right_count : Option ℕ → ℕ
+right_count None = 0
+right_count (Some until) = 1
+
+abbrev pub is_answer_sent : Sent → Bool
+is_answer_sent s = answers_poll s.frame
+
+-- the answers to polls that wait, wait to go once more, are out, or may still come
+abbrev pub answers_on_their_way : Queue → ℕ
+answers_on_their_way q =
+    count answers_poll q.waiting + count answers_poll (option_to_list q.again) + count is_answer_sent q.out + right_count q.right
+
+-- an AP answers a station's polls with one unit at a time (11.2.3.6)
+abbrev pub AnswersOneAtATime : Type 0
+AnswersOneAtATime = (most : ℕ) (calls : List Call) → answers_on_their_way (after (new_queue most) calls) ≤ 1
 
 -- ---- bounds: no more frames wait than may
 

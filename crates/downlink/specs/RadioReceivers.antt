@@ -5,7 +5,7 @@ use Rattle.downlink.specs.declared.answer.Answer.{Answer}
 use Rattle.downlink.specs.Receiver.{Queue, new_queue}
 use Rattle.downlink.specs.Calls.{Call, Dozes, after, answers}
 use Rattle.downlink.specs.Laws.{count, held, is_gone, goes_first, goes_again, waits_again, tells, IsWithin, came_by, came, went}
-use Rattle.downlink.specs.Laws.{is_present, all_stay_asleep, is_poll, is_new_unit}
+use Rattle.downlink.specs.Laws.{is_present, all_stay_asleep, is_poll, is_new_unit, answers_on_their_way}
 use Rattle.downlink.specs.Parts.{own_answers}
 use Rattle.downlink.specs.Networks.{Network, NetworkCall, To, TurnOfOne, Pauses as NetworkPauses, new_network, calls_to}
 use Rattle.downlink.specs.Radios.{Radio, RadioCall, Of, Next, NextOf, Pauses, Used, receiver_at, radio_step, radio_after}
@@ -88,6 +88,12 @@ LetsSleep = (r : Radio) (calls : List RadioCall) (place receiver : ℕ) (q : Que
     let own = calls_at place receiver dozing calls in
     all_stay_asleep own ≡ true
     → count is_new_unit (answers_to place receiver (radio_answers dozing calls)) ≤ count is_poll own
+
+-- a station's polls are answered with one unit at a time
+abbrev pub AnswersPollsInTurn : Type 0
+AnswersPollsInTurn = (r : Radio) (calls : List RadioCall) (place receiver most : ℕ) (later : Queue)
+    → receiver_at r place receiver ≡ Some (new_queue most) → receiver_at (radio_after r calls) place receiver ≡ Some later
+    → answers_on_their_way later ≤ 1
 
 -- ---- bounds
 

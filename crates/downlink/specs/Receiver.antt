@@ -1,7 +1,8 @@
 -- What waits for one receiver of a network on its way to the air, and what becomes of it (IEEE Std 802.11-2016, 11.2).
-use Rattle.std.specs.Prelude.{ℕ, Bool, true, false, not, ◌&&◌, nat_eq, nat_lt, nat_le, List, [], ◌∷◌, ◌++◌, length}
+use Rattle.std.specs.Prelude.{ℕ, Bool, true, false, not, ◌&&◌, ◌||◌, nat_eq, nat_lt, nat_le, List, [], ◌∷◌, ◌++◌, length}
 use Rattle.std.specs.Prelude.{map, Option, Some, None, is_some, if◌then◌else◌}
 use Rattle.std.specs.Option.{option_map}
+use Rattle.std.specs.List.{list_any}
 use Rattle.downlink.specs.declared.frame.Frame.{Frame}
 use Rattle.downlink.specs.declared.frame.Sent.{Sent}
 use Rattle.downlink.specs.declared.frame.Way.{Way}
@@ -274,8 +275,37 @@ after_waking Awake q = q
 after_waking FallsAsleep q = record q { mode = Awake; right = None }
 after_waking Dozing q = record q { mode = Awake; right = None }
 
+-- ---- the station polls
+
+abbrev pub way_answers : Way → Bool
+way_answers InTurn = false
+way_answers AnswersPoll = true
+way_answers GoesBack = false
+way_answers IsDropped = false
+
+-- a unit that answers a poll
+abbrev pub answers_poll : Frame → Bool
+answers_poll f = f.is_unit && way_answers f.way
+
+abbrev pub is_unit_sent : Sent → Bool
+is_unit_sent s = s.frame.is_unit
+
+-- until the answer to a poll succeeded or is presumed failed, all polls of its station are ignored (11.2.3.6). Units
+-- that went before it dozed count too (profile)
+abbrev pub ignores_polls : Queue → Bool
+ignores_polls q = list_any answers_poll q.waiting || is_some q.again || list_any is_unit_sent q.out
+
+-- nobody's are where there is no such receiver
+abbrev pub are_ignored : Option Queue → Bool
+are_ignored None = false
+are_ignored (Some q) = ignores_polls q
+
+abbrev pub right_after_poll : (until : ℕ) → (is_ignored : Bool) → Option ℕ → Option ℕ
+right_after_poll until true right = right
+right_after_poll until false right = Some until
+
 abbrev pub after_polling : (until : ℕ) → StationMode → Queue → Queue
 after_polling until Absent q = q
 after_polling until Awake q = q
 after_polling until FallsAsleep q = q
-after_polling until Dozing q = record q { right = Some until }
+after_polling until Dozing q = record q { right = right_after_poll until (ignores_polls q) q.right }

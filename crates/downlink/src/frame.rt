@@ -1,7 +1,7 @@
 //! A frame on its way to the air.
 
 ghost use Rattle.std.specs.Prelude.{◌≡◌};
-ghost use Rattle.downlink.specs.Receiver.{goes};
+ghost use Rattle.downlink.specs.Receiver.{goes, answers_poll};
 
 /// A frame that came for a receiver. The caller keeps the octets.
 #[derive(Clone, Copy, Debug, PartialEq, Eq)]
@@ -38,6 +38,13 @@ impl Frame {
             Way::InTurn | Way::AnswersPoll => true,
             Way::GoesBack | Way::IsDropped => false,
         }
+    }
+
+    /// Whether it is a unit that answers a poll (11.2.3.6).
+    pub fn answers_poll(&self) -> bool
+        ensures { result ≡ answers_poll self.now }
+    {
+        self.is_unit && matches!(self.way, Way::AnswersPoll)
     }
 }
 

@@ -1,7 +1,7 @@
 //! What a receiver's queue promises, over any list of calls.
 
 ghost use Rattle.downlink.specs.Laws.{IsConserved, IsNotMadeUp, GoesAtMostTwice, IsInOrder, WaitsInOrder, GoesByPolls};
-ghost use Rattle.downlink.specs.Laws.{IsBounded};
+ghost use Rattle.downlink.specs.Laws.{AnswersOneAtATime, IsBounded};
 
 /// Nothing vanishes: of any tickets, what was held and what came is what is held now and what left for good, each as
 /// often.
@@ -35,6 +35,13 @@ pub fn at_most_twice()
 /// polls.
 pub fn by_polls()
     ensures { GoesByPolls }
+{}
+
+/// An AP ignores the polls of a station until the answer to an earlier one has succeeded or is presumed failed (IEEE
+/// Std 802.11-2016, 11.2.3.6). So at most one unit that answers a poll waits, waits to go once more, is out, or
+/// may still come.
+pub fn one_answer_at_a_time()
+    ensures { AnswersOneAtATime }
 {}
 
 /// No more frames wait for a receiver than may, but for the one that waits to go once more.

@@ -1,7 +1,9 @@
 //! The queue of a network: its receivers, and whose turn it is among them.
 
 ghost use Rattle.std.specs.Prelude.{◌≡◌, ◌↔◌, ◌+◌, ◌^◌, ◌<◌, ◌≤◌, length, IfSome, IfOk, OnOk, OnErr, IsErrOf, IsTrue};
+ghost use Rattle.std.specs.Prelude.{slice_get};
 ghost use Rattle.std.specs.Option.{option_map};
+ghost use Rattle.downlink.specs.Receiver.{are_ignored};
 ghost use Rattle.downlink.specs.Calls.{Comes, Turn, Told, Returns, GivesUp, call_of};
 ghost use Rattle.downlink.specs.Networks.{new_network, from_after, turn_of, has_next};
 ghost use Rattle.downlink.specs.Networks.{To, TurnOfOne, Pauses, network_step, network_answer, receiver_answer};
@@ -125,44 +127,34 @@ impl NetworkQueue {
     }
 
     /// It is the network's turn: the next frame goes of the receiver whose turn it is, unless that frame is too late,
-    /// and then it leaves. `None` where no frame may go, and then nothing changes. After an error all is as it was.
-    pub fn turn(&mut self, now: u64) -> Result<Option<ReceiverAnswer>, AllocError>
-        ensures after { OnOk result (self.new ≡ network_step self.old (TurnOfOne now)) }
-        ensures answer { IfOk result (λ next. next
-            ≡ option_map receiver_answer (network_answer self.old (TurnOfOne now))) }
-        ensures err { OnErr result (self.new ≡ self.old) }
+    /// and then it leaves. `None` where no frame may go, and then nothing changes. It takes no memory.
+    pub fn turn(&mut self, now: u64) -> Option<ReceiverAnswer>
+        ensures after { self.new ≡ network_step self.old (TurnOfOne now) }
+        ensures answer { result ≡ option_map receiver_answer (network_answer self.old (TurnOfOne now)) }
     {
-        let Some(receiver) = self.next_receiver() else {
-            return Ok(None);
-        };
+        let receiver = self.next_receiver()?;
         let queue = &mut self.receivers[receiver];
-        let next = queue.turn(now)?;
+        let next = queue.turn(now);
         self.ready.set(receiver, queue.may_go());
         self.from = from_after(self.from, receiver, next);
-        Ok(told_of(receiver, next))
+        told_of(receiver, next)
     }
 
     /// It is the turn of a receiver that the caller chose: its next frame goes, unless that is too late, and then it
     /// leaves. The next turn of the network is looked for where it was before, and a pause doesn't hold this up. `None`
-    /// where no frame of it would go, or there is no such receiver, and then nothing changes. After an error all is as
-    /// it was (*profile*).
-    pub fn turn_to(
-        &mut self,
-        receiver: usize,
-        now: u64,
-    ) -> Result<Option<ReceiverAnswer>, AllocError>
-        ensures after { OnOk result (self.new ≡ network_step self.old (To receiver (Turn now))) }
-        ensures answer { IfOk result (λ next. next
-            ≡ option_map receiver_answer (network_answer self.old (To receiver (Turn now)))) }
-        ensures err { OnErr result (self.new ≡ self.old) }
+    /// where no frame of it would go, or there is no such receiver, and then nothing changes. It takes no memory
+    /// (*profile*).
+    pub fn turn_to(&mut self, receiver: usize, now: u64) -> Option<ReceiverAnswer>
+        ensures after { self.new ≡ network_step self.old (To receiver (Turn now)) }
+        ensures answer { result ≡ option_map receiver_answer (network_answer self.old (To receiver (Turn now))) }
     {
         if receiver >= self.receivers.len() {
-            return Ok(None);
+            return None;
         }
         let queue = &mut self.receivers[receiver];
-        let next = queue.turn(now)?;
+        let next = queue.turn(now);
         self.ready.set(receiver, queue.may_go());
-        Ok(told_of(receiver, next))
+        told_of(receiver, next)
     }
 
     /// The first frame of a receiver with this ticket that went was acknowledged, or nobody acknowledged it. `None`
@@ -236,6 +228,17 @@ impl NetworkQueue {
         queue.change(change);
         self.ready.set(receiver, queue.may_go());
         true
+    }
+
+    /// Whether polls of the station at a place are ignored now ([`ReceiverQueue::ignores_polls`]). `false` where there
+    /// is no such receiver.
+    pub fn ignores_polls(&self, receiver: usize) -> bool
+        ensures { result ≡ are_ignored (slice_get self.now.receivers receiver) }
+    {
+        match self.receivers.get(receiver) {
+            Some(queue) => queue.ignores_polls(),
+            None => false,
+        }
     }
 
     /// The place of the receiver whose turn it is. There is none while the network is paused.

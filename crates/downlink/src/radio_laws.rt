@@ -5,7 +5,7 @@ ghost use Rattle.downlink.specs.Radios.{new_radio};
 ghost use Rattle.downlink.specs.RadioLaws.{IsAlone, IsUnmoved, IsTold, StaysTold, IsToldWithMore, IsMadeOneByOne};
 ghost use Rattle.downlink.specs.RadioLaws.{IsByTheRule, IsFair, IsPrompt};
 ghost use Rattle.downlink.specs.RadioReceivers.{IsReceiverAloneInRadio, LosesNothing, MakesNothingUp, DoublesNothing};
-ghost use Rattle.downlink.specs.RadioReceivers.{KeepsOrder, LetsSleep, HoldsFew};
+ghost use Rattle.downlink.specs.RadioReceivers.{KeepsOrder, LetsSleep, AnswersPollsInTurn, HoldsFew};
 
 use air_share::{bounded, soon};
 
@@ -88,6 +88,13 @@ pub fn radio_keeps_order()
 /// polls.
 pub fn radio_lets_sleep()
     ensures { LetsSleep }
+{}
+
+/// An AP ignores the polls of a station until the answer to an earlier one has succeeded or is presumed failed (IEEE
+/// Std 802.11-2016, 11.2.3.6). So at most one unit that answers a poll of it waits, waits to go once more, is out, or
+/// may still come.
+pub fn radio_answers_polls_in_turn()
+    ensures { AnswersPollsInTurn }
 {}
 
 /// No more frames of a network wait than may wait for its receivers together, but for those that wait to go once more,

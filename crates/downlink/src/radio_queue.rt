@@ -6,7 +6,7 @@ ghost use Rattle.std.specs.Bool.{OnTrue, OnFalse};
 ghost use Rattle.std.specs.Option.{option_map};
 ghost use Rattle.air_share.specs.Lanes.{chosen, lane_at};
 ghost use Rattle.air_share.specs.LaneRuns.{Waits, lane_step, lanes_after, is_turn_of};
-ghost use Rattle.downlink.specs.Receiver.{is_sending};
+ghost use Rattle.downlink.specs.Receiver.{is_sending, are_ignored};
 ghost use Rattle.downlink.specs.Calls.{Comes, Told, Returns, GivesUp, call_of};
 ghost use Rattle.downlink.specs.Radios.{new_radio, receiver_at, turn_if};
 ghost use Rattle.downlink.specs.Radios.{with_network, Of, Next, NextOf, Pauses, Used, radio_step, radio_answer};
@@ -140,47 +140,35 @@ impl RadioQueue {
 
     /// The next frame goes, of the network whose turn it is, unless that frame is too late, and then it leaves. Of
     /// those of which a frame may go this network is the one that owes least, and of several the one of lowest place.
-    /// `None` where no frame may go, and then nothing changes. After an error all is as it was: the next call chooses
-    /// the same network, until there is memory.
-    pub fn next(&mut self, now: u64) -> Result<Option<NetworkAnswer>, AllocError>
-        ensures after { OnOk result (self.new ≡ radio_step self.old (Next now)) }
-        ensures answer { IfOk result (λ next. next ≡ option_map network_answer_of (radio_answer self.old (Next now))) }
-        ensures err { OnErr result (self.new ≡ self.old) }
+    /// `None` where no frame may go, and then nothing changes. It takes no memory.
+    pub fn next(&mut self, now: u64) -> Option<NetworkAnswer>
+        ensures after { self.new ≡ radio_step self.old (Next now) }
+        ensures answer { result ≡ option_map network_answer_of (radio_answer self.old (Next now)) }
     {
-        let Some(network) = choose(self.lanes.as_slice()) else {
-            return Ok(None);
-        };
+        let network = choose(self.lanes.as_slice())?;
         let queue = &mut self.networks[network];
-        let next = queue.turn(now)?;
+        let next = queue.turn(now);
         let waits = queue.has_next();
         take_turn(self.lanes.as_mut_slice(), network, is_sent(next), waits);
-        Ok(answer_from(network, next))
+        answer_from(network, next)
     }
 
     /// The same as [`next`](RadioQueue::next), where the caller says which receiver of the network has the turn. The
     /// rule of shares still says which network: `None` where it isn't the turn of this one, and then nothing changes.
-    /// `None` also where no frame of the receiver would go, or there is no such receiver. After an error all is as it
-    /// was (*profile*).
-    pub fn next_of(
-        &mut self,
-        network: usize,
-        receiver: usize,
-        now: u64,
-    ) -> Result<Option<NetworkAnswer>, AllocError>
-        ensures after { OnOk result (self.new ≡ radio_step self.old (NextOf network receiver now)) }
-        ensures answer { IfOk result (λ next. next
-            ≡ option_map network_answer_of (radio_answer self.old (NextOf network receiver now))) }
-        ensures err { OnErr result (self.new ≡ self.old) }
+    /// `None` also where no frame of the receiver would go, or there is no such receiver (*profile*).
+    pub fn next_of(&mut self, network: usize, receiver: usize, now: u64) -> Option<NetworkAnswer>
+        ensures after { self.new ≡ radio_step self.old (NextOf network receiver now) }
+        ensures answer { result ≡ option_map network_answer_of (radio_answer self.old (NextOf network receiver now)) }
     {
         let turn = choose(self.lanes.as_slice());
         if !is_turn_of(network, turn) {
-            return Ok(None);
+            return None;
         }
         let queue = &mut self.networks[network];
-        let next = queue.turn_to(receiver, now)?;
+        let next = queue.turn_to(receiver, now);
         let waits = queue.has_next();
         take_turn(self.lanes.as_mut_slice(), network, is_sent(next), waits);
-        Ok(answer_from(network, next))
+        answer_from(network, next)
     }
 
     /// A network used so much air, in the unit of the caller's limits. `false` exactly if its debt would reach 2^64, or
@@ -263,6 +251,17 @@ impl RadioQueue {
         let waits = queue.has_next();
         set_waits(self.lanes.as_mut_slice(), network, waits);
         true
+    }
+
+    /// Whether polls of the station at a place of a network are ignored now: the answer to an earlier one hasn't
+    /// succeeded yet, nor failed (IEEE Std 802.11-2016, 11.2.3.6). `false` where there is no such receiver.
+    pub fn ignores_polls(&self, network: usize, receiver: usize) -> bool
+        ensures { result ≡ are_ignored (receiver_at self.now network receiver) }
+    {
+        match self.networks.get(network) {
+            Some(queue) => queue.ignores_polls(receiver),
+            None => false,
+        }
     }
 
     /// The station at a place of a network does this. `false` where there is no such receiver, and then nothing

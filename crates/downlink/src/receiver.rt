@@ -1,7 +1,8 @@
 //! The queue of one receiver of a network: a station, or the groups.
 
 ghost use Rattle.std.specs.Prelude.{◌≡◌, map, IfOk, OnOk, OnErr};
-ghost use Rattle.downlink.specs.Receiver.{new_queue, takes_way, way_of, first_by, without_by, unsent_fate};
+ghost use Rattle.downlink.specs.Receiver.{new_queue, takes_way, way_of, first_by, unsent_fate, ignores_polls};
+ghost use Rattle.downlink.specs.Receiver.{again_without, waiting_without};
 ghost use Rattle.downlink.specs.Receiver.{may_go, may_go_again, leaving_fate, in_mode, sent_another_way};
 ghost use Rattle.downlink.specs.Calls.{Comes, Turn, Told, Returns, GivesUp, Joins, Leaves, Dozes, Settles, Wakes};
 ghost use Rattle.downlink.specs.Calls.{Polls, step, answer, call_of};
@@ -10,7 +11,7 @@ use crate::answer::{Answer, Fate};
 use crate::frame::{Frame, Sent, Way};
 use crate::station_change::StationChange;
 use crate::station_mode::StationMode;
-use crate::waiting::{place_of, place_of_ticket};
+use crate::waiting::{any_answers_poll, any_unit, place_of, place_of_ticket};
 use std::alloc::{AllocError, Global};
 use std::marker::Model;
 
@@ -31,6 +32,9 @@ pub struct ReceiverQueue {
 }
 
 impl Model for ReceiverQueue {
+    ghost use Rattle.std.specs.Prelude.{◌+◌, ◌≤◌, length};
+    ghost use Rattle.std.specs.Option.{option_to_list};
+    ghost use Rattle.std.specs.Vec.{vec_capacity};
     ghost use Rattle.downlink.specs.Receiver.{Queue};
 
     ghost Value = { Queue };
@@ -44,6 +48,10 @@ impl Model for ReceiverQueue {
       out = q.out.items;
       last = q.last;
     } };
+
+    // `out` has room for all that waits, so that a turn takes no memory.
+    ghost invariant = { λ q. length q.waiting.items + length (option_to_list q.again) + length q.out.items
+        ≤ vec_capacity q.out };
 }
 
 impl ReceiverQueue {
@@ -71,7 +79,8 @@ impl ReceiverQueue {
 
     /// A frame comes, and waits behind the others. It `is_unit` if it is an MSDU. The last time at which it may go is
     /// `until`, and the time is `now`, both by one clock of the caller. If too many wait by it, the oldest is dropped
-    /// and answered. It refuses only if memory ran out, and then all is as it was (*profile*).
+    /// and answered. It refuses only if memory ran out, also for the frame's turn, and then all is as it was
+    /// (*profile*).
     pub fn comes(
         &mut self,
         ticket: u64,
@@ -90,6 +99,8 @@ impl ReceiverQueue {
             until,
             way,
         };
+        let held = self.waiting.len() + usize::from(self.again.is_some());
+        self.out.reserve(held + 1)?;
         self.waiting.push(frame)?;
         if let Way::AnswersPoll = way {
             self.right = None;
@@ -104,31 +115,28 @@ impl ReceiverQueue {
         }))
     }
 
-    /// It is the receiver's turn: the next frame goes, unless it is too late, and then it leaves. After an error all is
-    /// as it was.
-    pub fn turn(&mut self, now: u64) -> Result<Option<Answer>, AllocError>
-        ensures after { OnOk result (self.new ≡ step self.old (Turn now)) }
-        ensures answer { IfOk result (λ next. next ≡ answer self.old (Turn now)) }
-        ensures err { OnErr result (self.new ≡ self.old) }
+    /// It is the receiver's turn: the next frame goes, unless it is too late, and then it leaves. `None` where none
+    /// may go, and then nothing changes. It takes no memory.
+    pub fn turn(&mut self, now: u64) -> Option<Answer>
+        ensures after { self.new ≡ step self.old (Turn now) }
+        ensures answer { result ≡ answer self.old (Turn now) }
     {
-        let Some(sent) = self.next_by(true) else {
-            return Ok(None);
-        };
+        let sent = self.next_by(true)?;
         let frame = sent.frame;
         if frame.until < now {
-            self.remove_by(true);
+            remove_by(&mut self.again, &mut self.waiting, true);
             let fate = self.unsent_fate(Fate::Late, frame);
-            return Ok(Some(Answer { frame, fate }));
+            return Some(Answer { frame, fate });
         }
-        self.out.push(sent)?;
-        self.remove_by(true);
+        self.out.push_reserved(sent);
+        remove_by(&mut self.again, &mut self.waiting, true);
         self.last = Some(frame.ticket);
         let fate = if sent.is_again {
             Fate::GoesAgain
         } else {
             Fate::Goes
         };
-        Ok(Some(Answer { frame, fate }))
+        Some(Answer { frame, fate })
     }
 
     /// The first frame with this ticket that went was acknowledged, or nobody acknowledged it. `None` where none is
@@ -167,7 +175,7 @@ impl ReceiverQueue {
         ensures answer { result ≡ answer self.old Returns }
     {
         let frame = self.next_by(false)?.frame;
-        self.remove_by(false);
+        remove_by(&mut self.again, &mut self.waiting, false);
         let fate = leaving_fate(frame.way);
         Some(Answer { frame, fate })
     }
@@ -179,7 +187,7 @@ impl ReceiverQueue {
         ensures answer { result ≡ answer self.old GivesUp }
     {
         let frame = self.next_by(true)?.frame;
-        self.remove_by(true);
+        remove_by(&mut self.again, &mut self.waiting, true);
         let fate = self.unsent_fate(Fate::GivenUp, frame);
         Some(Answer { frame, fate })
     }
@@ -250,13 +258,27 @@ impl ReceiverQueue {
         }
     }
 
+    /// Whether polls are ignored now: an answer to a poll waits, or a unit waits to go once more or is out (11.2.3.6).
+    pub fn ignores_polls(&self) -> bool
+        ensures { result ≡ ignores_polls self.now }
+    {
+        any_answers_poll(self.waiting.as_slice())
+            || self.again.is_some()
+            || any_unit(self.out.as_slice())
+    }
+
     /// The station polls: the next unit that comes by this time goes. An earlier poll is answered no more. Nothing
-    /// changes where it doesn't doze, or where what came before it dozed may still be unanswered.
+    /// changes where it doesn't doze, or where what came before it dozed may still be unanswered. Nor does it while
+    /// polls are ignored ([`ignores_polls`](ReceiverQueue::ignores_polls)).
     pub fn polls(&mut self, until: u64)
         ensures { self.new ≡ step self.old (Polls until) }
     {
         match self.mode {
-            StationMode::Dozing => self.right = Some(until),
+            StationMode::Dozing => {
+                if !self.ignores_polls() {
+                    self.right = Some(until);
+                }
+            }
             StationMode::Absent | StationMode::Awake | StationMode::FallsAsleep => {}
         }
     }
@@ -298,21 +320,6 @@ impl ReceiverQueue {
         }
     }
 
-    /// That frame waits no more.
-    fn remove_by(&mut self, goes: bool)
-        ensures { self.new ≡ without_by (takes_way goes) self.old }
-    {
-        if let Some(frame) = self.again {
-            if frame.goes() == goes {
-                self.again = None;
-                return;
-            }
-        }
-        if let Some(place) = place_of(self.waiting.as_slice(), goes) {
-            self.waiting.remove(place);
-        }
-    }
-
     /// Whether a frame that nobody acknowledged goes once more.
     fn may_go_again(&self, sent: Sent) -> bool
         ensures { result ≡ may_go_again self.now sent }
@@ -346,6 +353,22 @@ impl ReceiverQueue {
             None => None,
         };
         self.last = None;
+    }
+}
+
+/// The next frame that goes, or the next one that leaves without going, waits no more.
+fn remove_by(again: &mut Option<Frame>, waiting: &mut Vec<Frame>, goes: bool)
+    ensures again { again.new ≡ again_without (takes_way goes) again.old }
+    ensures waiting { waiting.new.items ≡ waiting_without (takes_way goes) again.old waiting.old.items }
+{
+    if let Some(frame) = *again {
+        if frame.goes() == goes {
+            *again = None;
+            return;
+        }
+    }
+    if let Some(place) = place_of(waiting.as_slice(), goes) {
+        waiting.remove(place);
     }
 }
 

@@ -1,7 +1,8 @@
-//! The first frame of a list that is looked for.
+//! The first frame of a list that is looked for, and whether one is there.
 
-ghost use Rattle.std.specs.Prelude.{IfSome, IfNone};
-ghost use Rattle.downlink.specs.Receiver.{takes_way, has_ticket};
+ghost use Rattle.std.specs.Prelude.{◌≡◌, IfSome, IfNone};
+ghost use Rattle.std.specs.List.{list_any};
+ghost use Rattle.downlink.specs.Receiver.{takes_way, has_ticket, answers_poll, is_unit_sent};
 ghost use Rattle.downlink.specs.Places.{IsFirst, IsNowhere};
 
 use crate::frame::{Frame, Sent};
@@ -30,4 +31,18 @@ pub(crate) fn place_of_ticket(sent: &[Sent], ticket: u64) -> Option<usize>
         }
     }
     None
+}
+
+/// Whether a unit is among these frames that answers a poll.
+pub(crate) fn any_answers_poll(frames: &[Frame]) -> bool
+    ensures { result ≡ list_any answers_poll frames.now }
+{
+    frames.iter().any(|frame| frame.answers_poll())
+}
+
+/// Whether a unit is among these frames that went.
+pub(crate) fn any_unit(sent: &[Sent]) -> bool
+    ensures { result ≡ list_any is_unit_sent sent.now }
+{
+    sent.iter().any(|one| one.frame.is_unit)
 }

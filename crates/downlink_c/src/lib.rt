@@ -11,6 +11,7 @@ ghost use Rattle.std.specs.Prelude.{IsTrue, IsSome, None};
 ghost use Rattle.std.specs.Bool.{OnTrue, OnFalse};
 ghost use Rattle.std.specs.Option.{option_map};
 ghost use Rattle.air_share.specs.Lanes.{chosen, lane_at};
+ghost use Rattle.downlink.specs.Receiver.{are_ignored};
 ghost use Rattle.downlink.specs.Calls.{Comes, Told, Returns, GivesUp};
 ghost use Rattle.downlink.specs.Networks.{new_network};
 ghost use Rattle.downlink.specs.Radios.{new_radio, with_network, receiver_at};
@@ -26,7 +27,7 @@ mod numbers;
 use downlink::{NetworkQueue, RadioQueue, Refusal};
 pub use handle::RadioHandle;
 use holding::{lend, put, take};
-pub use numbers::{Added, Changed, Chosen, FrameTold, Taken, Turn};
+pub use numbers::{Added, Changed, Chosen, FrameTold, Taken};
 use numbers::{NOTHING, change_of, chosen_told, frame_told};
 use std::alloc::Global;
 
@@ -158,25 +159,13 @@ pub extern "C" fn downlink_comes(
 
 /// [`RadioQueue::next`].
 #[unsafe(no_mangle)]
-pub extern "C" fn downlink_next(radio: &mut RadioHandle, now: u64) -> Turn
+pub extern "C" fn downlink_next(radio: &mut RadioHandle, now: u64) -> FrameTold
     requires made { radio.old.is_made ≡ true }
     ensures handle { IsSameHandle radio.old radio.new }
-    ensures after { OnTrue result.is_taken (radio.new.radio ≡ radio_step radio.old.radio (Next now)) }
-    ensures answer { OnTrue result.is_taken
-        (result.told ≡ frame_told (option_map network_answer_of (radio_answer radio.old.radio (Next now)))) }
-    ensures refused { OnFalse result.is_taken (radio.new.radio ≡ radio.old.radio) }
-    ensures nothing { OnFalse result.is_taken (result.told ≡ frame_told None) }
+    ensures after { radio.new.radio ≡ radio_step radio.old.radio (Next now) }
+    ensures answer { result ≡ frame_told (option_map network_answer_of (radio_answer radio.old.radio (Next now))) }
 {
-    match lend(radio).next(now) {
-        Ok(next) => Turn {
-            is_taken: true,
-            told: frame_told(next),
-        },
-        Err(_) => Turn {
-            is_taken: false,
-            told: NOTHING,
-        },
-    }
+    frame_told(lend(radio).next(now))
 }
 
 /// [`RadioQueue::next_of`].
@@ -186,26 +175,29 @@ pub extern "C" fn downlink_next_of(
     network: usize,
     receiver: usize,
     now: u64,
-) -> Turn
+) -> FrameTold
     requires made { radio.old.is_made ≡ true }
     ensures handle { IsSameHandle radio.old radio.new }
-    ensures after { OnTrue result.is_taken
-        (radio.new.radio ≡ radio_step radio.old.radio (NextOf network receiver now)) }
-    ensures answer { OnTrue result.is_taken (result.told ≡ frame_told (option_map network_answer_of
-        (radio_answer radio.old.radio (NextOf network receiver now)))) }
-    ensures refused { OnFalse result.is_taken (radio.new.radio ≡ radio.old.radio) }
-    ensures nothing { OnFalse result.is_taken (result.told ≡ frame_told None) }
+    ensures after { radio.new.radio ≡ radio_step radio.old.radio (NextOf network receiver now) }
+    ensures answer { result
+        ≡ frame_told (option_map network_answer_of (radio_answer radio.old.radio (NextOf network receiver now))) }
 {
-    match lend(radio).next_of(network, receiver, now) {
-        Ok(next) => Turn {
-            is_taken: true,
-            told: frame_told(next),
-        },
-        Err(_) => Turn {
-            is_taken: false,
-            told: NOTHING,
-        },
-    }
+    frame_told(lend(radio).next_of(network, receiver, now))
+}
+
+/// [`RadioQueue::ignores_polls`].
+#[unsafe(no_mangle)]
+pub extern "C" fn downlink_ignores_polls(
+    radio: &mut RadioHandle,
+    network: usize,
+    receiver: usize,
+) -> bool
+    requires made { radio.old.is_made ≡ true }
+    ensures handle { IsSameHandle radio.old radio.new }
+    ensures same { radio.new.radio ≡ radio.old.radio }
+    ensures ignored { result ≡ are_ignored (receiver_at radio.old.radio network receiver) }
+{
+    lend(radio).ignores_polls(network, receiver)
 }
 
 /// [`RadioQueue::pauses`].

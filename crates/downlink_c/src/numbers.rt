@@ -31,15 +31,6 @@ pub struct Taken {
     pub told: FrameTold,
 }
 
-/// What a turn is told.
-#[repr(C)]
-#[derive(Clone, Copy, Debug, PartialEq, Eq)]
-pub struct Turn {
-    /// Whether there was memory.
-    pub is_taken: bool,
-    pub told: FrameTold,
-}
-
 /// Whose turn it is.
 #[repr(C)]
 #[derive(Clone, Copy, Debug, PartialEq, Eq)]

@@ -28,6 +28,7 @@ enum Call {
     Unacknowledged(usize, u64),
     Returns(usize),
     GivesUp(usize),
+    IgnoresPolls(usize),
     /// The network is paused.
     Pauses,
     /// The network isn't paused any more.
@@ -99,12 +100,13 @@ fn answer_of(network: &mut NetworkQueue, call: Call) -> Result<Answer, Refusal> 
             until,
             now,
         } => told_where_taken(network.comes(receiver, ticket, is_unit, until, now))?,
-        Call::Turn { now } => told(network.turn(now)?),
-        Call::TurnTo(receiver, now) => told(network.turn_to(receiver, now)?),
+        Call::Turn { now } => told(network.turn(now)),
+        Call::TurnTo(receiver, now) => told(network.turn_to(receiver, now)),
         Call::Acknowledged(receiver, ticket) => told(network.told(receiver, ticket, true)),
         Call::Unacknowledged(receiver, ticket) => told(network.told(receiver, ticket, false)),
         Call::Returns(receiver) => told(network.returns(receiver)),
         Call::GivesUp(receiver) => told(network.gives_up(receiver)),
+        Call::IgnoresPolls(receiver) => Answer::Is(network.ignores_polls(receiver)),
         Call::Pauses => {
             network.pauses(true);
             Answer::Done
@@ -162,6 +164,9 @@ fn receivers_take_turns(rt: HostRuntime) -> Result<(), Fail> {
             Call::Unacknowledged(2, 4),
             Answer::Frame(2, 4, Fate::WaitsAgain),
         ),
+        (Call::IgnoresPolls(2), Answer::Is(true)),
+        (Call::IgnoresPolls(0), Answer::Is(false)),
+        (Call::IgnoresPolls(3), Answer::Is(false)),
         (Call::Turn { now: 1 }, Answer::Frame(1, 2, Fate::Goes)),
         (Call::Turn { now: 1 }, Answer::Frame(2, 4, Fate::GoesAgain)),
         (Call::Turn { now: 51 }, Answer::Frame(1, 3, Fate::Late)),

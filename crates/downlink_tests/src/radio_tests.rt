@@ -33,6 +33,7 @@ enum Call {
     Acknowledged(usize, usize, u64),
     Returns(usize, usize),
     GivesUp(usize, usize),
+    IgnoresPolls(usize, usize),
     /// A network is paused.
     Pauses(usize),
     /// A network isn't paused any more.
@@ -115,14 +116,17 @@ fn answer_of(radio: &mut RadioQueue, call: Call) -> Result<Answer, Refusal> {
             until,
             now,
         } => told_where_taken(radio.comes(network, receiver, ticket, is_unit, until, now))?,
-        Call::Next { now } => told(radio.next(now)?),
-        Call::NextOf(network, receiver, now) => told(radio.next_of(network, receiver, now)?),
+        Call::Next { now } => told(radio.next(now)),
+        Call::NextOf(network, receiver, now) => told(radio.next_of(network, receiver, now)),
         Call::Used(network, units) => Answer::Is(radio.used(network, units)),
         Call::Acknowledged(network, receiver, ticket) => {
             told(radio.told(network, receiver, ticket, true))
         }
         Call::Returns(network, receiver) => told(radio.returns(network, receiver)),
         Call::GivesUp(network, receiver) => told(radio.gives_up(network, receiver)),
+        Call::IgnoresPolls(network, receiver) => {
+            Answer::Is(radio.ignores_polls(network, receiver))
+        }
         Call::Pauses(network) => Answer::Is(radio.pauses(network, true)),
         Call::Resumes(network) => Answer::Is(radio.pauses(network, false)),
     };
@@ -310,6 +314,28 @@ fn a_network_whose_frame_is_given_up_has_no_turn(rt: HostRuntime) -> Result<(), 
         (Call::GivesUp(1, 0), Answer::Frame(1, 0, 2, Fate::GivenUp)),
         (Call::Next { now: 1 }, Answer::Frame(1, 1, 3, Fate::Goes)),
         (Call::HasNext, Answer::Is(false)),
+    ];
+    assert_answers(&rt, radio, &rows)
+}
+
+#[test]
+fn polls_of_the_station_that_is_answered_are_ignored(rt: HostRuntime) -> Result<(), Fail> {
+    let radio = two_networks(rt.alloc(), 1, &[8, 8])?;
+    let rows = [
+        (Call::Change(1, 1, StationChange::Joins), Answer::Is(true)),
+        (unit_comes(1, 1, 1), Answer::NoFrame),
+        (Call::IgnoresPolls(1, 1), Answer::Is(false)),
+        (Call::Next { now: 1 }, Answer::Frame(1, 1, 1, Fate::Goes)),
+        (Call::IgnoresPolls(1, 1), Answer::Is(true)),
+        (Call::IgnoresPolls(1, 0), Answer::Is(false)),
+        (Call::IgnoresPolls(0, 0), Answer::Is(false)),
+        (Call::IgnoresPolls(0, 1), Answer::Is(false)),
+        (Call::IgnoresPolls(2, 1), Answer::Is(false)),
+        (
+            Call::Acknowledged(1, 1, 1),
+            Answer::Frame(1, 1, 1, Fate::Acknowledged),
+        ),
+        (Call::IgnoresPolls(1, 1), Answer::Is(false)),
     ];
     assert_answers(&rt, radio, &rows)
 }

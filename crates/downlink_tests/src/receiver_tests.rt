@@ -25,6 +25,7 @@ enum Call {
     Unacknowledged(u64),
     Returns,
     GivesUp,
+    IgnoresPolls,
 }
 
 /// What a call answers.
@@ -32,6 +33,7 @@ enum Call {
 enum Answer {
     /// The call gives nothing.
     Done,
+    Is(bool),
     NoFrame,
     /// The ticket of a frame, and what became of it.
     Frame(u64, Fate),
@@ -90,11 +92,12 @@ fn answer_of(queue: &mut ReceiverQueue, call: Call) -> Result<Answer, AllocError
             until,
             now,
         } => told(queue.comes(ticket, is_unit, until, now)?),
-        Call::Turn { now } => told(queue.turn(now)?),
+        Call::Turn { now } => told(queue.turn(now)),
         Call::Acknowledged(ticket) => told(queue.told(ticket, true)),
         Call::Unacknowledged(ticket) => told(queue.told(ticket, false)),
         Call::Returns => told(queue.returns()),
         Call::GivesUp => told(queue.gives_up()),
+        Call::IgnoresPolls => Answer::Is(queue.ignores_polls()),
     };
     Ok(answer)
 }
@@ -220,6 +223,72 @@ fn a_unit_that_is_given_up_goes_back_where_its_station_dozes(rt: HostRuntime) ->
         (Call::GivesUp, Answer::Frame(3, Fate::GivenUp)),
         (Call::GivesUp, Answer::NoFrame),
         (Call::Returns, Answer::Frame(2, Fate::HandedBack)),
+    ];
+    assert_answers(&rt, queue, &rows)
+}
+
+#[test]
+fn polls_are_ignored_until_the_answer_succeeded_or_failed(rt: HostRuntime) -> Result<(), Fail> {
+    let queue = ReceiverQueue::new(rt.alloc(), 64);
+    let polls = (
+        Call::Station(StationChange::Polls { until: 9 }),
+        Answer::Done,
+    );
+    let rows = [
+        (Call::Station(StationChange::Joins), Answer::Done),
+        (Call::Station(StationChange::Dozes), Answer::Done),
+        (Call::Station(StationChange::Settles), Answer::Done),
+        (Call::IgnoresPolls, Answer::Is(false)),
+        polls,
+        (Call::IgnoresPolls, Answer::Is(false)),
+        (unit_comes(1, 2), Answer::NoFrame),
+        (Call::IgnoresPolls, Answer::Is(true)),
+        polls,
+        (unit_comes(2, 2), Answer::NoFrame),
+        (Call::Turn { now: 3 }, Answer::Frame(1, Fate::Goes)),
+        polls,
+        (unit_comes(3, 3), Answer::NoFrame),
+        (Call::Unacknowledged(1), Answer::Frame(1, Fate::WaitsAgain)),
+        polls,
+        (Call::Turn { now: 4 }, Answer::Frame(1, Fate::GoesAgain)),
+        (Call::IgnoresPolls, Answer::Is(true)),
+        (Call::Unacknowledged(1), Answer::Frame(1, Fate::HandedBack)),
+        (Call::IgnoresPolls, Answer::Is(false)),
+        polls,
+        (unit_comes(4, 5), Answer::NoFrame),
+        (Call::Turn { now: 5 }, Answer::Frame(4, Fate::Goes)),
+        (Call::Acknowledged(4), Answer::Frame(4, Fate::Acknowledged)),
+        (Call::Turn { now: 6 }, Answer::NoFrame),
+        (Call::Returns, Answer::Frame(2, Fate::HandedBack)),
+        (Call::Returns, Answer::Frame(3, Fate::HandedBack)),
+    ];
+    assert_answers(&rt, queue, &rows)
+}
+
+#[test]
+fn polls_are_ignored_while_a_unit_is_out_that_went_before(rt: HostRuntime) -> Result<(), Fail> {
+    let queue = ReceiverQueue::new(rt.alloc(), 64);
+    let polls = (
+        Call::Station(StationChange::Polls { until: 9 }),
+        Answer::Done,
+    );
+    let rows = [
+        (Call::Station(StationChange::Joins), Answer::Done),
+        (unit_comes(1, 0), Answer::NoFrame),
+        (frame_comes(2, 0), Answer::NoFrame),
+        (Call::Turn { now: 1 }, Answer::Frame(1, Fate::Goes)),
+        (Call::Turn { now: 1 }, Answer::Frame(2, Fate::Goes)),
+        (Call::Station(StationChange::Dozes), Answer::Done),
+        (Call::Station(StationChange::Settles), Answer::Done),
+        (Call::IgnoresPolls, Answer::Is(true)),
+        polls,
+        (unit_comes(3, 2), Answer::NoFrame),
+        (Call::Acknowledged(1), Answer::Frame(1, Fate::Acknowledged)),
+        (Call::IgnoresPolls, Answer::Is(false)),
+        polls,
+        (unit_comes(4, 2), Answer::NoFrame),
+        (Call::Turn { now: 3 }, Answer::Frame(4, Fate::Goes)),
+        (Call::Returns, Answer::Frame(3, Fate::HandedBack)),
     ];
     assert_answers(&rt, queue, &rows)
 }

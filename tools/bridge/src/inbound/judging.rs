@@ -49,6 +49,8 @@ pub enum LeftOut {
     Repeated,
     /// It has a VLAN's tag.
     Tagged,
+    /// It is a PS-Poll, and the answer to an earlier one of its station is on its way.
+    Poll,
 }
 
 impl fmt::Display for LeftOut {
@@ -66,6 +68,7 @@ impl fmt::Display for LeftOut {
             LeftOut::Neighbours => write!(to, "for all, and of no use to these networks"),
             LeftOut::Repeated => write!(to, "sent again, and taken before"),
             LeftOut::Tagged => write!(to, "with a tag of a VLAN"),
+            LeftOut::Poll => write!(to, "PS-Polls, while an earlier one was answered"),
         }
     }
 }

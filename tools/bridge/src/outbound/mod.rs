@@ -117,6 +117,13 @@ impl Outbound {
         }
     }
 
+    /// If the radio tells nothing of frames, its socket says whether it has some still.
+    pub fn look<P: Port>(&mut self, interfaces: &Interfaces<P>, now: Instant) {
+        if !self.air.tells_outcomes() {
+            monitor::look(&mut self.air, interfaces, now);
+        }
+    }
+
     /// A frame goes on to the program that was heard on the air.
     pub fn heard(&mut self, frame: Frame<'_>) {
         if let Some(place) = self.places.of(&frame.receiver()) {

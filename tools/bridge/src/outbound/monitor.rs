@@ -88,8 +88,13 @@ impl MonitorSender {
 pub fn expire<P: Port>(air: &mut Transmitter, interfaces: &Interfaces<P>, now: Instant) {
     air.expire(now);
     if air.wants_look(now) {
-        air.looked(is_empty(&interfaces.monitor), now);
+        look(air, interfaces, now);
     }
+}
+
+/// The radio's socket is looked at.
+pub fn look<P: Port>(air: &mut Transmitter, interfaces: &Interfaces<P>, now: Instant) {
+    air.looked(is_empty(&interfaces.monitor), now);
 }
 
 /// Whether the radio has sent all that it was given, as far as its socket says.

@@ -59,7 +59,7 @@ impl<P: OfSocket> Bridge<P> {
         let gives = match running {
             Some(running) => {
                 running.outbound.expire(&running.interfaces, time);
-                is_written && running.give(&mut self.feeder, time) > 0 || running.has_rest()
+                is_written && running.give(&mut self.feeder, &mut self.batch, time)? > 0 || running.has_rest()
             }
             None => false,
         };

@@ -1,11 +1,13 @@
 //! The program is told when an interval begins, and is given what waits, as far as it has read what came before.
-use super::running::{FirstBeacon, Running, TO_BEACON};
+use super::running::{FirstBeacon, Running, Way, TO_BEACON};
 use super::{Bridge, Phase, TO_READY};
 use crate::apctl::feeder::Feeder;
 use crate::apctl::protocol::Event;
 use crate::apctl::tables::Asker;
 use crate::control::faults::Fault;
 use crate::inbound::frame::{InboundFrame, Source};
+use crate::inbound::judging::LeftOut;
+use crate::os::batch::Batch;
 use crate::os::clock::Instant;
 use crate::os::poller::Token;
 use crate::os::port::{OfSocket, Port};
@@ -55,7 +57,7 @@ impl<P: OfSocket> Bridge<P> {
                 Some(running) if is_written => running,
                 _ => return Ok(()),
             };
-            if running.give(&mut self.feeder, self.time) == 0 {
+            if running.give(&mut self.feeder, &mut self.batch, self.time)? == 0 {
                 return Ok(());
             }
         }
@@ -77,14 +79,14 @@ impl<P: OfSocket> Bridge<P> {
 
 impl<P: Port> Running<P> {
     /// Says to the program what waits, as far as it has read what was said before; answers how much that was.
-    pub(super) fn give(&mut self, feeder: &mut Feeder, time: Instant) -> usize {
+    pub(super) fn give(&mut self, feeder: &mut Feeder, batch: &mut Batch, time: Instant) -> Result<usize, Fault> {
         let mut said = 0;
         let room = if self.has_to_give() { feeder.room() } else { 0 };
-        while said < room && self.feed_next(feeder, time) {
+        while said < room && self.feed_next(feeder, batch, time)? {
             said += 1;
         }
         self.end_handing_back(feeder);
-        said
+        Ok(said)
     }
 
     /// Whether something waits for the program, be it for what goes before.
@@ -93,21 +95,26 @@ impl<P: Port> Running<P> {
     }
 
     /// Says what is next to the program: what goes back to it before what waits. Answers whether there was something.
-    fn feed_next(&mut self, feeder: &mut Feeder, time: Instant) -> bool {
+    fn feed_next(&mut self, feeder: &mut Feeder, batch: &mut Batch, time: Instant) -> Result<bool, Fault> {
         if self.hand_back(feeder) {
-            return true;
+            return Ok(true);
         }
         self.end_handing_back(feeder);
         while let Some((source, frame)) = self.waiting.pop(time) {
+            if self.ignores_poll(&frame, batch, time)? {
+                self.leave_out(Way::Air, LeftOut::Poll);
+                give_back(frame.octets);
+                continue;
+            }
             match self.wakes_too_late(&frame, time) {
                 Some(member) => self.wait_for_beacons(member, source, frame, time),
                 None => {
                     self.feed(source, frame, feeder, time);
-                    return true;
+                    return Ok(true);
                 }
             }
         }
-        false
+        Ok(false)
     }
 
     /// Says a frame to the program.

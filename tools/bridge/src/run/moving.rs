@@ -4,10 +4,12 @@ use super::running::Running;
 use super::wake_timing::Interval;
 use crate::apctl::feeder::Feeder;
 use crate::apctl::protocol::Event;
+use crate::control::faults::Fault;
 use crate::formats::ethernet::update;
 use crate::formats::frames::{Address, Frame, FrameType};
 use crate::inbound::frame::{InboundFrame, Source};
 use crate::inbound::held::Holding;
+use crate::os::batch::Batch;
 use crate::os::clock::{Duration, Instant, MILLISECOND};
 use crate::os::port::Port;
 use crate::outbound::air::handing_back::Errand;
@@ -46,7 +48,7 @@ impl<P: Port> Running<P> {
                     air.wakes(place, station, mark, time);
                     self.wakes.give((place, station), mark, units, time);
                 }
-                Move::Polls => air.polls(place, station, time),
+                Move::Polls => air.polls(place, station, feeder.mark(), time),
                 Move::Leaves => air.leaves(place, station, Some(feeder.mark()), time),
                 Move::Left => air.leaves(place, station, None, time),
                 Move::Joins { dozes } => {
@@ -104,6 +106,29 @@ impl<P: Port> Running<P> {
         let units = self.outbound.air.sleepers.kept_at_most(place, station);
         let fits = units == 0 || self.wakes.fits((place, station), units, self.interval(time), time);
         (!fits).then_some((place, station))
+    }
+
+    /// Whether the program isn't given a frame, since it is a poll of a station that dozes and the answer to an earlier
+    /// one hasn't succeeded yet, nor failed (IEEE Std 802.11-2016, 11.2.3.6). What the radio told of that is read first.
+    pub(super) fn ignores_poll(
+        &mut self,
+        frame: &InboundFrame,
+        batch: &mut Batch,
+        time: Instant,
+    ) -> Result<bool, Fault> {
+        let (place, station) = match self.stations.table.polled_by(&frame.octets) {
+            Some(member) => member,
+            None => return Ok(false),
+        };
+        if self.outbound.air.has_out(place, station) {
+            self.read_outcomes(batch, time)?;
+            self.outbound.look(&self.interfaces, time);
+        }
+        let is_ignored = self.outbound.air.ignores_polls(place, station);
+        if is_ignored {
+            self.stations.table.ignored_poll((place, station));
+        }
+        Ok(is_ignored)
     }
 
     /// What comes of a station waits until the next beacons have come.

@@ -25,6 +25,9 @@ for kind, octets in events():
             for one in kept:
                 unit(next(numbers), one)
             kept.clear()
+    elif kind == b"A" and octets[0] == 0xa4 and kept:
+        time.sleep(0.03)
+        unit(next(numbers), kept.pop(0))
     elif kind == b"W" and not octets:
         tell(f"fault L4 record {records}")
     elif kind == b"W":
@@ -64,6 +67,26 @@ fn doze() -> Vec<u8> {
 /// A frame by which it wakes.
 fn wake() -> Vec<u8> {
     Unit { control: [0x48, 0x01], sequence: 0x80, ..Unit::default() }.octets()
+}
+
+/// A frame by which it polls.
+fn poll() -> Vec<u8> {
+    [&[0xa4, 0x10, 1, 0xc0][..], OURS.octets(), STATION.octets()].concat()
+}
+
+/// Our station joins and dozes, and the program keeps some units for it.
+fn doze_with_three_kept(stage: &Stage) {
+    join(stage);
+    stage.hear(&doze());
+    wait_until(|| stage.has_told(&doze()));
+    (0..3).for_each(|number| stage.wire.send(&wired(number)));
+    wait_until(|| stage.record().contains(&line_of_wired(2)));
+    pause(100);
+}
+
+/// How many polls the program was given, by the record.
+fn polls(stage: &Stage) -> usize {
+    stage.record().iter().filter(|line| **line == line_of(&poll())).count()
 }
 
 /// The lines of the record between its marks, without what the program is asked and without ticks.
@@ -269,4 +292,64 @@ fn a_wake_is_given_behind_beacons_that_always_come_late() {
     });
     assert!(is_given);
     assert_eq!(units(&stage), [60, 61, 62, 63]);
+}
+
+/// A station that didn't hear the acknowledgement of its poll polls again: the program isn't given that, and the record
+/// has no line of it.
+#[test]
+fn a_poll_that_is_repeated_before_it_is_answered_brings_one_unit() {
+    let (status, stage) = run(KEEPING, PLAIN, |stage| {
+        doze_with_three_kept(stage);
+        (0..3).for_each(|_| stage.hear(&poll()));
+        wait_until(|| polls(stage) == 1 && !units(stage).is_empty());
+        pause(200);
+        assert_eq!((units(stage), polls(stage)), (vec![0], 1));
+        stage.hear(&poll());
+        wait_until(|| polls(stage) == 2 && units(stage).len() == 2);
+        ask_for_new_status(stage)
+    });
+    assert_eq!(units(&stage), [0, 1]);
+    let left_out = r#""the air: PS-Polls, while an earlier one was answered":2"#;
+    assert!(status.contains(left_out) && status.contains(r#""faults":[]"#), "{status}");
+}
+
+/// The radio tells nothing of the answer. A poll is ignored for 200 ms then, and no longer.
+#[test]
+fn a_poll_whose_answers_outcome_is_never_told_is_answered_at_last() {
+    let ((), stage) = run(KEEPING, PLAIN, |stage| {
+        doze_with_three_kept(stage);
+        stage.air.shared.is_silent.store(true, Ordering::SeqCst);
+        stage.hear(&poll());
+        pause(60);
+        stage.hear(&poll());
+        pause(500);
+        assert_eq!(polls(stage), 1);
+        stage.air.shared.is_silent.store(false, Ordering::SeqCst);
+        stage.hear(&poll());
+        wait_until(|| polls(stage) == 2 && !units(stage).is_empty());
+    });
+    assert_eq!(units(&stage), [1]);
+}
+
+/// One that has nothing for the station answers with no unit, and the station may poll again.
+#[test]
+fn a_poll_for_which_nothing_is_kept_keeps_off_no_other() {
+    let ((), stage) = run(KEEPING, PLAIN, |stage| {
+        join(stage);
+        stage.hear(&doze());
+        wait_until(|| stage.has_told(&doze()));
+        let poll_until = |is_so: &dyn Fn(&Stage) -> bool| {
+            wait_until(|| {
+                stage.hear(&poll());
+                pause(50);
+                is_so(stage)
+            });
+        };
+        poll_until(&|stage| polls(stage) >= 3);
+        stage.wire.send(&wired(7));
+        wait_until(|| stage.record().contains(&line_of_wired(7)));
+        poll_until(&|stage| units(stage) == [7]);
+    });
+    assert!(polls(&stage) > 3);
+    assert_eq!(units(&stage), [7]);
 }

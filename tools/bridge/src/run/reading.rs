@@ -243,7 +243,7 @@ impl<P: Port> Running<P> {
         }
     }
 
-    fn leave_out(&mut self, way: Way, reason: LeftOut) {
+    pub(super) fn leave_out(&mut self, way: Way, reason: LeftOut) {
         *self.left_out.entry((way, reason)).or_default() += 1;
     }
 

@@ -344,3 +344,26 @@ fn what_the_wire_brings_for_a_station_that_has_just_joined_waits_a_little() {
         assert_eq!((found, running.ready_due()), (Some(wired.clone()), None));
     }
 }
+
+/// The radio doesn't wake the bridge for an outcome, so that is read before a poll is ignored.
+#[test]
+fn a_poll_behind_an_outcome_that_is_unread_counts() {
+    let poll = [&[0xa4, 0x10, 1, 0xc0][..], OURS.octets(), STATION.octets()].concat();
+    for is_shown in [true, false] {
+        let (acknowledged, far) = RadioPort::new(None);
+        let (monitor, _air) = RadioPort::new(is_shown.then_some(far));
+        let interfaces = Interfaces::new(monitor, RadioPort::new(None).0, vec![None]).with_acknowledged(acknowledged);
+        let (mut running, mut batch) = (with_station(interfaces, true), Batch::new());
+        let time = now() + 20 * MILLISECOND;
+        running.outbound.air.has_dozed(0, STATION, time);
+        running.outbound.air.polls(0, STATION, 7, time);
+        let frame = InboundFrame::of_air(Frame::of(&poll).unwrap(), false, time);
+        assert!(running.ignores_poll(&frame, &mut batch, time).unwrap());
+        let unit = Unit { control: [0x08, 0x02], receiver: STATION, transmitter: OURS, ..Unit::default() };
+        running.outbound.send_on_air(OURS, unit.octets(), time).unwrap();
+        assert!(running.outbound.air.answered(7, time));
+        running.send(time, &Poller::new().unwrap(), &mut batch, true).unwrap();
+        assert_eq!(running.outbound.air.in_flight(), 1);
+        assert_eq!(running.ignores_poll(&frame, &mut batch, time).unwrap(), !is_shown);
+    }
+}

@@ -49,11 +49,29 @@ impl StationTable {
 
     /// The station that dozes, as the program knows it, until it is given this frame.
     pub fn woken_by(&self, octets: &[u8]) -> Option<Member> {
-        let frame = Frame::of(octets)?;
+        let (member, said) = self.said_dozing(Frame::of(octets)?)?;
+        matches!(said, FromStation::Data { dozes: false, .. }).then_some(member)
+    }
+
+    /// The station that dozes, as the program knows it, and polls by this frame.
+    pub fn polled_by(&self, octets: &[u8]) -> Option<Member> {
+        let (member, said) = self.said_dozing(Frame::of(octets).filter(Frame::is_ps_poll)?)?;
+        (said == FromStation::Poll).then_some(member)
+    }
+
+    /// What a station says by this frame that dozes, as the program knows it.
+    fn said_dozing(&self, frame: Frame<'_>) -> Option<(Member, FromStation)> {
         let member = self.sender(frame)?;
         let dozes = self.station(&member).map_or(false, |station| station.dozes);
-        let said = from_station(frame, self.bssids[member.0]).filter(|_| dozes);
-        matches!(said, Some(FromStation::Data { dozes: false, .. })).then_some(member)
+        let said = from_station(frame, self.bssids[member.0]).filter(|_| dozes)?;
+        Some((member, said))
+    }
+
+    /// A poll of a station isn't given to the program: it polled all the same what it was told of.
+    pub fn ignored_poll(&mut self, member: Member) {
+        if let Some(State::Associated(aid)) = self.station(&member).map(|station| station.state) {
+            self.told_of[member.0].remove(&aid);
+        }
     }
 
     /// A frame of the air is said to the program.

@@ -103,6 +103,9 @@ fn who_dozes_too_long_is_told_of_once() {
     let poll = [&[0xa4, 0x10, 1, 0xc0][..], OURS.octets(), STATION.octets()].concat();
     table.fed(&poll, at(SECOND));
     (0..2).for_each(|_| drop(beacon(&mut table, 0x02)));
+    // One that is ignored is one all the same.
+    table.ignored_poll(FIRST);
+    (0..2).for_each(|_| drop(beacon(&mut table, 0x02)));
     beacon(&mut table, 0);
     beacon(&mut table, 0x02);
     assert_eq!(table.take_news(), []);
@@ -332,7 +335,9 @@ fn a_poll_is_told_of_a_station_that_dozes() {
     fed_null(&mut table, true);
     [(); 2].map(|()| table.fed(&poll, at(5 * SECOND)));
     assert_eq!(table.take_moves(), [Move::Dozes, Move::Polls, Move::Polls].map(|change| (FIRST, change)));
+    assert_eq!((table.polled_by(&poll), table.polled_by(&poll[..15])), (Some(FIRST), None));
     fed_null(&mut table, false);
+    assert_eq!(table.polled_by(&poll), None);
     table.fed(&poll, at(6 * SECOND));
     assert_eq!(table.take_moves(), [(FIRST, Move::Wakes)]);
 }

@@ -112,8 +112,8 @@ impl Caller {
                 true
             }
             15 if self.air.is_asleep(place, station) => {
-                self.air.polls(place, station, now);
-                false
+                self.air.polls(place, station, mark, now);
+                true
             }
             _ => {
                 let answered = self.marks.pop_front();

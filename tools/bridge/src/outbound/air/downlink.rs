@@ -248,6 +248,12 @@ impl Downlink {
         }
     }
 
+    /// Whether polls of a station are ignored now: the answer to an earlier one waits, or a unit is out for it.
+    pub fn ignores_polls(&self, place: Place, station: Address) -> bool {
+        let number = self.networks[place].number(Receiver::Station(station));
+        number.map_or(false, |number| self.queues.ignores_polls((place, number)))
+    }
+
     /// A station polls: one unit is the answer that comes soon.
     pub fn polls(&mut self, place: Place, station: Address, now: Instant) {
         if self.knows(place, station) && self.number(place, Receiver::Station(station)).is_some() {

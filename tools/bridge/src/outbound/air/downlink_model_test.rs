@@ -131,6 +131,12 @@ impl ReceiverModel {
         Some((frame.ticket, if frame.way == Way::GoesBack { Fate::HandedBack } else { Fate::Left }))
     }
 
+    /// Whether the answer to an earlier poll hasn't succeeded yet, nor failed.
+    fn ignores_polls(&self) -> bool {
+        let waits = self.waiting.iter().any(|frame| frame.way == Way::AnswersPoll);
+        waits || self.again.is_some() || self.out.iter().any(|(frame, _)| frame.is_unit)
+    }
+
     /// The station is so from now on, and its units take this way.
     fn set(&mut self, mode: Mode, way: Way) {
         (self.mode, self.right, self.last) = (mode, None, None);
@@ -146,7 +152,7 @@ impl ReceiverModel {
             }
             (Change::Settles, Mode::FallsAsleep) => self.mode = Mode::Dozing,
             (Change::Wakes, Mode::FallsAsleep | Mode::Dozing) => (self.mode, self.right) = (Mode::Awake, None),
-            (Change::Polls { until }, Mode::Dozing) => self.right = Some(until),
+            (Change::Polls { until }, Mode::Dozing) if !self.ignores_polls() => self.right = Some(until),
             (Change::Dozes | Change::Settles | Change::Wakes | Change::Polls { .. }, _) => {}
         }
     }
@@ -264,6 +270,12 @@ impl Model {
     pub fn returns(&mut self, (network, receiver): (usize, usize)) -> Option<Answer> {
         let (ticket, fate) = self.receiver(network, receiver)?.returns()?;
         Some(Answer { network, receiver, ticket, fate })
+    }
+
+    /// `false` where there is no such receiver.
+    pub fn ignores_polls(&self, (network, receiver): (usize, usize)) -> bool {
+        let queue = self.networks.get(network).and_then(|network| network.receivers.get(receiver));
+        queue.map_or(false, ReceiverModel::ignores_polls)
     }
 
     /// `false` where there is no such receiver.

@@ -186,7 +186,9 @@ impl Pair {
         };
         if is_unit && mode == Mode::Dozes && self.seeded.below(4) > 0 {
             self.change(place, receiver, Change::Polls { until: self.nanos() });
-            self.air.polls(place, address_of(place, receiver), self.now);
+            self.mark += 1;
+            self.air.polls(place, address_of(place, receiver), self.mark, self.now);
+            assert!(self.air.answered(self.mark, self.now));
         }
         self.air.send(place, octets, self.now);
         self.come_beside(place, receiver, is_unit, until);

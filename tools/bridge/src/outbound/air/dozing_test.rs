@@ -7,6 +7,8 @@ use crate::outbound::air::handing_back::Errand;
 
 #[path = "going_back_test.rs"]
 mod going_back;
+#[path = "polling_test.rs"]
+mod polling;
 
 /// A unit of 1,400 octets with a wired form that has its number, or a short one.
 fn numbered(number: u16, octets: usize) -> Vec<u8> {
@@ -37,7 +39,7 @@ fn errands(driver: &mut Driver) -> (Vec<u16>, bool) {
 fn with_poll_answer() -> Driver {
     let mut driver = driver_at_54();
     driver.sleeps();
-    driver.air.polls(0, STATION, driver.now);
+    driver.polls();
     driver.send(0, numbered(30, SHORT_UNIT));
     driver
 }
@@ -58,6 +60,12 @@ impl Driver {
     fn dozes(&mut self) {
         self.air.dozes(0, STATION, 5, self.now);
         assert!(self.air.answered(5, self.now));
+    }
+
+    /// The station polls, and the program has answered all that it was given before.
+    fn polls(&mut self) {
+        self.air.polls(0, STATION, 7, self.now);
+        assert!(self.air.answered(7, self.now));
     }
 
     /// The station dozes and wakes, and the program sends so many units that it had kept.
@@ -114,7 +122,7 @@ fn a_station_that_joins_dozing_gets_no_units() {
     assert_eq!(driver.give([numbered(100, SHORT_UNIT)]), []);
     assert!(driver.air.answered(5, driver.now));
     assert_eq!(errands(&mut driver), (vec![100], true));
-    driver.air.polls(0, STATION, driver.now);
+    driver.polls();
     assert_eq!(numbers(&driver.give([numbered(101, SHORT_UNIT)])), [101]);
 }
 
@@ -232,7 +240,7 @@ fn the_answer_to_a_poll_goes_before_all_else_of_its_network() {
     (10..15).for_each(|number| driver.send(0, unit(OURS, STRANGER, number)));
     driver.send(1, unit(OTHER, STRANGER, 20));
     driver.send(0, of_network(0x08, OURS, Address::BROADCAST, 21, vec![0; 8]));
-    driver.air.polls(0, STATION, driver.now);
+    driver.polls();
     driver.send(0, numbered(30, SHORT_UNIT));
     driver.has_room_again();
     let sent = driver.run(usize::MAX);

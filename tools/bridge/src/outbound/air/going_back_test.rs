@@ -1,6 +1,11 @@
 //! What goes back to the program if its station leaves meanwhile, polls, or comes and goes very often.
 use super::*;
 
+/// A management frame for the station, of so many octets.
+fn action(number: u16, octets: usize) -> Vec<u8> {
+    of_network(0xd0, OURS, STATION, number, vec![0; octets])
+}
+
 /// The units that nobody acknowledged before their station left don't go back, and are counted.
 #[test]
 fn lost_units_of_a_station_that_left_as_it_fell_asleep_are_counted() {
@@ -77,31 +82,31 @@ fn the_answer_to_a_poll_that_waited_for_the_interface_goes_back() {
     assert_eq!((errands(&mut driver), driver.unsent(0, Unsent::Late)), ((vec![30], false), 0));
 }
 
-/// A poll brings one unit, and a further poll ends its right. One that is answered too late brings none.
+/// A poll brings one unit, and a further poll before that ends its right. One that is answered too late brings none.
 #[test]
 fn a_unit_that_answers_no_poll_goes_back() {
     let mut driver = driver_at_54();
     driver.sleeps();
     assert_eq!((driver.give([numbered(30, SHORT_UNIT)]), errands(&mut driver)), (vec![], (vec![30], false)));
-    [(); 2].map(|()| driver.air.polls(0, STATION, driver.now));
-    assert_eq!(numbers(&driver.give([numbered(31, SHORT_UNIT), numbered(32, SHORT_UNIT)])), [31]);
-    assert_eq!(errands(&mut driver), (vec![32], false));
-    driver.air.polls(0, STATION, driver.now);
+    [(); 2].map(|()| driver.polls());
+    let sent = driver.give([numbered(31, SHORT_UNIT), numbered(32, SHORT_UNIT)]);
+    assert_eq!((numbers(&sent), errands(&mut driver)), (vec![31], (vec![32], false)));
+    driver.reported(0, &sent[0], 0, true);
+    driver.polls();
     driver.now += MOST_LIFETIME + MILLISECOND;
     assert_eq!((driver.give([numbered(33, SHORT_UNIT)]), errands(&mut driver)), (vec![], (vec![33], false)));
     assert_eq!(driver.handed_back(), (3, 0));
 }
 
-/// The oldest of those for whom most waits goes back and isn't dropped, where its network may have no more.
+/// Where its network may have no more it is the oldest of those for whom most wait: it goes back and isn't dropped.
 #[test]
 fn the_answer_to_a_poll_that_has_no_room_goes_back() {
     let mut driver = driver_at_54();
     driver.sleeps();
     driver.interfaces.monitor.port.room = Some(0);
-    for number in 30..33 {
-        driver.air.polls(0, STATION, driver.now);
-        driver.send(0, numbered(number, MOST_OCTETS / 5 * 2));
-    }
+    driver.polls();
+    driver.send(0, numbered(30, MOST_OCTETS / 5 * 2));
+    (31..33).for_each(|number| driver.send(0, action(number, MOST_OCTETS / 5 * 2)));
     assert_eq!((errands(&mut driver), driver.unsent(0, Unsent::Full)), ((vec![30], false), 0));
     assert_eq!((driver.air.accounts()[0].waiting, driver.handed_back()), (2, (1, 0)));
 }
@@ -111,7 +116,7 @@ fn the_answer_to_a_poll_that_has_no_room_goes_back() {
 fn the_answer_to_a_poll_of_a_station_without_rates_goes_back() {
     let mut driver = driver([1, 1]);
     driver.sleeps();
-    driver.air.polls(0, STATION, driver.now);
+    driver.polls();
     let sent = driver.give([numbered(30, SHORT_UNIT)]);
     driver.lose(&sent);
     let again = driver.flush();
@@ -125,8 +130,8 @@ fn the_answer_to_a_poll_of_a_station_without_rates_goes_back() {
 fn a_poll_before_all_is_answered_brings_nothing() {
     let mut driver = driver_at_54();
     driver.air.dozes(0, STATION, 5, driver.now);
-    driver.air.polls(0, STATION, driver.now);
-    assert!(driver.air.answered(5, driver.now));
+    driver.air.polls(0, STATION, 6, driver.now);
+    assert!(driver.air.answered(5, driver.now) && driver.air.answered(6, driver.now));
     assert_eq!(errands(&mut driver), (vec![], true));
     assert_eq!((driver.give([numbered(30, SHORT_UNIT)]), errands(&mut driver)), (vec![], (vec![30], false)));
 }
@@ -151,10 +156,9 @@ fn the_answer_to_a_poll_whose_room_the_bridge_takes_goes_back_at_once() {
     let mut driver = driver_at_54();
     driver.sleeps();
     driver.interfaces.monitor.port.room = Some(0);
-    for number in 30..32 {
-        driver.air.polls(0, STATION, driver.now);
-        driver.send(0, numbered(number, MOST_OCTETS / 5 * 2));
-    }
+    driver.polls();
+    driver.send(0, numbered(30, MOST_OCTETS / 5 * 2));
+    driver.send(0, action(31, MOST_OCTETS / 5 * 2));
     driver.air.send_own(0, of_network(0x48, OURS, STRANGER, 32, vec![0; MOST_OCTETS / 5 * 2]), 3, driver.now);
     assert_eq!((errands(&mut driver), driver.unsent(0, Unsent::Full)), ((vec![30], false), 0));
 }

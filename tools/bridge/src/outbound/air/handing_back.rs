@@ -55,9 +55,21 @@ impl Transmitter {
         self.queue.change(place, station, Change::Wakes);
     }
 
-    /// The program was given a poll of a station: if that dozes, the unit that comes next for it goes.
-    pub fn polls(&mut self, place: Place, station: Address, now: Instant) {
+    /// The program was given a poll of a station, and behind it this mark: if it dozes, the unit that comes next for it
+    /// goes.
+    pub fn polls(&mut self, place: Place, station: Address, mark: Mark, now: Instant) {
+        self.sleepers.polls(place, station, mark);
         self.queue.polls(place, station, now);
+    }
+
+    /// Whether polls of a station are ignored now: the program has one of it, or the answer to one is on its way.
+    pub fn ignores_polls(&self, place: Place, station: Address) -> bool {
+        self.sleepers.has_polled(place, station) || self.queue.ignores_polls(place, station)
+    }
+
+    /// Whether it isn't known what became of a frame for a station that the radio was given.
+    pub fn has_out(&self, place: Place, station: Address) -> bool {
+        self.in_flight.has(place, station)
     }
 
     /// A station is associated, and awake.

@@ -68,8 +68,8 @@
 //! Of stations that doze (`sleeping`, `handing_back`):
 //!
 //! 18. From a frame that says that a station dozes until one that says that it is awake no unit goes to it but one for
-//!     each poll that the program was given: the first that comes within 400 ms. A further poll ends the right of the
-//!     one before. Management frames go.
+//!     each poll that the program was given: the first that comes within 400 ms. Polls are ignored while the program
+//!     has one, the answer waits, or a unit for the station is out. Management frames go.
 //! 19. What waits for a station that dozes goes back to the program in its order. So does a unit that nobody
 //!     acknowledged and whose station dozes by then, one that comes and answers no poll, and the answer to a poll that
 //!     was lost twice, waited for 400 ms, had no room (3) or was refused by the interface.

@@ -91,12 +91,6 @@ struct Taken {
 }
 
 #[repr(C)]
-struct Turn {
-    is_taken: bool,
-    told: FrameTold,
-}
-
-#[repr(C)]
 struct Chosen {
     is_there: bool,
     network: usize,
@@ -130,7 +124,8 @@ extern "C" {
         until: u64,
         now: u64,
     ) -> Taken;
-    fn downlink_next_of(radio: *mut RadioHandle, network: usize, receiver: usize, now: u64) -> Turn;
+    fn downlink_next_of(radio: *mut RadioHandle, network: usize, receiver: usize, now: u64) -> FrameTold;
+    fn downlink_ignores_polls(radio: *mut RadioHandle, network: usize, receiver: usize) -> bool;
     fn downlink_used(radio: *mut RadioHandle, network: usize, units: u32) -> bool;
     fn downlink_told(
         radio: *mut RadioHandle,
@@ -204,11 +199,15 @@ impl ProvedQueues {
         }
     }
 
-    /// If it is this network's turn, that receiver of it has its turn. `None` where no frame goes by that, be it that
-    /// there is no memory.
+    /// If it is this network's turn, that receiver of it has its turn. `None` where no frame goes by that.
     pub fn next_of(&mut self, (network, receiver): (usize, usize), now: u64) -> Option<Answer> {
-        let turn = unsafe { downlink_next_of(self.radio.get_mut(), network, receiver, now) };
-        answer_of(turn.told).filter(|_| turn.is_taken)
+        answer_of(unsafe { downlink_next_of(self.radio.get_mut(), network, receiver, now) })
+    }
+
+    /// Whether polls of a receiver are ignored now; `false` where there is none.
+    pub fn ignores_polls(&self, (network, receiver): (usize, usize)) -> bool {
+        // SAFETY: the radio is made, nobody else reads or writes it now, and the call only reads it.
+        unsafe { downlink_ignores_polls(self.radio.get(), network, receiver) }
     }
 
     /// A network used so many microseconds of air; `false` where there is none, or its debt would be too large.
@@ -272,7 +271,7 @@ fn answer_of(told: FrameTold) -> Option<Answer> {
 #[cfg(test)]
 extern "C" {
     fn downlink_has_next(radio: *mut RadioHandle) -> bool;
-    fn downlink_next(radio: *mut RadioHandle, now: u64) -> Turn;
+    fn downlink_next(radio: *mut RadioHandle, now: u64) -> FrameTold;
 }
 
 /// Calls that the bridge has no use for: by these the library says too which receiver of a network is next.
@@ -283,8 +282,7 @@ impl ProvedQueues {
     }
 
     pub fn next(&mut self, now: u64) -> Option<Answer> {
-        let turn = unsafe { downlink_next(self.radio.get_mut(), now) };
-        answer_of(turn.told).filter(|_| turn.is_taken)
+        answer_of(unsafe { downlink_next(self.radio.get_mut(), now) })
     }
 }
 
@@ -307,6 +305,7 @@ mod tests {
         assert_eq!((queues.used(1, 1), queues.pauses(1, true), queues.turn()), (false, false, None));
         assert_eq!((queues.told((1, 0), 1, true), queues.returns((1, 0)), queues.gives_up((1, 0))), (None, None, None));
         assert_eq!((queues.next_of((1, 0), 0), queues.next_of((0, 0), 0)), (None, None));
+        assert!(!queues.ignores_polls((0, 1)) && !queues.ignores_polls((1, 0)));
     }
 
     #[test]

@@ -71,6 +71,10 @@ impl Beside {
         both!(self.returns(whose))
     }
 
+    pub fn ignores_polls(&self, whose: (usize, usize)) -> bool {
+        both!(self.ignores_polls(whose))
+    }
+
     pub fn change(&mut self, whose: (usize, usize), change: Change) -> bool {
         both!(self.change(whose, change))
     }
@@ -87,6 +91,8 @@ struct Run {
     /// What went, with nothing told of it yet.
     out: Vec<Answer>,
     fates: [u64; Fate::ALL.len()],
+    /// After how many calls polls of the receiver that most are of were ignored.
+    ignored: usize,
 }
 
 impl Run {
@@ -96,7 +102,7 @@ impl Run {
         let number = [1, 2, 4, 16][seeded.below(4)];
         let networks: Vec<_> = (0..number).map(|_| (1 + seeded.below(16) as u8, mosts(&mut seeded))).collect();
         let (beside, fates) = (Beside::new(&networks), [0; Fate::ALL.len()]);
-        Run { beside, seeded, networks, now: 0, whose: (0, 0), out: Vec::new(), fates }
+        Run { beside, seeded, networks, now: 0, whose: (0, 0), out: Vec::new(), fates, ignored: 0 }
     }
 
     /// A receiver, which sometimes isn't there.
@@ -191,18 +197,21 @@ impl Run {
             }
         }
         self.beside.has_next();
+        self.ignored += usize::from(self.beside.ignores_polls(whose));
     }
 }
 
 /// Any calls: both decide the same.
 #[test]
 fn the_library_decides_as_its_model_does() {
-    let mut fates = [0; Fate::ALL.len()];
+    let (mut fates, mut ignored) = ([0; Fate::ALL.len()], 0);
     for seed in 0..CALLS / CALLS_OF_A_RUN {
         let mut run = Run::new(seed as u64);
         (0..CALLS_OF_A_RUN).for_each(|_| run.call());
         (0..fates.len()).for_each(|fate| fates[fate] += run.fates[fate]);
+        ignored += run.ignored;
     }
+    assert!(ignored > CALLS / 100 && ignored < CALLS / 100 * 99, "{ignored}");
     for fate in Fate::ALL {
         assert!(fates[fate as usize] > CALLS as u64 / 2000, "{fate:?} {fates:?}");
     }

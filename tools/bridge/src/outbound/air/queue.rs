@@ -170,6 +170,11 @@ impl Queue {
         self.downlink.knows(place, station)
     }
 
+    /// Whether polls of a station are ignored now.
+    pub fn ignores_polls(&self, place: Place, station: Address) -> bool {
+        self.downlink.ignores_polls(place, station)
+    }
+
     pub fn polls(&mut self, place: Place, station: Address, now: Instant) {
         self.downlink.polls(place, station, now);
     }

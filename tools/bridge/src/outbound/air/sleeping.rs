@@ -22,6 +22,7 @@
 //! 8. The program is taken to keep for all stations of a network together no more units than the network keeps: a unit
 //!    that comes beyond that isn't counted, since the program loses it.
 //! 9. Once a station has left, none of its units goes back. Those that were about to are dropped.
+//! 10. The program *has* a poll of a station until the mark behind it is answered: by then the answer has come.
 //!
 //! Nothing is sent or timed here.
 use std::collections::VecDeque;
@@ -87,6 +88,8 @@ struct Sleeper {
     mode: Mode,
     /// The mark of its last change, until that is answered.
     mark: Option<Mark>,
+    /// The mark of its last poll, until that is answered.
+    polled: Option<Mark>,
     falling: Option<Falling>,
     pace: Pace,
     /// How many units the program was given since it dozes and hasn't sent to it, those that go back included. It may
@@ -198,6 +201,18 @@ impl Sleepers {
         self.change(place, station, Mode::Wakes, Some(mark), now);
     }
 
+    /// The program was given a poll of a station, and behind it this mark.
+    pub fn polls(&mut self, place: Place, station: Address, mark: Mark) {
+        self.marks.push_back((mark, place, station));
+        let sleeper = self.networks[place].sleepers.get_mut(&station);
+        sleeper.into_iter().for_each(|sleeper| sleeper.polled = Some(mark));
+    }
+
+    /// Whether the program has a poll of a station.
+    pub fn has_polled(&self, place: Place, station: Address) -> bool {
+        self.networks[place].sleepers.get(&station).map_or(false, |sleeper| sleeper.polled.is_some())
+    }
+
     /// A station leaves, and what comes for it until the mark is answered isn't for it. Without a mark nothing comes.
     /// Answers how many of its units were about to go back.
     pub fn leaves(&mut self, place: Place, station: Address, mark: Option<Mark>, now: Instant) -> usize {
@@ -234,7 +249,7 @@ impl Sleepers {
             sleepers.retain(|_, sleeper| sleeper.is_needed(now));
             *many = 2 * sleepers.len() + FEW;
         }
-        let unknown = || Sleeper { mode, mark, falling: None, pace: Pace::default(), kept: 0 };
+        let unknown = || Sleeper { mode, mark, polled: None, falling: None, pace: Pace::default(), kept: 0 };
         let sleeper = sleepers.entry(station).or_insert_with(unknown);
         *kept -= sleeper.kept;
         (sleeper.mode, sleeper.mark, sleeper.kept) = (mode, mark, 0);
@@ -314,7 +329,8 @@ impl Sleepers {
         is_awaited
     }
 
-    /// A mark was answered: the stations behind which it stood are as they said. Answers whether there is such a mark.
+    /// A mark was answered: the stations behind which it stood are as they said, or their polls were answered. Answers
+    /// whether there is such a mark.
     pub fn answered(&mut self, mark: Mark, now: Instant) -> bool {
         let (place, station) = match self.marks.front() {
             Some((first, place, station)) if *first == mark => (*place, *station),
@@ -322,9 +338,15 @@ impl Sleepers {
         };
         self.marks.pop_front();
         let sleeper = match self.networks[place].sleepers.get_mut(&station) {
-            Some(sleeper) if sleeper.mark == Some(mark) => sleeper,
-            _ => return true,
+            Some(sleeper) => sleeper,
+            None => return true,
         };
+        if sleeper.polled == Some(mark) {
+            sleeper.polled = None;
+        }
+        if sleeper.mark != Some(mark) {
+            return true;
+        }
         sleeper.mark = None;
         match sleeper.mode {
             Mode::Wakes | Mode::Leaves => sleeper.mode = Mode::Awake,

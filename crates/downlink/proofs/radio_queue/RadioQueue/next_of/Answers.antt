@@ -36,7 +36,7 @@ returns-clause-after c =
     let before : Radio = record { lanes = lanes; networks = c.self.inside.networks.items } in
     let place = c.args.network in
     let after : List Lane = (with_items c.self.inside.lanes c.take_turn.new.lanes).items in
-    let n' = c.turn_to.new.self in
+    let n' = c.turn_to-next.new.self in
     let e : is_turn_of place c.choose-turn.result ≡ true = sym c.is_turn_of.ensures ∙ c.if-not-is_turn_of.false in
     let set : after ≡ lanes_after lanes (turn_if c.is_sent.result ++ Waits place (has_next n') ∷ []) =
     with_items_is c.self.inside.lanes c.take_turn.new.lanes
@@ -44,11 +44,11 @@ returns-clause-after c =
     ∙ c.take_turn.ensures
     ∙ ap (λ ls. lanes_after ls (turn_if c.is_sent.result ++ Waits place c.has_next-waits.result ∷ [])) c.as_mut_slice.ensures.value
     ∙ ap (λ waits. lanes_after lanes (turn_if c.is_sent.result ++ Waits place waits ∷ [])) c.has_next-waits.ensures in
-    next_of_step before place c.args.receiver c.args.now c.index_mut-queue.result.now n' c.in_ok-next.next c.is_sent.result after
+    next_of_step before place c.args.receiver c.args.now c.index_mut-queue.result.now n' c.turn_to-next.result c.is_sent.result after
     (sym (ap (is_turn_of place) (c.choose-turn.ensures.exact ∙ ap chosen c.as_slice.ensures.value)) ∙ e)
     (omega (arith, turn_there c.as_slice.result.now place c.choose-turn.result e c.choose-turn.ensures.some, ap length c.as_slice.ensures.value, c.self.invariant))
     c.index_mut-queue.ensures.value
-    c.in_ok-next.ensures.after c.in_ok-next.ensures.answer c.is_sent.ensures set
+    c.turn_to-next.ensures.after c.turn_to-next.ensures.answer c.is_sent.ensures set
     ∙ ap (λ r. radio_step r (NextOf place c.args.receiver c.args.now)) c.self.view_is
 
 pub returns-clause-answer : goal.returns-clause-answer
@@ -57,9 +57,9 @@ returns-clause-answer c =
     let place = c.args.network in
     let e : is_turn_of place c.choose-turn.result ≡ true = sym c.is_turn_of.ensures ∙ c.if-not-is_turn_of.false in
     c.answer_from.ensures
-    ∙ next_of_answer before place c.args.receiver c.args.now c.index_mut-queue.result.now c.in_ok-next.next
+    ∙ next_of_answer before place c.args.receiver c.args.now c.index_mut-queue.result.now c.turn_to-next.result
     (sym (ap (is_turn_of place) (c.choose-turn.ensures.exact ∙ ap chosen c.as_slice.ensures.value)) ∙ e)
     (omega (arith, turn_there c.as_slice.result.now place c.choose-turn.result e c.choose-turn.ensures.some, ap length c.as_slice.ensures.value, c.self.invariant))
     c.index_mut-queue.ensures.value
-    c.in_ok-next.ensures.answer
+    c.turn_to-next.ensures.answer
     ∙ ap (λ r. option_map network_answer_of (radio_answer r (NextOf place c.args.receiver c.args.now))) c.self.view_is
