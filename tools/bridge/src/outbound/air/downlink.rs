@@ -32,7 +32,7 @@ const FEW: usize = 64;
 /// The library is told no time after which a frame is worth nothing.
 const NEVER: u64 = u64::MAX;
 
-/// By which the library knows a frame that came.
+/// By which the library knows a frame of a network that came.
 #[derive(Debug, Clone, Copy, PartialEq, Eq)]
 pub struct Ticket {
     /// The number of the receiver, which nobody else has as long as the library holds the frame.
@@ -105,13 +105,15 @@ struct Receivers {
     /// With how many stations those are looked for next of which nothing has to be known.
     many: usize,
     is_paused: bool,
+    /// The number of the last ticket. Each network counts its own, so that none hangs on what others do.
+    last: u64,
 }
 
 impl Receivers {
     fn new() -> Receivers {
         let free = (FIRST_STATION..FIRST_STATION + MOST_STATIONS).rev().collect();
         let held = vec![0; FIRST_STATION + MOST_STATIONS];
-        Receivers { stations: AddressMap::default(), held, free, many: FEW, is_paused: false }
+        Receivers { stations: AddressMap::default(), held, free, many: FEW, is_paused: false, last: 0 }
     }
 
     /// The number of a receiver, if it has one.
@@ -143,7 +145,6 @@ impl Receivers {
 pub struct Downlink {
     queues: ProvedQueues,
     networks: Vec<Receivers>,
-    last: u64,
     /// The network whose turn it is, since that was asked last and nothing changed.
     turn: Cell<Option<Option<Place>>>,
 }
@@ -157,7 +158,7 @@ impl Downlink {
         let mut queues = ProvedQueues::new(&of_library).expect("the bridge has memory for its queues at the start");
         (0..of_library.len()).for_each(|place| assert!(queues.change((place, GROUPS), Change::Joins)));
         let networks = of_library.iter().map(|_| Receivers::new()).collect();
-        Downlink { queues, networks, last: 0, turn: Cell::new(None) }
+        Downlink { queues, networks, turn: Cell::new(None) }
     }
 
     /// The network whose turn it is.
@@ -176,8 +177,9 @@ impl Downlink {
     /// A frame comes, and waits for its receiver. `None` if it can't, for lack of memory or of a number.
     pub fn comes(&mut self, place: Place, receiver: Receiver, is_unit: bool, now: Instant) -> Option<Came> {
         let (number, mode) = self.number(place, receiver)?;
-        self.last += 1;
-        let (ticket, now) = (Ticket { receiver: number, number: self.last }, now.as_nanos());
+        let last = &mut self.networks[place].last;
+        *last += 1;
+        let (ticket, now) = (Ticket { receiver: number, number: *last }, now.as_nanos());
         let crowded_out = self.queues().comes((place, number), ticket.number, is_unit, NEVER, now).ok()?;
         let crowded_out = crowded_out.map(|answer| Ticket { number: answer.ticket, ..ticket });
         self.networks[place].held[number] += usize::from(crowded_out.is_none());

@@ -558,3 +558,29 @@ fn stations_beyond_those_that_can_be_associated_have_no_room() {
     let Account { waiting, unsent, .. } = &queue.accounts[0];
     assert!(*waiting >= 2007 && unsent[&Unsent::Full] == 3000 - *waiting as u64, "{waiting} {unsent:?}");
 }
+
+/// The tickets of the first network's frames, as these come and go beside so much of another one.
+fn tickets_beside(load: usize) -> Vec<(Ticket, Option<Ticket>)> {
+    let mut downlink = Downlink::new([1, 1].into_iter());
+    let come_and_go = |number: usize| {
+        for other in 0..load * (number % 3) {
+            downlink.comes(1, Receiver::Station(made_up(other % 4)), true, Instant::START);
+            downlink.used(1, 1000);
+        }
+        let receiver = Receiver::Station(made_up(number % 5));
+        let came = downlink.comes(0, receiver, true, Instant::START).unwrap();
+        if number % 2 == 0 {
+            let sent = downlink.goes(0, came.ticket, Instant::START).unwrap();
+            assert!(downlink.told(0, sent, number % 4 == 0).is_some());
+        }
+        (came.ticket, came.crowded_out)
+    };
+    (0..1000).map(come_and_go).collect()
+}
+
+/// They hang on its own calls alone.
+#[test]
+fn tickets_of_a_network_do_not_hang_on_another() {
+    let alone = tickets_beside(0);
+    assert_eq!([tickets_beside(1), tickets_beside(7)], [alone.clone(), alone]);
+}
