@@ -92,7 +92,7 @@ def parser_of(description: str | None, *files: str) -> argparse.ArgumentParser:
     """A parser of --case, and of these words that name a file."""
     parser = argparse.ArgumentParser(description=description, formatter_class=argparse.RawDescriptionHelpFormatter)
     for word in files:
-        parser.add_argument(word, metavar="FILE")
+        parser.add_argument(word, metavar="FILE", type=os.path.abspath)
     parser.add_argument("--case", metavar="WORD", action="append", default=[])
     return parser
 
@@ -114,8 +114,11 @@ def words_of(parser: argparse.ArgumentParser) -> argparse.Namespace:
 
 
 def begin(folder: str, in_memory: str = "") -> None:
-    """Makes an empty folder, once the program of this name runs from the guest's own memory, where one is named."""
+    """Makes an empty folder, once the program of this name runs from the guest's own memory, where one is named. Then
+    all begins in that folder: a shell looks at the one where it begins, and another machine's answers late."""
     if in_memory and not is_in_memory():
         go_on_in_memory(in_memory)
     shutil.rmtree(folder, ignore_errors=True)
     os.makedirs(folder)
+    if in_memory:
+        os.chdir(folder)
