@@ -15,7 +15,7 @@ endif
 
 # For which machine these targets build, by Debian's name of it: amd64 or arm64. Without it, for the one on which they
 # run.
-FOR_ARCH = apctl bridge deb fuzz
+FOR_ARCH = apctl bridge deb fuzz test-live
 ifneq ($(ARCH),)
 ifneq ($(filter-out $(FOR_ARCH), $(or $(MAKECMDGOALS), help)),)
 $(error ARCH is for $(FOR_ARCH), and nothing was begun)
@@ -134,11 +134,13 @@ bridge: ## builds the bridge of tools/live, by Debian's cargo
 # with hostapd beside it. Then a real Prometheus scrapes the status page. SUITE=trixie takes a guest of Debian 13,
 # SUITE='bookworm trixie' one after the other (tools/dev/test-live). Takes root and Debian's packages debootstrap,
 # e2fsprogs, qemu-system-x86, python3 and prometheus, and those of `make deb`. Each run ends with 'N passed, M failed'.
+# ARCH=arm64 takes a guest of that machine, whose processor is emulated, and leaves out what runs outside of the guest,
+# but for the tests of the bridge and of the air, which qemu-aarch64 runs.
 test-live: apctl ## tests the bridge with real stations in a guest; takes root
 	@tools/bridge/build test
 	@tools/guest/air/build test
-	@tools/dev/test live
-	@ATTACKS=yes tools/dev/test Confined Staying
+	@[ "$$ARCH" = arm64 ] || tools/dev/test live
+	@[ "$$ARCH" = arm64 ] || ATTACKS=yes tools/dev/test Confined Staying
 	@tools/dev/test-live
 	@tools/dev/test-live service
 	@tools/dev/test-live managers
@@ -149,7 +151,7 @@ test-live: apctl ## tests the bridge with real stations in a guest; takes root
 	@tools/dev/test-live shares
 	@tools/dev/test-live doze
 	@tools/dev/test-live site
-	@tools/dev/test-prometheus
+	@[ "$$ARCH" = arm64 ] || tools/dev/test-prometheus
 
 # Draws the example of three networks, the picture of README.md, and those of examples/README.md.
 picture: ## draws the pictures of README.md and docs/
