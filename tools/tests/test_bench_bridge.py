@@ -74,7 +74,7 @@ class Counted(unittest.TestCase):
         """By the source, else by the function's name, else by the library."""
         for library, file, function, part in (
                 ("/b", "src/outbound/air/queue.rs", "x", AIR), ("/b", "src/outbound/wire.rs", "x", "outbound"),
-                ("/b", "/work/tools/bridge/src/run/reading.rs", "x", "run"), ("/b", "src/spare.rs", "x", "rest"),
+                ("/b", "/place/tools/bridge/src/run/reading.rs", "x", "run"), ("/b", "src/spare.rs", "x", "rest"),
                 ("/b", "/rustc/1/library/core/src/mem/mod.rs", "<bridge::inbound::queue::InboundQueue>::push", INBOUND),
                 ("/b", "/rustc/1/library/core/src/mem/mod.rs", "alloc::raw_vec::finish_grow", "Rust's library"),
                 ("/b", "???", "downlink_turn", "proved queues"),
