@@ -38,7 +38,7 @@ from live.rights import Rights
 from live.service import Service
 from live.settings import Network, Settings, read_settings
 from live.ways import Way
-from machines import OTHER, OURS, OnMachine
+from simulated_machines import OTHER, OURS, OnMachine
 from status import asking as asking_of_status
 from status.endpoint import Endpoint
 from statuses import document, network, only_known, station

@@ -13,7 +13,7 @@ from live.faults import Fault
 from live.machine import Interface
 from live.settings import Settings
 from live.ways import Way
-from machines import SIMULATED, OnMachine
+from simulated_machines import SIMULATED, OnMachine
 
 
 class OtherPrograms(OnMachine):

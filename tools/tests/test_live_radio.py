@@ -16,7 +16,7 @@ from live.machine import Interface
 from live.phys import ACCESS_POINT, MANAGED, read_phy
 from live.settings import Settings
 from live.ways import Way, kernel_of, ways_of
-from machines import COUNTED, SIMULATED, SMALL, OnMachine
+from simulated_machines import COUNTED, SIMULATED, SMALL, OnMachine
 
 
 class Radios(unittest.TestCase):
