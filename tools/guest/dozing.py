@@ -70,6 +70,8 @@ class Figures:
     counted: int | None = None
     # How many may be lost besides, since the radio had them already.
     with_radio: int = 0
+    # How many may come twice or out of order, where that isn't one in a thousand.
+    most_odd: int | None = None
     # More that the row counts, in words, and what of that doesn't hold.
     more: str = ""
     more_misses: list[str] = field(default_factory=list)
@@ -100,8 +102,9 @@ class Figures:
         a thousand twice or out of order, no delay above so many milliseconds, and what the row asks for besides."""
         lost = self.sent - self.came - (self.counted or 0) - self.with_radio
         odd = self.twice + self.out_of_order
+        most_odd = self.sent / 1000 if self.most_odd is None else self.most_odd
         found = ((lost > 0, f"{lost} lost that the program didn't count"),
-                 (odd > self.sent / 1000, f"{odd} twice or out of order"),
+                 (odd > most_odd, f"{odd} twice or out of order"),
                  (self.at(100) > slowest, f"a delay of {self.at(100):,.0f} ms, not {slowest:,.0f}"))
         return [what for is_missed, what in found if is_missed] + self.more_misses
 

@@ -84,6 +84,12 @@ class Lost(unittest.TestCase):
         figures.with_radio = 11
         self.assertEqual(figures.misses(10), [])
 
+    def test_a_row_may_let_fewer_come_out_of_order(self):
+        figures = dozing.Figures(2000, 2000, 0, 2, [1.0])
+        self.assertEqual(figures.misses(10), [])
+        figures.most_odd = 1
+        self.assertEqual(figures.misses(10), ["2 twice or out of order"])
+
 
 class OnTheAir(unittest.TestCase):
     """What another radio hears of units to a station."""
