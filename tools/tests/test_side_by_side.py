@@ -76,8 +76,8 @@ class BesideEachOther(PartsTest):
 
     def test_beside_one_that_fills_the_machine_one_gives_way(self):
         """The others follow; what it gives by a line, and what it gives at its end, is waited for."""
-        fills = self.part("fills", "echo rt: low proved; " + AWAIT.format("HERE/low") + "sleep 0.3; : >HERE/full; " + WELL,
-                          fills=True, lanes=2, marks=lambda line: {line} if line.startswith("rt: ") else set())
+        fills = self.part("fills", "echo rt: low proved; " + AWAIT.format("HERE/low") + "sleep 0.3; : >HERE/full; " +
+                          WELL, fills=True, lanes=2, marks=lambda line: {line} if line.startswith("rt: ") else set())
         low = self.part("low", '[ "$(nice)" -ge 10 ] && [ ! -e HERE/full ] && : >HERE/low && ' + WELL,
                         needs=("rt: low proved",))
         late = self.part("late", "[ -e HERE/full ] && " + WELL, needs=("fills", "program"))
@@ -127,8 +127,8 @@ class OfEachPart(PartsTest):
     def test_folder_and_network_are_its_own(self):
         """Each has an empty folder for all users that is gone at the end; root's parts have a network each."""
         look = '[ "$(stat -c %a "$TMPDIR" "$TMPDIR/.." | tr -d "\\n")" = 1777755 ] || exit; ' \
-               'ls -A "$TMPDIR" | grep . || { : >"$TMPDIR/mine"; echo "$TMPDIR" >HERE/NAME; readlink /proc/self/ns/net ' \
-               ">>HERE/NAME; " + WELL + "; }"
+               'ls -A "$TMPDIR" | grep . || { : >"$TMPDIR/mine"; echo "$TMPDIR" >HERE/NAME; readlink ' \
+               "/proc/self/ns/net >>HERE/NAME; " + WELL + "; }"
         # the kernel gives the number of a network that is gone to the next one, so each waits for the other
         self.run_parts(*(self.part(name, ": >HERE/" + name + ".begun; " + AWAIT.format(f"HERE/{other}.begun") +
                                    look.replace("NAME", name)) for name, other in (("one", "two"), ("two", "one"))))

@@ -51,9 +51,9 @@ fn first_that_waits(lanes: &[Lane]) -> Option<usize>
     lanes.iter().position(|lane| lane.waits)
 }
 
-/// Serves the lane at a place, whose turn it is as [`choose`] says, with a frame of this cost in time units of air. Every
-/// debt becomes itself less that lane's, not below 0. That lane's own becomes its scale times the cost, which never
-/// overflows.
+/// Serves the lane at a place, whose turn it is as [`choose`] says, with a frame of this cost in time units of air.
+/// Every debt becomes itself less that lane's, not below 0. That lane's own becomes its scale times the cost, which
+/// never overflows.
 pub fn serve_chosen(lanes: &mut [Lane], place: usize, cost: u32)
     requires turn { chosen lanes.old ≡ Some place }
     requires within { place < length lanes.old }

@@ -173,8 +173,8 @@ impl Keep {
         self.len -= self.queues.remove(&whom);
     }
 
-    /// Takes out all units for `whom`, and hands them over as they are kept: none is moved or copied. The others stay in
-    /// their order. A reservation for `whom` ends.
+    /// Takes out all units for `whom`, and hands them over as they are kept: none is moved or copied. The others stay
+    /// in their order. A reservation for `whom` ends.
     pub fn take_for(&mut self, whom: Whom) -> UnitQueue
         ensures units { result ≡ units_for whom self.old.entries }
         ensures after { self.new ≡ record self.old {

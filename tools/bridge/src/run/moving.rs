@@ -109,7 +109,7 @@ impl<P: Port> Running<P> {
     }
 
     /// Whether the program isn't given a frame, since it is a poll of a station that dozes and the answer to an earlier
-    /// one hasn't succeeded yet, nor failed (IEEE Std 802.11-2016, 11.2.3.6). What the radio told of that is read first.
+    /// one hasn't succeeded yet, nor failed (IEEE Std 802.11-2016, 11.2.3.6). What the radio told of it is read first.
     pub(super) fn ignores_poll(
         &mut self,
         frame: &InboundFrame,
