@@ -68,8 +68,8 @@ test: ## the gate: proves the crates, tries some wrong bodies, runs the tests
 wrong: ## tries the wrong bodies of wrong/, all or those of NAME=CRATE
 	@JOBS="$(JOBS)" wrong/try $(NAME)
 
-# Lets each allocation of some calls fail in turn, one in each run. The gate does so for what the access point calls. For
-# others it makes the runs that the commit draws. The last line is 'N passed, M failed'.
+# Lets each allocation of some calls fail in turn, one in each run. The gate does so for what the access point calls.
+# For others it makes the runs that the commit draws. The last line is 'N passed, M failed'.
 refused: apctl ## lets each allocation of some calls fail in turn
 	@.ci/refused build/apctl
 
