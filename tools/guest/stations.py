@@ -139,6 +139,14 @@ class Namespace:
         """Makes it; links of it are named as in this namespace."""
         run("ip", "netns", "add", self.name)
         run("ip", "-n", self.name, "link", "set", "lo", "up")
+        self.ask_no_routers()
+
+    def ask_no_routers(self) -> None:
+        """Sends no router solicitations: there are no routers. For its own a station that dozes would wake at a time of
+        its own. By a host's, which is a unit for the group, a Linux station that polls leaves the rest of its units
+        until the next beacon."""
+        number = "/proc/sys/net/ipv6/conf/default/router_solicitations"
+        self.run("sh", "-c", f"[ ! -e {number} ] || echo 0 >{number}")
 
     def end_all(self) -> None:
         """Ends what runs in it."""
@@ -252,14 +260,7 @@ class Station(Namespace):
     def create(self) -> None:
         """Makes the namespace, and moves the radio there."""
         super().create()
-        self.ask_no_routers()
         run("iw", "phy", self.phy, "set", "netns", "name", self.name)
-
-    def ask_no_routers(self) -> None:
-        """Sends no router solicitations: there are no routers, and for each a station that dozes would wake at a time of
-        its own."""
-        number = "/proc/sys/net/ipv6/conf/default/router_solicitations"
-        self.run("sh", "-c", f"[ ! -e {number} ] || echo 0 >{number}")
 
     def delete(self) -> None:
         """Takes it away; the radio goes back."""
