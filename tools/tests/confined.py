@@ -8,6 +8,7 @@ root.
 import ctypes
 import json
 import os
+import platform
 import signal
 import socket
 import subprocess
@@ -15,6 +16,7 @@ import sys
 import threading
 import time
 from contextlib import ExitStack, suppress
+from typing import NamedTuple
 from unittest import mock
 
 TOOLS = os.path.dirname(os.path.dirname(os.path.realpath(__file__)))
@@ -33,9 +35,33 @@ from status.endpoint import Endpoint  # noqa: E402
 OURS = address_of("02:00:00:00:01:01")
 USERS = "waltigon:x:930:930::/:/usr/sbin/nologin\nwaltigon-status:x:931:931::/:/usr/sbin/nologin\n"
 GROUPS = "waltigon:x:930:\nwaltigon-status:x:931:\n"
-SEIZE, INTERRUPT, DETACH, GET, SET, STEP, POKE = 0x4206, 0x4207, 17, 12, 13, 9, 4
-CALL, WORD = 0x050F, 8  # the instruction `syscall` of x86-64
-OPEN, SOCKET, EXECVE = 257, 41, 59
+SEIZE, INTERRUPT, DETACH, GET, SET, STEP, POKE = 0x4206, 0x4207, 17, 0x4204, 0x4205, 9, 4
+GENERAL, WORD = 1, 8  # NT_PRSTATUS, the general registers; the octets that POKE writes
+
+
+class Processor(NamedTuple):
+    """How a process makes a call of the system on it: by which instruction, and in which registers. `registers` are all
+    in the kernel's order, and `others` are set besides."""
+    instruction: bytes
+    registers: str
+    code: str
+    stack: str
+    number: str
+    answer: str
+    arguments: tuple[str, ...]
+    others: dict[str, int]
+    calls: tuple[int, int, int]  # openat, socket, execve
+
+
+# Without a number of the call in which it was stopped, the kernel doesn't begin that again.
+X86_64 = Processor(b"\x0f\x05", "r15 r14 r13 r12 rbp rbx r11 r10 r9 r8 rax rcx rdx rsi rdi orig_rax rip cs eflags rsp "
+                   "ss fs_base gs_base ds es fs gs", "rip", "rsp", "rax", "rax", ("rdi", "rsi", "rdx", "r10"),
+                   {"orig_rax": (1 << 64) - 1}, (257, 41, 59))
+ARM64 = Processor(b"\x01\x00\x00\xd4", f"{' '.join(f'x{number}' for number in range(31))} sp pc pstate", "pc", "sp",
+                  "x8", "x0", ("x0", "x1", "x2", "x3"), {}, (56, 198, 221))
+PROCESSORS = {"x86_64": X86_64, "aarch64": ARM64}
+HERE = PROCESSORS.get(platform.machine(), X86_64)
+OPEN, SOCKET, EXECVE = HERE.calls
 WRITING = os.O_WRONLY | os.O_CREAT
 HERE_FOLDER = (1 << 64) - 100  # AT_FDCWD
 SECONDS = 30
@@ -44,11 +70,15 @@ MEMORY = int(os.environ.get("MEMORY", serving.MOST_MEMORY))
 
 
 class Registers(ctypes.Structure):
-    """Those of a process of x86-64 (user_regs_struct)."""
+    """Those of a process (user_regs_struct, user_pt_regs)."""
 
-    _fields_ = [(name, ctypes.c_ulonglong) for name in (
-        "r15 r14 r13 r12 rbp rbx r11 r10 r9 r8 rax rcx rdx rsi rdi orig_rax rip cs eflags rsp ss fs_base gs_base ds es fs "
-        "gs").split()]
+    _fields_ = [(name, ctypes.c_ulonglong) for name in HERE.registers.split()]
+
+
+class Place(ctypes.Structure):
+    """Where registers stand here (iovec)."""
+
+    _fields_ = [("address", ctypes.c_void_p), ("size", ctypes.c_size_t)]
 
 
 def trace(request, process, address=0, data=0):
@@ -60,6 +90,21 @@ def trace(request, process, address=0, data=0):
         raise OSError(ctypes.get_errno(), f"ptrace {request}")
 
 
+def move(request, process, registers):
+    """Takes the registers of a process that is stopped (GET), or gives it these (SET)."""
+    place = Place(ctypes.addressof(registers), ctypes.sizeof(registers))
+    trace(request, process, GENERAL, ctypes.addressof(place))
+
+
+def give(registers, place, number, arguments):
+    """Registers by which a call is made with these arguments, of which None is this place."""
+    # arm64 begins a call again in which it was stopped where it goes on from the same place
+    setattr(registers, HERE.code, getattr(registers, HERE.code) + len(HERE.instruction))
+    values = dict(zip(HERE.arguments, (place if value is None else value for value in arguments)))
+    for name, value in {**HERE.others, **values, HERE.number: number}.items():
+        setattr(registers, name, value)
+
+
 def call(process, number, *arguments, text=b""):
     """A process makes a call of the system, as whoever has taken it over would have it; its answer, or how it ended. A text
     stands on its stack, where an argument is None."""
@@ -68,31 +113,30 @@ def call(process, number, *arguments, text=b""):
     trace(INTERRUPT, process)
     os.waitpid(process, 0)
     registers = Registers()
-    trace(GET, process, 0, ctypes.addressof(registers))
+    move(GET, process, registers)
     before = Registers.from_buffer_copy(registers)
-    place = (registers.rsp - 1024) & ~(WORD - 1)
+    place = (getattr(registers, HERE.stack) - 1024) & ~(WORD - 1)
     padded = text + bytes(WORD - len(text) % WORD)
     for offset in range(0, len(padded), WORD):
         trace(POKE, process, place + offset, int.from_bytes(padded[offset:offset + WORD], "little"))
+    give(registers, place, number, arguments)
     with open(f"/proc/{process}/mem", "r+b", buffering=0) as memory:
-        memory.seek(registers.rip)
-        code = memory.read(2)
-        memory.seek(registers.rip)
-        memory.write(CALL.to_bytes(2, "little"))
-        registers.rax, registers.orig_rax = number, (1 << 64) - 1
-        for name, value in zip(("rdi", "rsi", "rdx", "r10"), arguments):
-            setattr(registers, name, place if value is None else value)
-        trace(SET, process, 0, ctypes.addressof(registers))
+        at = getattr(registers, HERE.code)
+        memory.seek(at)
+        code = memory.read(len(HERE.instruction))
+        memory.seek(at)
+        memory.write(HERE.instruction)
+        move(SET, process, registers)
         trace(STEP, process)
         _, status = os.waitpid(process, 0)
         if os.WIFSIGNALED(status):
             return f"killed by {signal.Signals(os.WTERMSIG(status)).name}"
-        trace(GET, process, 0, ctypes.addressof(registers))
-        memory.seek(before.rip)
+        move(GET, process, registers)
+        memory.seek(at)
         memory.write(code)
-    trace(SET, process, 0, ctypes.addressof(before))
+    move(SET, process, before)
     trace(DETACH, process)
-    return ctypes.c_longlong(registers.rax).value
+    return ctypes.c_longlong(getattr(registers, HERE.answer)).value
 
 
 def have_call(process, number, *arguments, text=""):

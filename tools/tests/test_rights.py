@@ -30,7 +30,7 @@ def can_try():
 @unittest.skipUnless(os.geteuid() == 0 and can_try(), "it takes root, and namespaces")
 @unittest.skipUnless(os.path.exists(BRIDGE), "the bridge isn't there (make bridge builds it)")
 @unittest.skipUnless(os.path.exists(PROGRAM), "build/apctl isn't there (make apctl builds it)")
-@unittest.skipUnless(platform.machine() == "x86_64", "calls are made as on x86-64")
+@unittest.skipUnless(platform.machine() in ("x86_64", "aarch64"), "calls are made as on x86-64 and arm64 alone")
 @NEEDS_COMMANDS
 class Confined(ToolTest):
     """An access point whose parts are attacked."""
