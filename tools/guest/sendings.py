@@ -1,7 +1,7 @@
 """Which units go on the air to a station, as another radio hears them: what answers its polls, and in which order units
 go for the first time."""
 from collections.abc import Iterable
-from dataclasses import dataclass, field
+from dataclasses import dataclass
 
 from frames import CONTROL, DATA, NULL, PS_POLL, Frame
 from made_up import stamp_of
@@ -11,11 +11,15 @@ Heard = Iterable[tuple[float, Frame]]
 
 
 @dataclass
-class Poll:
-    """A PS-Poll, and the units that went to its station before the next one, by their sequence control."""
+class Polls:
+    """What a station's polls brought: how many polls there were, how many tries of them came before the answer to an
+    earlier try, and how many units went that none of the others asked for. Such tries ask for nothing (IEEE Std
+    802.11-2016, 11.2.3.6). One that comes behind the answer asks for another unit, since it can't be told from a new
+    poll."""
 
-    tries: int = 1
-    units: set[int] = field(default_factory=set)
+    number: int = 0
+    early: int = 0
+    unasked: int = 0
 
 
 def is_unit_for(frame: Frame, station: bytes) -> bool:
@@ -23,17 +27,17 @@ def is_unit_for(frame: Frame, station: bytes) -> bool:
     return frame.receiver == station and frame.type == DATA and not frame.subtype & NULL
 
 
-def polls_of(heard: Heard, station: bytes) -> list[Poll]:
-    """The polls of a station, of which each try but the first has Retry set."""
-    found: list[Poll] = []
+def polls_of(heard: Heard, station: bytes) -> Polls:
+    """The polls of a station that dozes, and the units that went to it."""
+    found, is_asked, last = Polls(), False, None
     for _, frame in heard:
         if frame.transmitter == station and (frame.type, frame.subtype) == (CONTROL, PS_POLL):
-            if frame.retry and found:
-                found[-1].tries += 1
-            else:
-                found.append(Poll())
-        elif found and is_unit_for(frame, station):
-            found[-1].units.add(frame.sequence_control)
+            found.number += not frame.retry
+            found.early += is_asked
+            is_asked = True
+        elif is_unit_for(frame, station) and not (frame.retry and frame.sequence_control == last):
+            found.unasked += not is_asked
+            is_asked, last = False, frame.sequence_control
     return found
 
 

@@ -110,24 +110,37 @@ class OnTheAir(unittest.TestCase):
         self.heard.append((0.0, Frame(header + (number << 4).to_bytes(2, "little") + body)))
 
     def polls(self):
-        """How often each poll was tried, and how many units it brought."""
-        return [(poll.tries, len(poll.units)) for poll in sendings.polls_of(self.heard, address_of(HARDWARE))]
+        """What its polls brought."""
+        return sendings.polls_of(self.heard, address_of(HARDWARE))
 
-    def test_a_poll_that_comes_again_is_one(self):
-        """And so is a unit that is tried again; Null frames and other stations' are none."""
-        self.unit(1)
+    def test_a_poll_that_comes_again_before_its_answer_asks_for_nothing(self):
+        """A second unit for it is unasked."""
         self.poll()
         self.poll(is_again=True)
+        self.unit(2)
+        self.assertEqual(self.polls(), sendings.Polls(number=1, early=1))
+        self.unit(3)
+        self.assertEqual(self.polls(), sendings.Polls(number=1, early=1, unasked=1))
+
+    def test_a_poll_that_comes_again_behind_its_answer_asks_anew(self):
+        """Since none can tell it from another poll."""
+        self.poll()
+        self.unit(1)
+        self.poll(is_again=True)
+        self.unit(2)
+        self.poll()
+        self.unit(3)
+        self.assertEqual(self.polls(), sendings.Polls(number=2))
+
+    def test_a_unit_that_is_tried_again_is_one(self):
+        """And Null frames and other stations' units are none."""
+        self.poll()
         self.unit(2)
         self.unit(2, flags=0x0a)
         self.poll(station=OTHER)
         self.unit(3, receiver=OTHER)
         self.unit(4, control=0x48)
-        self.poll()
-        self.unit(5)
-        self.unit(6)
-        self.poll()
-        self.assertEqual(self.polls(), [(2, 1), (1, 2), (1, 0)])
+        self.assertEqual(self.polls(), sendings.Polls(number=1))
 
     def test_each_unit_goes_for_the_first_time_once(self):
         """Whatever number it has then."""
