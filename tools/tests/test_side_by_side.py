@@ -192,6 +192,12 @@ class Gate(SmallRepository):
             self.assertEqual([name for name, (_, failed) in counts.items() if not failed], ["library", "ci"])
             self.assertGreater(len(counts), 20)
 
+    def test_libraries_of_an_earlier_gate_are_gone(self):
+        """`rt ci` would put them back in the end, of whatever sources."""
+        self.write("crates/low/out/rlib/low.rlib/format", "of other sources\n")
+        self.assertEqual(self.run_there(".ci/gate")[0], 0)
+        self.assertFalse(os.path.exists(self.path_of("crates/low/out/rlib")))
+
     def test_words(self):
         """Parts by their names, others are refused."""
         status, said = self.run_there(".ci/gate", "--parts", "documents,tools")
