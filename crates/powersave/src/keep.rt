@@ -93,8 +93,8 @@ impl Keep {
         self.puts
     }
 
-    /// The number of units that were put in front of all others since the list was new: `before` and one more by each
-    /// call of [`put_back`](Keep::put_back) that answered `Ok`.
+    /// How many units were put in front of all others: `before` and one more by each call of
+    /// [`put_back`](Keep::put_back) that answered `Ok`.
     pub fn in_front(&self) -> u64
         ensures { result ≡ self.now.in_front }
     {
@@ -285,10 +285,11 @@ impl Keep {
         Ok(())
     }
 
-    /// Puts a unit for `whom` back behind the first `before` units for `whom`, or last among these if there are fewer.
-    /// They and the unit stand in front of the units for others, which stay in their order (*profile*). The list is not
-    /// full, and has seen fewer than 2^62 units put in front, these among them. It needs no memory if room is reserved
-    /// for `whom`. A reservation, whoever it is for, ends. After `NoMemory` all is as it was, and the unit is dropped.
+    /// Puts a unit for `whom` back. It stands behind the first `before` units for `whom`, or last among these if there
+    /// are fewer. They and it stand in front of the units for others, which stay in their order (*profile*). The list
+    /// is not full, and has seen fewer than 2^62 units put in front, these among them. It needs no memory if room is
+    /// reserved for `whom`. A reservation, whoever it is for, ends. After `NoMemory` all is as it was, and the unit is
+    /// dropped.
     pub fn put_back(&mut self, whom: Whom, before: usize, unit: Unit) -> Result<(), NoMemory>
         requires not_full { length self.old.entries < self.old.quota }
         requires countable { self.old.in_front + before < 2 ^ 62 }

@@ -12,9 +12,9 @@ use powersave::{UnitQueue, Whom, parts_stay, returns_in_its_place};
 use stations::{identifiers_differ, others_stay};
 
 impl Roster {
-    /// Keeps a unit again that was given out, behind as many of the units for its receiver as are told. It comes with
-    /// the association identifier of its station. The units age from the clock at which they came. After `NoMemory`
-    /// nothing has changed.
+    /// Keeps a unit again that was given out. It stands behind as many of those for its receiver as are told, and comes
+    /// with the association identifier of its station. The units age from the clock at which they came. After
+    /// `NoMemory` nothing has changed.
     pub fn put_back(&mut self, arriving: Arriving, before: usize) -> Result<(), NoMemory>
         requires not_full { length self.old.kept.entries < self.old.kept.quota }
         requires countable { self.old.kept.in_front + before < 2 ^ 62 }
